@@ -1,0 +1,12 @@
+pub mod Sizes
+pub mod Tables
+pub mod Words
+pub mod Session
+pub mod Decision
+pub mod State
+pub mod Sound
+pub mod Expiry
+pub mod Refusals
+pub mod Effects
+pub mod Step
+pub mod World

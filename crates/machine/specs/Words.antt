@@ -1,0 +1,71 @@
+-- The words of document 01: each answer's word by number and what goes with it; kinds and operations.
+use mathlib.Core.Bool.{Bool, _&&_}
+use Prim.Native.Nat.{ℕ}
+use lib.Dec.{leb}
+use Rattle.machine.specs.declared.Answer.{Answer}
+
+-- READY, then the words in the order of the commands, then SHOW's; 0 for a refusal
+abbrev pub wordOf : Answer → ℕ
+wordOf (Answer.Refused n) = 0
+wordOf Answer.Ready = 1
+wordOf (Answer.Session n) = 2
+wordOf (Answer.Hit a n) = 3
+wordOf Answer.Ask = 4
+wordOf (Answer.Backoff w) = 5
+wordOf (Answer.Lease t) = 6
+wordOf Answer.Stored = 7
+wordOf Answer.Ignored = 8
+wordOf Answer.Held = 9
+wordOf Answer.Granted = 10
+wordOf Answer.Aborted = 11
+wordOf Answer.Staged = 12
+wordOf Answer.Repeated = 13
+wordOf Answer.Dropped = 14
+wordOf Answer.Validated = 15
+wordOf Answer.Lost = 16
+wordOf Answer.Done = 17
+wordOf Answer.Undone = 18
+wordOf Answer.Evicted = 19
+wordOf Answer.Empty = 20
+wordOf Answer.Ticked = 21
+wordOf (Answer.Value n) = 22
+wordOf Answer.None = 23
+
+-- the session, token, wait, length or refusal number that goes with the word; 0 where nothing does
+abbrev pub detailOf : Answer → ℕ
+detailOf (Answer.Refused n) = n
+detailOf Answer.Ready = 0
+detailOf (Answer.Session n) = n
+detailOf (Answer.Hit a n) = n
+detailOf Answer.Ask = 0
+detailOf (Answer.Backoff w) = w
+detailOf (Answer.Lease t) = t
+detailOf Answer.Stored = 0
+detailOf Answer.Ignored = 0
+detailOf Answer.Held = 0
+detailOf Answer.Granted = 0
+detailOf Answer.Aborted = 0
+detailOf Answer.Staged = 0
+detailOf Answer.Repeated = 0
+detailOf Answer.Dropped = 0
+detailOf Answer.Validated = 0
+detailOf Answer.Lost = 0
+detailOf Answer.Done = 0
+detailOf Answer.Undone = 0
+detailOf Answer.Evicted = 0
+detailOf Answer.Empty = 0
+detailOf Answer.Ticked = 0
+detailOf (Answer.Value n) = n
+detailOf Answer.None = 0
+
+-- from low to high
+abbrev pub within : ℕ → ℕ → ℕ → Bool
+within low high n = leb low n && leb n high
+
+-- 1 invalidate, 2 refresh, 3 incremental
+abbrev pub isKind : ℕ → Bool
+isKind d = within 1 3 d
+
+-- 1 append, 2 prepend, 3 increment, 4 decrement
+abbrev pub isOperation : ℕ → Bool
+isOperation o = within 1 4 o

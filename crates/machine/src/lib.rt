@@ -1,0 +1,293 @@
+// The words of the machine: commands, answers, the session record with its methods, and the decision table.
+ghost use mathlib.Core.Path.{_≡_};
+ghost use Prim.Native.Nat.{_<_};
+ghost use Rattle.machine.specs.Words.{wordOf, detailOf, isKind, isOperation};
+ghost use Rattle.machine.specs.Decision.{decision};
+ghost use Rattle.machine.specs.Session.{opened, stepOf, advanced, sealed, isSealed, isDue, validationOf};
+ghost use Rattle.machine.specs.Sizes.{stepMax};
+
+// A command with its numbers, each of 64 bits; the value of FILL, STAGE and DELTA stands beside it.
+pub enum Command {
+    Begin,
+    Get {
+        session: u64,
+        key: u64,
+    },
+    Fill {
+        token: u64,
+        key: u64,
+    },
+    Quar {
+        session: u64,
+        key: u64,
+        kind: u64,
+    },
+    Stage {
+        session: u64,
+        step: u64,
+        key: u64,
+    },
+    Delta {
+        session: u64,
+        step: u64,
+        key: u64,
+        operation: u64,
+    },
+    Validate {
+        session: u64,
+        count: u64,
+    },
+    Done {
+        session: u64,
+    },
+    Undo {
+        session: u64,
+    },
+    Evict {
+        key: u64,
+    },
+    Tick,
+}
+
+// An answer with its numbers. HIT says where the value stands in the lent state and its length; VALUE and NONE are SHOW's.
+pub enum Answer {
+    Ready,
+    Session(u32),
+    Hit { at: usize, length: usize },
+    Ask,
+    Backoff(u64),
+    Lease(u32),
+    Stored,
+    Ignored,
+    Held,
+    Granted,
+    Aborted,
+    Staged,
+    Repeated,
+    Dropped,
+    Validated,
+    Lost,
+    Done,
+    Undone,
+    Evicted,
+    Empty,
+    Ticked,
+    Value(usize),
+    None,
+    Refused(u8),
+}
+
+// Open until a deadline, or sealed with none.
+pub enum Life {
+    Open(u64),
+    Sealed,
+}
+
+pub struct Session {
+    pub number: u32,
+    pub life: Life,
+    pub count: u32,
+}
+
+// What a step number asks of a session.
+pub enum Step {
+    Repeats,
+    Acts(Session),
+    Ahead,
+}
+
+// What VALIDATE finds: the sealed record, a count that differs, or a sealed session with another count.
+pub enum Validation {
+    Seals(Session),
+    Loses,
+    Clashes,
+}
+
+impl Session {
+    pub fn open(number: u32, until: u64) -> Session
+        ensures { λ r. ⌜ r ≡ opened number until ⌝ }
+    {
+        Session {
+            number,
+            life: Life::Open(until),
+            count: 0,
+        }
+    }
+
+    // A step below the count is a repeat, one above it is ahead, and an equal one adds one to the count.
+    pub fn step(self, step: u64) -> Step
+        requires { ⌜ step < stepMax ⌝ }
+        ensures { λ r. ⌜ r ≡ stepOf self step ⌝ }
+    {
+        let count = self.count as u64;
+        if step < count {
+            return Step::Repeats;
+        }
+        if count < step {
+            return Step::Ahead;
+        }
+        Step::Acts(Session {
+            number: self.number,
+            life: self.life,
+            count: self.count + 1,
+        })
+    }
+
+    pub fn seal(self) -> Session
+        ensures { λ r. ⌜ r ≡ sealed self ⌝ }
+    {
+        Session {
+            number: self.number,
+            life: Life::Sealed,
+            count: self.count,
+        }
+    }
+
+    pub fn is_sealed(self) -> bool
+        ensures { λ r. ⌜ r ≡ isSealed self ⌝ }
+    {
+        let life = self.life;
+        match life {
+            Life::Open(_) => false,
+            Life::Sealed => true,
+        }
+    }
+
+    // Open with its deadline at or before now.
+    pub fn due(self, now: u64) -> bool
+        ensures { λ r. ⌜ r ≡ isDue now self ⌝ }
+    {
+        let life = self.life;
+        match life {
+            Life::Open(until) => until <= now,
+            Life::Sealed => false,
+        }
+    }
+
+    pub fn validate(self, n: u64) -> Validation
+        ensures { λ r. ⌜ r ≡ validationOf self n ⌝ }
+    {
+        let count = self.count as u64;
+        if n == count {
+            return Validation::Seals(self.seal());
+        }
+        if self.is_sealed() {
+            return Validation::Clashes;
+        }
+        Validation::Loses
+    }
+}
+
+// What the decision table says.
+pub enum Verdict {
+    Grant,
+    Void,
+    BackOff,
+    Abort,
+}
+
+// Held none, I, Q1, Q2, Q3 against asked I, Q1, Q2, Q3: 0 grant, 1 grant and void I, 2 back off, 3 abort the asker.
+const DECISIONS: [[u8; 4]; 5] = [
+    [0, 0, 0, 0],
+    [2, 1, 1, 1],
+    [2, 0, 3, 3],
+    [2, 3, 3, 3],
+    [2, 3, 3, 3],
+];
+
+pub fn decide(held: usize, asked: usize) -> Verdict
+    requires { ⌜ (held < 5) × (asked < 4) ⌝ }
+    ensures { λ r. ⌜ r ≡ decision held asked ⌝ }
+{
+    let entry = DECISIONS[held][asked];
+    match entry {
+        0 => Verdict::Grant,
+        1 => Verdict::Void,
+        2 => Verdict::BackOff,
+        _ => Verdict::Abort,
+    }
+}
+
+// 1 invalidate, 2 refresh, 3 incremental.
+pub fn is_kind(kind: u64) -> bool
+    ensures { λ r. ⌜ r ≡ isKind kind ⌝ }
+{
+    match kind {
+        1..=3 => true,
+        _ => false,
+    }
+}
+
+// 1 append, 2 prepend, 3 increment, 4 decrement.
+pub fn is_operation(operation: u64) -> bool
+    ensures { λ r. ⌜ r ≡ isOperation operation ⌝ }
+{
+    match operation {
+        1..=4 => true,
+        _ => false,
+    }
+}
+
+// The number of an answer's word.
+pub fn word(a: Answer) -> u8
+    ensures { λ r. ⌜ r ≡ wordOf a ⌝ }
+{
+    match a {
+        Answer::Refused(_) => 0,
+        Answer::Ready => 1,
+        Answer::Session(_) => 2,
+        Answer::Hit { at: _, length: _ } => 3,
+        Answer::Ask => 4,
+        Answer::Backoff(_) => 5,
+        Answer::Lease(_) => 6,
+        Answer::Stored => 7,
+        Answer::Ignored => 8,
+        Answer::Held => 9,
+        Answer::Granted => 10,
+        Answer::Aborted => 11,
+        Answer::Staged => 12,
+        Answer::Repeated => 13,
+        Answer::Dropped => 14,
+        Answer::Validated => 15,
+        Answer::Lost => 16,
+        Answer::Done => 17,
+        Answer::Undone => 18,
+        Answer::Evicted => 19,
+        Answer::Empty => 20,
+        Answer::Ticked => 21,
+        Answer::Value(_) => 22,
+        Answer::None => 23,
+    }
+}
+
+// The number that goes with an answer's word, or 0: a session, a token, a wait, a length or a refusal's number.
+pub fn detail(a: Answer) -> u64
+    ensures { λ r. ⌜ r ≡ detailOf a ⌝ }
+{
+    match a {
+        Answer::Session(n) => n as u64,
+        Answer::Hit { at: _, length } => length as u64,
+        Answer::Backoff(w) => w,
+        Answer::Lease(t) => t as u64,
+        Answer::Value(length) => length as u64,
+        Answer::Refused(n) => n as u64,
+        Answer::Ready => 0,
+        Answer::Ask => 0,
+        Answer::Stored => 0,
+        Answer::Ignored => 0,
+        Answer::Held => 0,
+        Answer::Granted => 0,
+        Answer::Aborted => 0,
+        Answer::Staged => 0,
+        Answer::Repeated => 0,
+        Answer::Dropped => 0,
+        Answer::Validated => 0,
+        Answer::Lost => 0,
+        Answer::Done => 0,
+        Answer::Undone => 0,
+        Answer::Evicted => 0,
+        Answer::Empty => 0,
+        Answer::Ticked => 0,
+        Answer::None => 0,
+    }
+}
