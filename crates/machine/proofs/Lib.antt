@@ -3,3 +3,4 @@ pub mod Ranges
 pub mod Decided
 pub mod Examples
 pub mod Table
+pub mod Refused
