@@ -21,7 +21,7 @@ pub record Counted (n left w : ℕ) : Type 0 where
 pub count-start : (n : ℕ) → n < 10 ^ digitsMax → Counted n n 1
 count-start n h = record { few = omega arith; small = h; rest = rw (decimal-width n) (omega arith) }
 
--- a number of more digits than one leaves room for one more
+-- where f + 1 digits are allowed and more than one is left, another may follow
 digits-more : (f left : ℕ) → 10 ≤ left → left < 10 ^ suc f → 1 ≤ f
 digits-more zero left h l = omega arith
 digits-more (suc f) left h l = omega arith
