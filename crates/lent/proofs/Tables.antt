@@ -11,7 +11,7 @@ use lib.ListN.{length, getD, set, take, drop, length-append, length-drop, take-a
 use lib.Seq.{drop-at, drop-drop, length-take-le, take-at}
 use Rattle.lent.specs.Bytes.{splice, win}
 use Rattle.lent.specs.Tables.{Each, every, readTab, same, tabOf}
-use Rattle.lent.proofs.Same.{same-split}
+use Rattle.lent.proofs.Equal.{same-split}
 use Rattle.lent.proofs.Splice.{splice-append, win-append}
 use Rattle.lent.proofs.Walks.{every-front}
 
