@@ -3,7 +3,7 @@
 use mathlib.Core.Path.{_≡_, refl, sym, ap, ap₂, _∙_}
 use mathlib.Core.Bool.{Bool, true, false, _&&_, and-true, and-assoc}
 use mathlib.Core.List.{List, [], _∷_, _++_}
-use Prim.Native.Nat.{ℕ, zero, suc, _+_, _≤_, _<_}
+use Prim.Native.Nat.{ℕ, zero, suc, _+_, _-_, _≤_, _<_}
 use native.Mathlib.Numerals.{add-one}
 use native.Mathlib.Omega.{arith}
 use lib.ListN.{length, getD, take, drop, length-append}
@@ -67,6 +67,13 @@ module _ (s : List ℕ) (a m n : ℕ) (p q : List ℕ) (e : length p ≡ m) (h :
 pub same-one : (s : List ℕ) (a v : ℕ) → a < length s → same (win s a 1) (v ∷ []) ≡ eqb (getD s a 0) v
 unfolding same
 same-one s a v h = rw (win-one s a h) (and-true (eqb (getD s a 0) v))
+
+-- a value of l bytes, with zeros behind it to n
+pub same-padded : (s : List ℕ) (a l n : ℕ) → l ≤ n → a + n ≤ length s → same (win s a n) (win s a l ++ zeros (n - l)) ≡ allZero (win s (a + l) (n - l))
+same-padded s a l n k h =
+    let q : l + (n - l) ≡ n = omega arith in
+    let w = same-skip s a l (n - l) (win s a l) (zeros (n - l)) (length-win s a l (omega arith)) (omega arith) refl in
+    rw q at w ∙ same-zeros (win s (a + l) (n - l)) (n - l) (length-win s (a + l) (n - l) (omega arith))
 
 -- ---- a turn of a loop that compares
 
