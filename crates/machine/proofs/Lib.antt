@@ -1,1 +1,3 @@
 pub mod Views
+pub mod Orderly
+pub mod Accepted
