@@ -1,4 +1,9 @@
 pub mod Views
+pub mod Ranges
+pub mod Decided
+pub mod Examples
+pub mod Table
+pub mod Refused
 pub mod Orderly
 pub mod Accepted
 pub mod Invariant

@@ -10,3 +10,4 @@ pub mod Refusals
 pub mod Effects
 pub mod Step
 pub mod World
+pub mod Examples
