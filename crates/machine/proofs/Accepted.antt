@@ -1,11 +1,11 @@
 -- What is known of a command that is not refused: every test of its list was false, so what it names is there, and the
 -- decision table lets only an invalidation stand beside an invalidation, and no I lease beside a quarantine.
 use mathlib.Core.Path.{_≡_, refl, sym, ap, _∙_}
-use mathlib.Core.Bool.{Bool, true, false, not, _&&_}
+use mathlib.Core.Bool.{true, false}
 use mathlib.Core.Logic.{_⊎_, inl, inr}
-use mathlib.Core.List.{List, _∷_}
+use mathlib.Core.List.{_∷_}
 use mathlib.Core.Option.{Option, none, some}
-use Prim.Native.Nat.{ℕ, zero, suc, _≤_}
+use Prim.Native.Nat.{ℕ, suc, _≤_}
 use native.Mathlib.Omega.{arith}
 use borrow.Author.Tests.{eqb-true, leb-true}
 use lib.Dec.{eqb, leb}
@@ -13,10 +13,9 @@ use lib.ListN.{getD}
 use Rattle.machine.specs.Sizes.{numberMax}
 use Rattle.machine.specs.Tables.{place, find}
 use Rattle.machine.specs.Words.{isKind}
-use Rattle.machine.specs.Session.{sealedLife}
 use Rattle.machine.specs.Decision.{decision, grants}
-use Rattle.machine.specs.State.{Value, Lease, Slot, noSession, session, Staged, Row, noRow, row, State, free, freeRow, numbered, on, ofOn, kindOf, sessionPlace, sessionOf, rowPlace, rowOf, sessionAt, rowAt}
-use Rattle.machine.specs.Refusals.{decide, blocked, sight, wouldLease, sealedSlot, clockRefusal, refusals, refusal}
+use Rattle.machine.specs.State.{Value, Lease, Slot, noSession, session, Staged, Row, noRow, row, State, free, freeRow, numbered, on, ofOn, kindOf, sessionOf, rowPlace, rowOf, rowAt}
+use Rattle.machine.specs.Refusals.{decide, blocked, sight, wouldLease, clockRefusal, refusals, refusal}
 use Rattle.machine.specs.Effects.{matches}
 use Rattle.machine.specs.declared.Session.{Session}
 use Rattle.machine.specs.declared.Command.{Command}

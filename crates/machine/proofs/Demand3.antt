@@ -2,7 +2,7 @@
 -- or holds what the register holds, and what GET or SHOW hands to anyone without a row on a quarantined key is what the
 -- register held when that unbroken quarantine began. Such a hit hands out the cached value, of which the invariant says it.
 use mathlib.Core.Path.{_≡_, refl, sym, ap, _∙_}
-use mathlib.Core.Bool.{true, false}
+use mathlib.Core.Bool.{false}
 use mathlib.Core.Logic.{_⊎_, inl, inr}
 use mathlib.Core.List.{List, [], _∷_, _++_}
 use mathlib.Core.Option.{Option, none, some}

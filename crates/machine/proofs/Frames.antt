@@ -2,24 +2,24 @@
 -- the sealed; UNDO, ABORTED and LOST end a session that has not written; DONE settles its keys to the register's values by
 -- rule 4); FILL stores the register's value by rule 1; every other effect keeps all values.
 use mathlib.Core.Path.{_≡_, refl, sym, ap, _∙_}
-use mathlib.Core.Bool.{Bool, true, false, not, _&&_, _||_}
+use mathlib.Core.Bool.{Bool, true, false}
 use mathlib.Core.Logic.{_⊎_, inl, inr}
 use mathlib.Core.List.{List, [], _∷_, map, List·Memᴰ, List·Memᴰ·eq-of-singleton}
 use mathlib.Core.Option.{Option, none, some}
-use Prim.Native.Nat.{ℕ, suc, _+_, _≤_, _<_}
+use Prim.Native.Nat.{ℕ, _+_, _≤_}
 use native.Mathlib.Omega.{arith}
-use borrow.Author.Tests.{eqb-true, eq-eqb, ne-eqb}
-use lib.Dec.{eqb, leb, ltb}
+use borrow.Author.Tests.{eq-eqb, ne-eqb}
+use lib.Dec.{eqb, ltb}
 use lib.ListN.{getD, set, List·getD-map}
 use Rattle.machine.specs.Tables.{place, mem, putAt, isNone}
-use Rattle.machine.specs.Words.{wordOf, isKind}
+use Rattle.machine.specs.Words.{wordOf}
 use Rattle.machine.specs.Session.{opened, advanced, sealed, isDue}
 use Rattle.machine.specs.Decision.{grants}
-use Rattle.machine.specs.State.{Value, Lease, Key, blank, Slot, noSession, session, Staged, nothing, staged, DROP, Row, noRow, row, State, free, freeRow, kindOf, stagedIn, sessionPlace, sessionOf, rowOf, cached, leaseOn, sessionAt, rowAt}
+use Rattle.machine.specs.State.{Value, Lease, Key, blank, noSession, session, Staged, nothing, staged, DROP, Row, noRow, row, State, free, freeRow, kindOf, stagedIn, sessionPlace, sessionOf, rowOf, cached, leaseOn, sessionAt, rowAt}
 use Rattle.machine.specs.Expiry.{withKeys, withRows, setValue, setLease, freeIfOf, settle, leave, finish, lapsedValue, lapsedLease, those, expire}
-use Rattle.machine.specs.Refusals.{decide, blocked, Sight, sight, badKey, sealedIn, sealedSlot, countOf, refusals, refusal}
-use Rattle.machine.specs.Effects.{Outcome, told, begins, wait, leased, missed, looked, matches, fills, asks, changed, stagedAnswer, withSession, withStaged, stages, toCache, effect}
-use Rattle.machine.specs.World.{World, sinceGrant, Holds, Rules}
+use Rattle.machine.specs.Refusals.{decide, blocked, Sight, sight, sealedIn, countOf, refusals, refusal}
+use Rattle.machine.specs.Effects.{Outcome, begins, wait, leased, missed, looked, matches, fills, asks, changed, stagedAnswer, withSession, withStaged, stages, toCache, effect}
+use Rattle.machine.specs.World.{World, sinceGrant, Rules}
 use Rattle.machine.specs.declared.Life.{Life}
 use Rattle.machine.specs.declared.Session.{Session}
 use Rattle.machine.specs.declared.Answer.{Answer}
@@ -33,18 +33,14 @@ use Rattle.machine.proofs.Invariant.{RowOn, Written, Good, Frame, no-ro
 -- What expiry leaves was there
 
 module _ (now : ℕ) (s : State) where
-  lapsed-key : (k : ℕ) → getD (map (lapsedLease now) (s .keys)) k blank ≡ lapsedLease now (getD (s .keys) k blank)
-  lapsed-key k = List·getD-map (lapsedLease now) (s .keys) k blank
-
   pub expire-lease : (k : ℕ) (l : Lease) → leaseOn (expire now s) k ≡ some l → leaseOn s k ≡ some l
   unfolding expire finish leave
-  expire-lease k l e = Views.unlapsed-was now (leaseOn s k) l
-      (sym (ap (λ (x : Key). x .lease) (lapsed-key k)) ∙ sym (Views.settle-lease (those (isDue now) (s .sessions)) lapsedValue k (s .rows) (map (lapsedLease now) (s .keys))) ∙ e)
+  expire-lease k l e = Orderly.lapsed-was s now k l (sym (Views.settle-lease (those (isDue now) (s .sessions)) lapsedValue k (s .rows) (map (lapsedLease now) (s .keys))) ∙ e)
 
   pub expire-value : (k : ℕ) (v : Value) → cached (expire now s) k ≡ some v → cached s k ≡ some v
   unfolding expire finish leave
   expire-value k v e = elim (Views.settle-value (those (isDue now) (s .sessions)) lapsedValue k v (s .rows) (map (lapsedLease now) (s .keys)) e) [
-    | inl h ↦ sym (ap (λ (x : Key). x .value) (lapsed-key k)) ∙ h .0
+    | inl h ↦ sym (ap (λ (x : Key). x .value) (List·getD-map (lapsedLease now) (s .keys) k blank)) ∙ h .0
     | inr h ↦ Views.no-some v (h .gives)
   ]
 
@@ -78,7 +74,6 @@ module _ (w : World) (g : Good w) where
   -- nothing changes
   pub stays : (a : Answer) → eqb (wordOf a) 6 ≡ false → Frame w a (w .state)
   stays a quiet = record {
-    orderly = g .orderly;
     keeps = λ k v p q. p;
     value = λ k v p. inr (p, λ q. q);
     opens = λ i x p. inr (i, x, p, refl, λ q. q);
@@ -92,7 +87,6 @@ module _ (w : World) (g : Good w) where
       → ((k : ℕ) (l : Lease) → getD ks k blank .lease ≡ some l → leaseOn (w .state) k ≡ some l)
       → Frame w a (withKeys (w .state) ks)
   keyed a ks quiet fv fl = record {
-    orderly = Orderly.orderly-keys (w .state) ks (λ k l p. inl (fl k l p)) (g .orderly);
     keeps = λ k v p q. elim (fv k v p) [ inl h ↦ h | inr h ↦ absurd (h .1 q) ];
     value = λ k v p. elim (fv k v p) [ inl h ↦ inr (h, λ x. x) | inr h ↦ inl (h .0) ];
     opens = λ i x p. inr (i, x, p, refl, λ q. q);
@@ -107,7 +101,6 @@ module _ (w : World) (g : Good w) where
       → Frame w a (leave ns (withKeys (w .state) ks))
   unfolding leave
   ends a ns ks quiet fv fl = record {
-    orderly = Orderly.orderly-leave (withKeys (w .state) ks) ns (Orderly.orderly-keys (w .state) ks (λ k l p. inl (fl k l p)) (g .orderly));
     keeps = λ k v p q. fv k v p .0;
     value = λ k v p. inr (fv k v p .0, still-written ns (w .state .rows) (w .wrote) k (fv k v p .1));
     opens = λ i x p. inr (i, x, Orderly.was-session ns (w .state .sessions) i x p .0, refl, λ q. q);
@@ -137,7 +130,6 @@ module _ (w : World) (g : Good w) where
   dones : (n : ℕ) → ((i k d : ℕ) (v : Value) → rowAt (w .state) i ≡ row n k d (staged v) → v ≡ w .register k) → Frame w Answer.Done (finish (n ∷ []) toCache (w .state))
   unfolding finish leave
   dones n rule = record {
-    orderly = Orderly.orderly-finish s (n ∷ []) toCache (g .orderly);
     keeps = λ k v p q. keeps k v q (Views.settle-value (n ∷ []) toCache k v (s .rows) (s .keys) p);
     value = λ k v p. value k v (Views.settle-value (n ∷ []) toCache k v (s .rows) (s .keys) p);
     opens = λ i x p. inr (i, x, Orderly.was-session (n ∷ []) (s .sessions) i x p .0, refl, λ q. q);
@@ -191,7 +183,7 @@ module _ (w : World) (g : Good w) where
   filled : (t k : ℕ) (v : Value) (l : Lease) → leaseOn (w .state) k ≡ some l → l .token ≡ t → (fills (w .state) k v .answer ≡ Answer.Stored → List·Memᴰ v (w .since t k)) → Framed (fills (w .state) k v)
   unfolding fills
   filled t k v l e q rule = keyed Answer.Stored (set (w .state .keys) k new) refl
-      (λ j u p. value j u p (Views.after-set (w .state .keys) k new j blank)) (λ j h p. lease j h p (Views.after-set (w .state .keys) k new j blank))
+      (λ j u p. value j u p (Views.after-set (w .state .keys) k new j blank)) (Orderly.filled-was (w .state) k v)
     where
       new : Key
       new = record { value = some v; lease = none }
@@ -203,21 +195,15 @@ module _ (w : World) (g : Good w) where
           inr (sym f ∙ g .unwritten k l e v (rw q (rule refl)) ∙ ap (w .register) x, rw (← x) (no-row-on (w .state) (g .orderly) k l e))
       value j u p (Views.out x y z) = Views.no-some u (sym (ap (λ (z : Key). z .value) y) ∙ p)
 
-      lease : (j : ℕ) (h : Lease) → getD (set (w .state .keys) k new) j blank .lease ≡ some h → Views.AfterSet (w .state .keys) k new j blank → leaseOn (w .state) j ≡ some h
-      lease j h p (Views.other x y) = sym (ap (λ (z : Key). z .lease) y) ∙ p
-      lease j h p (Views.here x y) = Views.no-some h (sym (ap (λ (z : Key). z .lease) y) ∙ p)
-      lease j h p (Views.out x y z) = Views.no-some h (sym (ap (λ (z : Key). z .lease) y) ∙ p)
-
   evicts : (k : ℕ) → Frame w Answer.Evicted (withKeys (w .state) (setValue (w .state .keys) k none))
   evicts k = keyed Answer.Evicted (setValue (w .state .keys) k none) refl
       (λ j u p. elim (Views.value-after (w .state .keys) k none j) [ inl e ↦ inl (sym e ∙ p) | inr e ↦ Views.no-some u (sym (e .1) ∙ p) ])
       (λ j h p. sym (Views.value-lease (w .state .keys) k none j) ∙ p)
 
-  -- GET answered LEASE: on a key with no row; the new token's record begins with the register's value
-  leases : (now k : ℕ) → ((i n d : ℕ) (v : Staged) → rowAt (w .state) i ≡ row n k d v → ⊥) → Framed (leased (w .state) now k)
+  -- GET answered LEASE: the new token's record begins with the register's value
+  leases : (now k : ℕ) → Framed (leased (w .state) now k)
   unfolding leased
-  leases now k bare = record {
-    orderly = Orderly.orderly-leased s now k bare (g .orderly);
+  leases now k = record {
     keeps = λ j v p q. sym (Views.lease-value (s .keys) k (some new) j) ∙ p;
     value = λ j v p. inr (sym (Views.lease-value (s .keys) k (some new) j) ∙ p, λ q. q);
     opens = λ i x p. inr (i, x, p, refl, λ q. q);
@@ -252,7 +238,6 @@ module _ (w : World) (g : Good w) where
   begun : (now : ℕ) → Framed (begins (w .state) now)
   unfolding begins
   begun now = record {
-    orderly = Orderly.orderly-begin s now (g .orderly);
     keeps = λ k v p q. p;
     value = λ k v p. inr (p, λ q. q);
     opens = λ i x p. elim (Orderly.was-set (s .sessions) (place free (s .sessions)) (session new) i noSession (session x) (Views.no-session x) p) [
@@ -270,15 +255,13 @@ module _ (w : World) (g : Good w) where
       new = opened (s .head .nextSession) (now + s .head .writeLife)
 
   -- QUAR granted: every row and value stays
-  granted : (n k kind : ℕ) → (1 ≤ kind) × (kind ≤ 3) → ((i m d : ℕ) (v : Staged) → rowAt (w .state) i ≡ row m k d v → (kind ≡ 1) × (d ≡ 1))
-      → Frame w Answer.Granted (withKeys (withRows (w .state) (putAt freeRow (row n k kind nothing) (w .state .rows))) (setLease (w .state .keys) k none))
-  granted n k kind range sharing = record {
-    orderly = Orderly.orderly-granted s n k kind range sharing (g .orderly);
+  granted : (n k kind : ℕ) → Frame w Answer.Granted (withKeys (withRows (w .state) (putAt freeRow (row n k kind nothing) (w .state .rows))) (setLease (w .state .keys) k none))
+  granted n k kind = record {
     keeps = λ j v p q. sym (Views.lease-value (s .keys) k none j) ∙ p;
     value = λ j v p. inr (sym (Views.lease-value (s .keys) k none j) ∙ p, λ q. record { number = q .number; did = q .did; holds = record { place = q .holds .place; kind = q .holds .kind; what = q .holds .what; is = stays-row (q .holds .place) (q .number) j (q .holds .kind) (q .holds .what) (q .holds .is) } });
     opens = λ i x p. inr (i, x, p, refl, λ q. q);
     grows = omega arith;
-    unwritten = λ j l p u m. elim (Views.lease-after (s .keys) k none j) [ inl x ↦ g .unwritten j l (sym (x .1) ∙ p) u m | inr x ↦ elim (x .1) [ inl y ↦ Views.no-some l (sym y ∙ p) | inr y ↦ Views.no-some l (sym y ∙ p) ] ];
+    unwritten = λ j l p u m. g .unwritten j l (Orderly.voided-was s k j l p .1) u m;
   }
     where
       s : State
@@ -307,10 +290,9 @@ module _ (w : World) (g : Good w) where
         λ q. elim (r .2) [ inl e ↦ ap (λ (y : Session). y .life) e ∙ q | inr e ↦ ap (λ (y : Session). y .life) (e .1) ∙ same (r .0) .1 q ],
       )
 
-  -- STAGE, DELTA: in the session's row, whose kind is not 1
-  stages-row : (n k i d : ℕ) (u v : Staged) → rowAt (w .state) i ≡ row n k d v → (d ≡ 1 → ⊥) → Frame w (stagedAnswer u) (withStaged (withSession (w .state) n advanced) n k u)
-  stages-row n k i d u v mine apart = record {
-    orderly = Orderly.orderly-staged (w .state) n k i d u v mine apart (g .orderly);
+  -- STAGE, DELTA
+  stages-row : (n k : ℕ) (u : Staged) → Frame w (stagedAnswer u) (withStaged (withSession (w .state) n advanced) n k u)
+  stages-row n k u = record {
     keeps = λ j y p q. p;
     value = λ j y p. inr (
       p,
@@ -326,7 +308,6 @@ module _ (w : World) (g : Good w) where
   -- VALIDATE
   seals : (n : ℕ) → Frame w Answer.Validated (withSession (w .state) n sealed)
   seals n = record {
-    orderly = Orderly.orderly-seal (w .state) n (g .orderly);
     keeps = λ k v p q. p;
     value = λ k v p. inr (p, λ q. q);
     opens = stands n sealed (λ m. (refl, λ q. refl));
@@ -340,19 +321,16 @@ module _ (w : World) (g : Good w) where
   unfolding looked missed
   gets now n k (some x) = stays (Answer.Hit (x .at) _) refl
   gets now n k none = Views.if-ind Framed (freeRow (rowOf (w .state) n k))
-      (λ e. Views.if-ind Framed (blocked (w .state) k) (λ b. stays (Answer.Backoff (wait (w .state) k now)) refl) (λ b. leases now k (Accepted.unblocked (w .state) (g .orderly) k b)))
+      (λ e. Views.if-ind Framed (blocked (w .state) k) (λ b. stays (Answer.Backoff (wait (w .state) k now)) refl) (λ b. leases now k))
       (λ e. stays Answer.Ask refl)
 
-  quars : (n k kind : ℕ) → (1 ≤ kind) × (kind ≤ 3) → w .wrote n ≡ false → Framed (asks (w .state) n k kind)
+  quars : (n k kind : ℕ) → w .wrote n ≡ false → Framed (asks (w .state) n k kind)
   unfolding asks
-  quars n k kind range never = Views.if-ind Framed (grants (decide (w .state) k kind))
-      (λ e. granted n k kind range (Accepted.sharing (w .state) (g .orderly) k kind range e)) (λ e. leaves Answer.Aborted n refl never)
+  quars n k kind never = Views.if-ind Framed (grants (decide (w .state) k kind)) (λ e. granted n k kind) (λ e. leaves Answer.Aborted n refl never)
 
-  staging : (n i k d : ℕ) (u : Staged) → freeRow (rowOf (w .state) n k) ≡ false → not (eqb (kindOf (rowOf (w .state) n k)) d) ≡ false → (d ≡ 1 → ⊥) → Framed (stages (w .state) n i k u)
+  staging : (n i k : ℕ) (u : Staged) → Framed (stages (w .state) n i k u)
   unfolding stages
-  staging n i k d u e f apart = Views.if-ind Framed (ltb i (countOf (w .state) n)) (λ p. stays Answer.Repeated refl)
-      (λ p. let r = Accepted.row-of (w .state) n k e in
-      stages-row n k (r .0) (kindOf (rowOf (w .state) n k)) u (r .1) (r .2) (λ q. apart (sym (eqb-true (kindOf (rowOf (w .state) n k)) d (Views.not-false′ _ f)) ∙ q)))
+  staging n i k u = Views.if-ind Framed (ltb i (countOf (w .state) n)) (λ p. stays Answer.Repeated refl) (λ p. stages-row n k u)
 
   pub framed : (now : ℕ) (c : Command) (v : Value) → refusal (w .state) now c v ≡ none → Rules w c v (effect (w .state) now c v .answer) → Framed (effect (w .state) now c v)
   unfolding effect refusals
@@ -360,12 +338,10 @@ module _ (w : World) (g : Good w) where
   framed now (Get n k) v e rule = gets now n k (sight (w .state) n k)
   framed now (Fill t k) v e rule = Views.if-ind (λ (r : Outcome). (r .answer ≡ Answer.Stored → List·Memᴰ v (w .since t k)) → Framed r) (matches t (leaseOn (w .state) k))
       (λ m rule. let r = Accepted.matched t (leaseOn (w .state) k) m in filled t k v (r .0) (r .1) (r .2) rule) (λ m rule. stays Answer.Ignored refl) rule
-  framed now (Quar n k kind) v e rule = let no = Accepted.passed (w .state) now (Quar n k kind) v e in Views.if-ind Framed (eqb (kindOf (rowOf (w .state) n k)) kind)
-      (λ m. stays Answer.Held refl)
-      (λ m. quars n k kind (Accepted.is-kind kind (Views.not-false′ _ (Views.or-false₂ (badKey k) (not (isKind kind)) (no 1)))) (unwrote n (no 2) (no 3)))
-  framed now (Stage n i k) v e rule = let no = Accepted.passed (w .state) now (Stage n i k) v e in staging n i k 2 (staged v) (no 5) (no 6) (λ q. omega arith)
-  framed now (Delta n i k o) v e rule = let no = Accepted.passed (w .state) now (Delta n i k o) v e in
-      staging n i k 3 (changed o v (stagedIn (rowOf (w .state) n k)) (cached (w .state) k)) (no 5) (no 6) (λ q. omega arith)
+  framed now (Quar n k kind) v e rule = let no = Accepted.passed (w .state) now (Quar n k kind) v e in
+      Views.if-ind Framed (eqb (kindOf (rowOf (w .state) n k)) kind) (λ m. stays Answer.Held refl) (λ m. quars n k kind (unwrote n (no 2) (no 3)))
+  framed now (Stage n i k) v e rule = staging n i k (staged v)
+  framed now (Delta n i k o) v e rule = staging n i k (changed o v (stagedIn (rowOf (w .state) n k)) (cached (w .state) k))
   framed now (Validate n m) v e rule = let no = Accepted.passed (w .state) now (Validate n m) v e in Views.if-ind Framed (eqb m (countOf (w .state) n))
       (λ p. seals n) (λ p. leaves Answer.Lost n refl (unwrote n (no 2) (Views.and-false (sealedIn (w .state) n) (rw p at (no 3)))))
   framed now (Done n) v e rule = dones n (rule refl)

@@ -3,7 +3,7 @@
 -- value, since a leased key has no row and so is not written.
 -- Here: the invariant, the frame that a command's effect has to prove, that the frame gives the invariant, START, and a register write.
 use mathlib.Core.Path.{_≡_, refl, sym, ap, _∙_}
-use mathlib.Core.Bool.{Bool, true, false, not, _&&_, _||_}
+use mathlib.Core.Bool.{Bool, true, false, _||_}
 use mathlib.Core.Logic.{_⊎_, inl, inr}
 use mathlib.Core.List.{List, List·Memᴰ, _∷_}
 use mathlib.Core.Option.{some}
@@ -15,7 +15,7 @@ use lib.ListN.{getD}
 use Rattle.lent.specs.Tables.{if_then_else_}
 use Rattle.machine.specs.Sizes.{keyCount}
 use Rattle.machine.specs.Tables.{any}
-use Rattle.machine.specs.State.{Value, Lease, Key, blank, session, Row, noRow, row, State, fresh, on, cached, leaseOn, sessionAt}
+use Rattle.machine.specs.State.{Value, Lease, Key, blank, session, Row, noRow, State, fresh, on, cached, leaseOn, sessionAt}
 use Rattle.machine.specs.World.{World, begun, sinceGrant, written, Holds, Sealed}
 use Rattle.machine.specs.declared.Life.{Life}
 use Rattle.machine.specs.declared.Session.{Session}
@@ -44,7 +44,6 @@ pub record Good (w : World) : Type 0 where
 
 -- what an effect, answered a, on the world's state after expiry must do to give the state t
 pub record Frame (w : World) (a : Answer) (t : State) : Type 0 where
-  pub orderly : Orderly t
   -- on a key with a row after it, no value is new
   pub keeps : (k : ℕ) (v : Value) → cached t k ≡ some v → RowOn (t .rows) k → cached (w .state) k ≡ some v
   -- a value is the register's, or was there, and then no writer's row on its key went
@@ -57,15 +56,15 @@ pub record Frame (w : World) (a : Answer) (t : State) : Type 0 where
   pub unwritten : (k : ℕ) (l : Lease) → leaseOn t k ≡ some l → (u : Value) → List·Memᴰ u (sinceGrant (w .register) (w .since) a (l .token) k) → u ≡ w .register k
 
 -- the world with the state t, in which older values are as `began` says
-pub reframed : (w : World) → Good w → (a : Answer) (t : State) (began : ℕ → Value) → Frame w a t → ((k : ℕ) (v : Value) → cached t k ≡ some v → RowOn (t .rows) k → v ≡ began k)
+pub reframed : (w : World) → Good w → (a : Answer) (t : State) (began : ℕ → Value) → Orderly t → Frame w a t → ((k : ℕ) (v : Value) → cached t k ≡ some v → RowOn (t .rows) k → v ≡ began k)
     → Good (record { state = t; register = w .register; began = began; since = sinceGrant (w .register) (w .since) a; wrote = w .wrote })
-reframed w g a t began f older = record {
-  orderly = f .orderly;
-  current = λ k v p. elim (f .value k v p) [ inl h ↦ inl h | inr h ↦ elim (g .current k v (h .0)) [ inl y ↦ inl y | inr y ↦ inr (h .1 y) ] ];
+reframed w g a t began h f older = record {
+  orderly = h;
+  current = λ k v p. elim (f .value k v p) [ inl x ↦ inl x | inr x ↦ elim (g .current k v (x .0)) [ inl y ↦ inl y | inr y ↦ inr (x .1 y) ] ];
   older = older;
   unwritten = f .unwritten;
-  writers = λ n e. let h = g .writers n e in let more = f .grows in
-      (omega (arith, h .0), λ i x p num. elim (f .opens i x p) [ inl y ↦ absurd (omega (arith, h .0)) | inr y ↦ y .4 (h .1 (y .0) (y .1) (y .2) (y .3 ∙ num)) ]);
+  writers = λ n e. let x = g .writers n e in let more = f .grows in
+      (omega (arith, x .0), λ i m p num. elim (f .opens i m p) [ inl y ↦ absurd (omega (arith, x .0)) | inr y ↦ y .4 (x .1 (y .0) (y .1) (y .2) (y .3 ∙ num)) ]);
 }
 
 pub quarantined-by : (rs : List Row) (k : ℕ) → RowOn rs k → any (on k) rs ≡ true

@@ -6,6 +6,7 @@ pub mod Table
 pub mod Refused
 pub mod Orderly
 pub mod Accepted
+pub mod Shape
 pub mod Invariant
 pub mod Frames
 pub mod Promise

@@ -2,7 +2,7 @@
 -- expired world, and a value on a newly quarantined key was the register's, since before it no writer had a row there.
 use mathlib.Core.Path.{_≡_, refl}
 use mathlib.Core.Bool.{Bool, true, false, not, _&&_}
-use mathlib.Core.Logic.{_⊎_, inl, inr}
+use mathlib.Core.Logic.{inl, inr}
 use mathlib.Core.List.{List, [], _∷_}
 use mathlib.Core.Option.{Option, none, some}
 use Prim.Native.Nat.{ℕ}
@@ -16,17 +16,18 @@ use Rattle.machine.specs.World.{Event, command, write, World, quarantine
 use Rattle.machine.specs.declared.Answer.{Answer}
 use Rattle.machine.specs.declared.Command.{Command}
 use Rattle.machine.proofs.Views.{clash}
-use Rattle.machine.proofs.Orderly.{orderly-clock}
+use Rattle.machine.proofs.Orderly.{orderly-expire, orderly-clock}
+use Rattle.machine.proofs.Shape.{orderly-effect}
 use Rattle.machine.proofs.Invariant.{RowOn, Good, Frame, reframed, quarantined-by, quarantining, written-good}
 use Rattle.machine.proofs.Frames.{expire-value, expire-row-on, stays, expires, framed}
 
 pub expired-good : (w : World) → Good w → (now : ℕ) → Good (expired w now)
-expired-good w g now = reframed w g Answer.Ticked (expire now (w .state)) (w .began) (expires w g now)
+expired-good w g now = reframed w g Answer.Ticked (expire now (w .state)) (w .began) (orderly-expire (w .state) now (g .orderly)) (expires w g now)
     (λ k v p q. g .older k v (expire-value now (w .state) k v p) (expire-row-on now (w .state) k q))
 
 -- the clock is in no frame
 clocked : (w : World) (a : Answer) (t : State) (now : ℕ) → Frame w a t → Frame w a (withClock t now)
-clocked w a t now f = record { orderly = orderly-clock t now (f .orderly); keeps = f .keeps; value = f .value; opens = f .opens; grows = f .grows; unwritten = f .unwritten }
+clocked w a t now f = record { keeps = f .keeps; value = f .value; opens = f .opens; grows = f .grows; unwritten = f .unwritten }
 
 -- the value when the quarantine began, by whether it had
 began-as : (b : Bool) (r o v : Value) → (b ≡ true → v ≡ o) → (b ≡ false → v ≡ r) → v ≡ (if true && not b then r else o)
@@ -37,9 +38,9 @@ commanded-good : (w : World) → Good w → (now : ℕ) (c : Command) (v : Value
     → Rules (expired w now) c v (settled (w .state) now o (effect (expire now (w .state)) now c v) .answer)
     → Good (commanded w (settled (w .state) now o (effect (expire now (w .state)) now c v)))
 unfolding commanded settled
-commanded-good w g now c v (some e) p rule = reframed w g (Answer.Refused e) (w .state) _ (stays w g (Answer.Refused e) refl)
+commanded-good w g now c v (some e) p rule = reframed w g (Answer.Refused e) (w .state) _ (g .orderly) (stays w g (Answer.Refused e) refl)
     (λ k u h q. rw (quarantined-by (w .state .rows) k q) (g .older k u h q))
-commanded-good w g now c v none p rule = reframed w₁ g₁ a (withClock t now) _ frame older
+commanded-good w g now c v none p rule = reframed w₁ g₁ a (withClock t now) _ (orderly-clock t now (orderly-effect (expire now (w .state)) (g₁ .orderly) now c v p)) frame older
   where
     w₁ : World
     w₁ = expired w now
