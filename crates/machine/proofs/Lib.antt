@@ -11,3 +11,4 @@ pub mod Invariant
 pub mod Frames
 pub mod Promise
 pub mod Demand3
+pub mod Tested
