@@ -3,7 +3,7 @@
 -- value, since a leased key has no row and so is not written.
 -- Here: the invariant, the frame that a command's effect has to prove, that the frame gives the invariant, START, and a register write.
 use mathlib.Core.Path.{_≡_, refl, sym, ap, _∙_}
-use mathlib.Core.Bool.{Bool, true, false, _||_}
+use mathlib.Core.Bool.{Bool, true, false, not, _&&_, _||_}
 use mathlib.Core.Logic.{_⊎_, inl, inr}
 use mathlib.Core.List.{List, List·Memᴰ, _∷_}
 use mathlib.Core.Option.{some}
@@ -15,7 +15,8 @@ use lib.ListN.{getD}
 use Rattle.lent.specs.Tables.{if_then_else_}
 use Rattle.machine.specs.Sizes.{keyCount}
 use Rattle.machine.specs.Tables.{any}
-use Rattle.machine.specs.State.{Value, Lease, Key, blank, session, Row, noRow, State, fresh, on, cached, leaseOn, sessionAt}
+use Rattle.machine.specs.State.{Value, Lease, Key, blank, Slot, noSession, session, Row, noRow, State, fresh, free, numbered, on, sessionOf, cached, leaseOn, sessionAt}
+use Rattle.machine.specs.Refusals.{notLive}
 use Rattle.machine.specs.World.{World, begun, sinceGrant, written, Holds, Sealed}
 use Rattle.machine.specs.declared.Life.{Life}
 use Rattle.machine.specs.declared.Session.{Session}
@@ -88,6 +89,14 @@ begun-good readLife writeLife = record {
   writers = λ n e. Views.clash false e refl;
 }
 
+-- a session of number n is found by it
+pub found-live : (s : State) (n i : ℕ) (x : Session) → sessionAt s i ≡ session x → x .number ≡ n → notLive s n ≡ false
+found-live s n i x e num = go (sessionOf s n) (Views.find-passes (numbered n) noSession (s .sessions) i refl (rw e (eq-eqb (x .number) n num)))
+  where
+    go : (y : Slot) → numbered n y ≡ true → free y ≡ false
+    go noSession p = Views.clash false p refl
+    go (session m) p = refl
+
 -- a register write, by rule 2
 pub written-good : (w : World) → Good w → (n k : ℕ) (v : Value) → Sealed (w .state) n → Holds (w .state .rows) n k → Good (written w n k v)
 unfolding written
@@ -100,16 +109,19 @@ written-good w g n k v live holds = record {
 }
   where
     wrote′ : ℕ → Bool
-    wrote′ m = eqb m n || w .wrote m
+    wrote′ m = eqb m n && not (notLive (w .state) n) || w .wrote m
+
+    did : wrote′ n ≡ true
+    did = rw (eq-eqb n n refl, found-live (w .state) n (live .place) (live .live) (live .is) (live .number))
 
     -- the session's row, as one on j
     held : (j : ℕ) → eqb j k ≡ true → Holds (w .state .rows) n j
     held j e = record { place = holds .place; kind = holds .kind; what = holds .what; is = rw (eqb-true j k e) (holds .is) }
 
     current : (j : ℕ) (u : Value) → (eqb j k ≡ true) ⊎ (eqb j k ≡ false) → (u ≡ w .register j) ⊎ Written (w .state .rows) (w .wrote) j → (u ≡ (if eqb j k then v else w .register j)) ⊎ Written (w .state .rows) wrote′ j
-    current j u (inl e) q = inr (record { number = n; did = rw (eq-eqb n n refl) refl; holds = held j e })
+    current j u (inl e) q = inr (record { number = n; did = did; holds = held j e })
     current j u (inr e) (inl q) = inl (rw e q)
-    current j u (inr e) (inr q) = inr (record { number = q .number; holds = q .holds; did = rw (q .did) (Views.or-true (eqb (q .number) n)) })
+    current j u (inr e) (inr q) = inr (record { number = q .number; holds = q .holds; did = rw (q .did) (Views.or-true (eqb (q .number) n && not (notLive (w .state) n))) })
 
     unwritten : (j : ℕ) (l : Lease) → leaseOn (w .state) j ≡ some l → (u : Value) → List·Memᴰ u (if eqb j k then v ∷ w .since (l .token) j else w .since (l .token) j) → (eqb j k ≡ true) ⊎ (eqb j k ≡ false) → u ≡ (if eqb j k then v else w .register j)
     unwritten j l p u m (inl e) = absurd (no-row-on (w .state) (g .orderly) j l p (record { number = n; holds = held j e }))
