@@ -235,9 +235,9 @@ module _ (w : World) (g : Good w) where
       ]
 
   -- BEGIN: the new session has the next number
-  begun : (now : ℕ) → Framed (begins (w .state) now)
+  new-session : (now : ℕ) → Framed (begins (w .state) now)
   unfolding begins
-  begun now = record {
+  new-session now = record {
     keeps = λ k v p q. p;
     value = λ k v p. inr (p, λ q. q);
     opens = λ i x p. elim (Orderly.was-set (s .sessions) (place free (s .sessions)) (session new) i noSession (session x) (Views.no-session x) p) [
@@ -334,7 +334,7 @@ module _ (w : World) (g : Good w) where
 
   pub framed : (now : ℕ) (c : Command) (v : Value) → refusal (w .state) now c v ≡ none → Rules w c v (effect (w .state) now c v .answer) → Framed (effect (w .state) now c v)
   unfolding effect refusals
-  framed now Begin v e rule = begun now
+  framed now Begin v e rule = new-session now
   framed now (Get n k) v e rule = gets now n k (sight (w .state) n k)
   framed now (Fill t k) v e rule = Views.if-ind (λ (r : Outcome). (r .answer ≡ Answer.Stored → List·Memᴰ v (w .since t k)) → Framed r) (matches t (leaseOn (w .state) k))
       (λ m rule. let r = Accepted.matched t (leaseOn (w .state) k) m in filled t k v (r .0) (r .1) (r .2) rule) (λ m rule. stays Answer.Ignored refl) rule

@@ -12,3 +12,4 @@ pub mod Frames
 pub mod Promise
 pub mod Demand3
 pub mod Tested
+pub mod Witness

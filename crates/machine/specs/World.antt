@@ -3,14 +3,14 @@ use mathlib.Core.Path.{_≡_}
 use mathlib.Core.Bool.{Bool, true, false, not, _&&_, _||_}
 use mathlib.Core.Logic.{_⊎_}
 use mathlib.Core.List.{List, [], _∷_, List·Memᴰ}
-use mathlib.Core.Option.{Option, none, some}
+use mathlib.Core.Option.{none, some}
 use Prim.Native.Nat.{ℕ}
 use lib.Dec.{eqb}
 use lib.ListN.{getD}
 use Rattle.lent.specs.Tables.{if_then_else_}
 use Rattle.machine.specs.Tables.{any}
 use Rattle.machine.specs.Words.{wordOf, detailOf}
-use Rattle.machine.specs.State.{Value, Slot, session, Staged, staged, Row, noRow, row, State, fresh, on, rowOf, cached, sessionAt, rowAt}
+use Rattle.machine.specs.State.{Value, session, Staged, staged, Row, noRow, row, State, fresh, on, rowOf, cached, sessionAt, rowAt}
 use Rattle.machine.specs.Expiry.{expire}
 use Rattle.machine.specs.Refusals.{notLive}
 use Rattle.machine.specs.Effects.{Outcome}
