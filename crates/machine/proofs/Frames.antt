@@ -112,14 +112,8 @@ module _ (w : World) (g : Good w) where
   pub expires : (now : ℕ) → Frame w Answer.Ticked (expire now (w .state))
   unfolding expire finish leave
   expires now = ends Answer.Ticked (those (isDue now) (w .state .sessions)) (settle (those (isDue now) (w .state .sessions)) lapsedValue (w .state .rows) (map (lapsedLease now) (w .state .keys))) refl
-      (λ k v p. (value k v p, λ i n d u r did. spared n did)) lease
+      (λ k v p. (expire-value now (w .state) k v p, λ i n d u r did. spared n did)) (expire-lease now (w .state))
     where
-      lease : (k : ℕ) (l : Lease) → leaseOn (expire now (w .state)) k ≡ some l → leaseOn (w .state) k ≡ some l
-      lease = expire-lease now (w .state)
-
-      value : (k : ℕ) (v : Value) → cached (expire now (w .state)) k ≡ some v → cached (w .state) k ≡ some v
-      value = expire-value now (w .state)
-
       spared : (n : ℕ) → w .wrote n ≡ true → mem n (those (isDue now) (w .state .sessions)) ≡ false
       spared n did = elim (Views.caseOf (mem n (those (isDue now) (w .state .sessions)))) [
         | inl q ↦ absurd (let r = Views.among-those (isDue now) (w .state .sessions) n q in Views.due-open now (r .1 .life) (r .4) (g .writers n did .1 (r .0) (r .1) (r .2) (r .3)))
