@@ -4,3 +4,12 @@ pub mod Decided
 pub mod Examples
 pub mod Table
 pub mod Refused
+pub mod Orderly
+pub mod Accepted
+pub mod Shape
+pub mod Invariant
+pub mod Frames
+pub mod Promise
+pub mod Demand3
+pub mod Tested
+pub mod Witness
