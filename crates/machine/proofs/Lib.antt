@@ -1,1 +1,4 @@
 pub mod Views
+pub mod Every
+pub mod WellFormed
+pub mod SoundMeans
