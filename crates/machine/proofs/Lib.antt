@@ -1,6 +1,9 @@
 pub mod Every
 pub mod WellFormed
 pub mod SoundMeans
+pub mod WellKept
+pub mod DeltaFits
+pub mod KeepsSound
 pub mod Views
 pub mod Orderly
 pub mod Accepted

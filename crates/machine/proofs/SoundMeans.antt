@@ -283,9 +283,9 @@ module _ (s : State) (e : sound s ≡ true) where
     rows = record {
       length = rows-length;
       each = λ i {n} {k} {d} {u} p. row-at i n k d u p .2;
-      once = λ i j {n} {k} {d} {e} {u} {v} p q. elim (order i j) [
+      once = λ i j {n} {k} {d} {c} {u} {v} p q. elim (order i j) [
         | inl a ↦ a
-        | inr a ↦ absurd (elim a [ inl b ↦ once-means (rowAt s i) (rowAt s j) (row-pair j i n k e v q b .0) p q | inr b ↦ once-means (rowAt s j) (rowAt s i) (row-pair i j n k d u p b .0) q p ])
+        | inr a ↦ absurd (elim a [ inl b ↦ once-means (rowAt s i) (rowAt s j) (row-pair j i n k c v q b .0) p q | inr b ↦ once-means (rowAt s j) (rowAt s i) (row-pair i j n k d u p b .0) q p ])
       ];
     };
     live = λ i {n} {k} {d} {u} p. live-means s n (row-at i n k d u p .0) (row-joined i n k d u p .0);

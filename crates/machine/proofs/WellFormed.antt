@@ -59,7 +59,7 @@ pub record RowsFit (rs : List Row) : Type 0 where
   pub length : size rs ≡ rowCount
   pub each : (i : ℕ) {n k d : ℕ} {u : Staged} → getD rs i noRow ≡ row n k d u → RowFits k d u
   -- no session has two rows on one key
-  pub once : (i j : ℕ) {n k d e : ℕ} {u v : Staged} → getD rs i noRow ≡ row n k d u → getD rs j noRow ≡ row n k e v → i ≡ j
+  pub once : (i j : ℕ) {n k d c : ℕ} {u v : Staged} → getD rs i noRow ≡ row n k d u → getD rs j noRow ≡ row n k c v → i ≡ j
 
 -- a session of number n is live
 pub record LiveAs (l : List Slot) (n : ℕ) : Type 0 where
