@@ -171,10 +171,10 @@ module _ (s : State) where
   key-inside : (k : ℕ) (l : Lease) → length (s .keys) ≡ keyCount → leaseOn s k ≡ some l → k < keyCount
   key-inside k l n e = let z = place-inside (s .keys) blank k (λ z. no-some l (sym (ap (λ (x : Key). x .lease) z) ∙ e)) in omega (arith, n, z)
 
-  session-inside : (i : ℕ) (x : Session) → length (s .sessions) ≡ sessionCount → sessionAt s i ≡ session x → i < sessionCount
+  pub session-inside : (i : ℕ) (x : Session) → length (s .sessions) ≡ sessionCount → sessionAt s i ≡ session x → i < sessionCount
   session-inside i x n e = let z = place-inside (s .sessions) noSession i (λ z. no-session x (sym z ∙ e)) in omega (arith, n, z)
 
-  row-inside : (i n k d : ℕ) (u : Staged) → length (s .rows) ≡ rowCount → rowAt s i ≡ row n k d u → i < rowCount
+  pub row-inside : (i n k d : ℕ) (u : Staged) → length (s .rows) ≡ rowCount → rowAt s i ≡ row n k d u → i < rowCount
   row-inside i n k d u c e = let z = place-inside (s .rows) noRow i (λ z. no-row n k d u (sym z ∙ e)) in omega (arith, c, z)
 
   live-means : (n : ℕ) → 1 ≤ n → someAt (λ j. eqb (numberAt s j) n) sessionCount ≡ true → LiveAs (s .sessions) n
