@@ -1,7 +1,7 @@
 -- A walk over the indices below n passes exactly if each index passes; so does a walk over pairs, and one that asks for distinct numbers.
 -- What holds of the free entry holds past a table's end, so such facts are had for every place.
-use mathlib.Core.Path.{_≡_, refl, sym, ap, _∙_, subst}
-use mathlib.Core.Bool.{Bool, true, false, not, _&&_, _||_}
+use mathlib.Core.Path.{_≡_, refl, sym}
+use mathlib.Core.Bool.{Bool, true, false, not}
 use mathlib.Core.Logic.{_⊎_, inl, inr, ⊎-elim}
 use mathlib.Core.List.{List}
 use Prim.Native.Nat.{ℕ, zero, suc, _≤_, _<_}
@@ -10,7 +10,7 @@ use native.Mathlib.Nat.{eq-or-lt-of-le, le-of-suc-le-suc, not-suc-le-zero}
 use lib.Dec.{eqb, ltb}
 use lib.ListN.{length, getD, List·getD-eq-default}
 use borrow.Author.Tests.{eqb-true, eqb-false, eq-eqb, ne-eqb, ltb-true, ltb-false}
-use Rattle.lent.specs.Tables.{if_then_else_, every, some as someAt}
+use Rattle.lent.specs.Tables.{every, some as someAt}
 use Rattle.machine.specs.Sound.{newAt, distinct}
 use Rattle.machine.proofs.Views.{caseOf, clash, and-true₁, and-true₂, or-true, not-true′}
 

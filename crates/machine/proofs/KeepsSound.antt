@@ -1,26 +1,23 @@
 -- Theorem 3: every command on a sound state leaves a sound state, refused or not, and START makes one. A refused command changes nothing;
 -- for an accepted one, expiry keeps what is well formed, the tests that it passed say what its effect needs, and the clock moves last.
-use mathlib.Core.Path.{_≡_, refl, sym, ap, _∙_, subst}
-use mathlib.Core.Bool.{Bool, true, false, not, _&&_, _||_}
-use mathlib.Core.Logic.{_⊎_, inl, inr}
+use mathlib.Core.Path.{_≡_, refl, sym, ap, _∙_}
+use mathlib.Core.Bool.{true, false, not, _||_}
 use mathlib.Core.List.{List, [], _∷_}
 use mathlib.Core.Option.{Option, none, some}
-use Prim.Native.Nat.{ℕ, _+_, _≤_, _<_}
+use Prim.Native.Nat.{ℕ, _≤_, _<_}
 use native.Mathlib.Omega.{arith}
 use lib.Dec.{eqb, leb, ltb}
 use lib.ListN.{length, getD, length-replicate}
-use borrow.Author.Tests.{eqb-true, eqb-false, eq-eqb, leb-true, leb-false, ltb-false}
-use Rattle.lent.specs.Tables.{if_then_else_}
+use borrow.Author.Tests.{eqb-true, eqb-false, eq-eqb, leb-false, ltb-false}
 use Rattle.machine.specs.Sizes.{keyCount, sessionCount, rowCount, valueMax, stepMax, lifeMax, timeMax, numberMax}
-use Rattle.machine.specs.Tables.{find, first, isNone}
+use Rattle.machine.specs.Tables.{first, isNone}
 use Rattle.machine.specs.Words.{isKind, isOperation}
-use Rattle.machine.specs.Session.{sealed}
 use Rattle.machine.specs.Decision.{grants}
-use Rattle.machine.specs.State.{Value, Lease, Key, blank, Slot, noSession, session, Staged, nothing, staged, DROP, Row, noRow, row, State, fresh, free, freeRow, of, on, ofOn, kindOf, stagedIn, sessionPlace, sessionOf, rowPlace, rowOf, sessionAt, rowAt, cached, leaseOn}
+use Rattle.machine.specs.State.{Value, Key, blank, noSession, session, Staged, staged, Row, noRow, row, State, fresh, free, freeRow, ofOn, kindOf, stagedIn, sessionPlace, sessionOf, rowPlace, rowOf, sessionAt, rowAt, cached, leaseOn}
 use Rattle.machine.specs.Sound.{lifetime, sound}
 use Rattle.machine.specs.Expiry.{withClock, leave, finish, expire}
-use Rattle.machine.specs.Refusals.{decide, blocked, Sight, sight, badKey, long, countIn, countOf, clockRefusal, refusals, refusal, startRefusals}
-use Rattle.machine.specs.Effects.{Outcome, told, looked, missed, leased, matches, fills, asks, changed, stages, toCache, effect}
+use Rattle.machine.specs.Refusals.{decide, blocked, Sight, sight, badKey, long, countIn, countOf, refusals, refusal, startRefusals}
+use Rattle.machine.specs.Effects.{Outcome, looked, missed, matches, asks, changed, stages, toCache, effect}
 use Rattle.machine.specs.Step.{settled, step, started, start}
 use Rattle.machine.specs.World.{Event, command, write, World, begun, commanded, written, next, run}
 use Rattle.machine.specs.declared.Session.{Session}
@@ -143,11 +140,7 @@ pub fresh-sound : (readLife writeLife : ℕ) → lifetime readLife ≡ true → 
 unfolding fresh
 fresh-sound readLife writeLife r w = means-sound (fresh readLife writeLife) (record {
   orderly = Orderly.orderly-fresh readLife writeLife;
-  time = omega arith;
-  readLife = within-means 1 lifeMax readLife r;
-  writeLife = within-means 1 lifeMax writeLife w;
-  nextSession = (omega arith, omega arith);
-  nextToken = (omega arith, omega arith);
+  head = record { time = omega arith; readLife = within-means 1 lifeMax readLife r; writeLife = within-means 1 lifeMax writeLife w; nextSession = (omega arith, omega arith); nextToken = (omega arith, omega arith) };
   keys = record {
     length = length-replicate keyCount blank;
     values = λ k {v} e. Views.no-some v (sym (ap (λ (x : Key). x .value) (Views.getD-same keyCount k blank)) ∙ e);

@@ -7,11 +7,11 @@ use Prim.Native.Nat.{ℕ, _+_, _≤_, _<_}
 use native.Mathlib.Omega.{arith}
 use lib.ListN.{length}
 use Rattle.machine.specs.Sizes.{keyCount, sessionCount, rowCount, stepMax, lifeMax, timeMax, numberMax}
-use Rattle.machine.specs.State.{Value, Lease, Key, blank, noSession, session, Staged, noRow, row, State, sessionAt, rowAt, cached, leaseOn}
+use Rattle.machine.specs.State.{Value, Lease, session, Staged, row, State, sessionAt, rowAt, cached, leaseOn}
 use Rattle.machine.specs.Sound.{sound}
 use Rattle.machine.specs.declared.Life.{Life}
 use Rattle.machine.specs.declared.Session.{Session}
-use Rattle.machine.proofs.WellFormed.{Fine, Within, StagedFits, LiveAs, WellFormed}
+use Rattle.machine.proofs.WellFormed.{Fine, Within, StagedFits, LiveAs}
 use Rattle.machine.proofs.SoundMeans.{session-inside, row-inside, sound-means}
 
 module _ (s : State) (e : sound s ≡ true) where
@@ -27,19 +27,19 @@ module _ (s : State) (e : sound s ≡ true) where
 
   -- the head
   pub clock-bound : s .head .clock ≤ timeMax
-  clock-bound = sound-means s e .time
+  clock-bound = sound-means s e .head .time
 
   pub read-life : Within 1 lifeMax (s .head .readLife)
-  read-life = sound-means s e .readLife
+  read-life = sound-means s e .head .readLife
 
   pub write-life : Within 1 lifeMax (s .head .writeLife)
-  write-life = sound-means s e .writeLife
+  write-life = sound-means s e .head .writeLife
 
   pub next-session : Within 1 numberMax (s .head .nextSession)
-  next-session = sound-means s e .nextSession
+  next-session = sound-means s e .head .nextSession
 
   pub next-token : Within 1 numberMax (s .head .nextToken)
-  next-token = sound-means s e .nextToken
+  next-token = sound-means s e .head .nextToken
 
   -- a cached value, and an I lease
   pub value-fine : (k : ℕ) {v : Value} → cached s k ≡ some v → Fine v

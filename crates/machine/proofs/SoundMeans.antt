@@ -1,6 +1,6 @@
 -- `sound` tests exactly what a well-formed state is: each test of one record is the fact about that record, and a walk that passes is the
 -- fact at each place. Past a table's end stands the free entry, of which nothing is asked.
-use mathlib.Core.Path.{_≡_, refl, sym, ap, _∙_, subst}
+use mathlib.Core.Path.{_≡_, refl, sym, ap, _∙_}
 use mathlib.Core.Bool.{Bool, true, false, not, _&&_}
 use mathlib.Core.Logic.{_⊎_, inl, inr}
 use mathlib.Core.List.{List, [], _∷_}
@@ -9,7 +9,7 @@ use Prim.Native.Nat.{ℕ, zero, suc, _+_, _≤_, _<_}
 use native.Mathlib.Omega.{arith}
 use lib.Dec.{eqb, leb, ltb}
 use lib.ListN.{length, getD}
-use borrow.Author.Tests.{eqb-true, eq-eqb, ne-eqb, leb-true, le-leb, ltb-true, lt-ltb}
+use borrow.Author.Tests.{eqb-true, eq-eqb, leb-true, le-leb, ltb-true, lt-ltb}
 use Rattle.lent.specs.Tables.{if_then_else_, every, some as someAt}
 use Rattle.machine.specs.Sizes.{keyCount, sessionCount, rowCount, valueMax, stepMax, lifeMax, timeMax, numberMax}
 use Rattle.machine.specs.Words.{within, isKind}
@@ -18,8 +18,8 @@ use Rattle.machine.specs.Sound.{clockSound, lifetime, nextSound, headSou
 use Rattle.machine.specs.Sound.{tokenIn, numberIn, numberAt, tokenAt, distinct, numbersDistinct, tokensDistinct, liveRow, rowsLive, once, rowsOnce, shares, rowsAlone, leaseless, rowsLeaseless, joined, sized, sound}
 use Rattle.machine.specs.declared.Life.{Life}
 use Rattle.machine.specs.declared.Session.{Session}
-use Rattle.machine.proofs.Views.{caseOf, clash, and-true₁, and-true₂, not-true′, no-some, no-row, no-session}
-use Rattle.machine.proofs.Every.{every-all, all-every, some-at, at-some, pairs-all, all-pairs, distinct-same, same-distinct, place-inside, every-place, order}
+use Rattle.machine.proofs.Views.{caseOf, clash, and-true₁, and-true₂, no-some, no-row, no-session}
+use Rattle.machine.proofs.Every.{all-every, some-at, at-some, pairs-all, all-pairs, distinct-same, same-distinct, place-inside, every-place, order}
 use Rattle.machine.proofs.WellFormed.{Fine, Within, LeaseFits, SessionFits, StagedFits, RowFits, LiveAs, WellFormed}
 
 -- both tests hold exactly if their conjunction does
@@ -273,11 +273,13 @@ module _ (s : State) (e : sound s ≡ true) where
       ];
       plain = λ i n k v p. omega (arith, row-at i n k 1 (staged v) p .2 .what .0);
     };
-    time = leb-true (s .head .clock) timeMax (heads 0);
-    readLife = within-means 1 lifeMax (s .head .readLife) (heads 1);
-    writeLife = within-means 1 lifeMax (s .head .writeLife) (heads 2);
-    nextSession = within-means 1 numberMax (s .head .nextSession) (heads 3);
-    nextToken = within-means 1 numberMax (s .head .nextToken) (heads 4);
+    head = record {
+      time = leb-true (s .head .clock) timeMax (heads 0);
+      readLife = within-means 1 lifeMax (s .head .readLife) (heads 1);
+      writeLife = within-means 1 lifeMax (s .head .writeLife) (heads 2);
+      nextSession = within-means 1 numberMax (s .head .nextSession) (heads 3);
+      nextToken = within-means 1 numberMax (s .head .nextToken) (heads 4);
+    };
     keys = record { length = keys-length; values = λ k {v} p. value-means v (rw p at (key-at k .0)); leases = λ k {l} p. lease-at k l p .1; distinct = λ k j {l} {m} a b t. tokens-differ k j l m a b t };
     sessions = record { length = sessions-length; each = λ i {x} p. session-at i x p .1 };
     rows = record {
@@ -331,7 +333,7 @@ module _ (s : State) (h : WellFormed s (s .head .clock)) where
   unfolding sound sized headSound keySound LeaseOf SessionOf
   means-sound =
       both (both (eq-eqb (length (s .keys)) keyCount (h .keys .length)) (both (eq-eqb (length (s .sessions)) sessionCount (h .sessions .length)) (eq-eqb (length (s .rows)) rowCount (h .rows .length))))
-      (both (both (le-leb (s .head .clock) timeMax (h .time)) (both (means-within 1 lifeMax (s .head .readLife) (h .readLife)) (both (means-within 1 lifeMax (s .head .writeLife) (h .writeLife)) (both (means-within 1 numberMax (s .head .nextSession) (h .nextSession)) (means-within 1 numberMax (s .head .nextToken) (h .nextToken))))))
+      (both (both (le-leb (s .head .clock) timeMax (h .head .time)) (both (means-within 1 lifeMax (s .head .readLife) (h .head .readLife)) (both (means-within 1 lifeMax (s .head .writeLife) (h .head .writeLife)) (both (means-within 1 numberMax (s .head .nextSession) (h .head .nextSession)) (means-within 1 numberMax (s .head .nextToken) (h .head .nextToken))))))
       (both (all-every (λ k. keySound (s .head) (keyOf s k)) keyCount (λ k l. both (means-cached (keyOf s k .value) (λ v p. h .keys .values k p)) (means-lease (s .head) (leaseOn s k) (λ l p. (h .orderly .leases k l p .0, h .keys .leases k p)))))
       (both (all-every (λ i. rowSound (rowAt s i)) rowCount (λ i l. means-row (rowAt s i) (λ n k d u p. (named-by i n k d u p, h .orderly .kinds i n k d u p, h .rows .each i p))))
       (both (all-every (λ j. sessionSound (s .head) (sessionAt s j)) sessionCount (λ j l. means-session (s .head) (sessionAt s j) (λ x p. (h .orderly .numbers j x p, h .sessions .each j p)))) joined-sound))))

@@ -1,7 +1,7 @@
 -- Theorem 7: the wait of a BACKOFF is the one that 01 names. In the state after expiry no lease and no open session ends at or before now,
 -- so what blocks ends later, by its lifetime at the most; and the latest deadline over the rows on the key is a deadline of one of them.
 use mathlib.Core.Path.{_≡_, refl, sym, ap, _∙_, subst}
-use mathlib.Core.Bool.{Bool, true, false, not, _&&_}
+use mathlib.Core.Bool.{true, false}
 use mathlib.Core.Logic.{_⊎_, inl, inr}
 use mathlib.Core.List.{List, [], _∷_, map}
 use mathlib.Core.Option.{Option, none, some}
@@ -10,13 +10,12 @@ use native.Mathlib.Omega.{arith}
 use lib.Dec.{eqb, leb}
 use lib.ListN.{getD, List·getD-map}
 use borrow.Author.Tests.{eqb-true, eqb-false, eq-eqb, leb-true, leb-false}
-use Rattle.lent.specs.Tables.{if_then_else_}
 use Rattle.machine.specs.Tables.{place, find, mem}
 use Rattle.machine.specs.Session.{isDue}
-use Rattle.machine.specs.Decision.{decision, grants}
-use Rattle.machine.specs.State.{Value, Lease, Key, blank, Slot, noSession, session, Staged, Row, noRow, row, State, free, freeRow, numbered, on, kindOf, sessionPlace, sessionOf, rowOf, sessionAt, rowAt, leaseOn}
+use Rattle.machine.specs.Decision.{decision}
+use Rattle.machine.specs.State.{Value, Lease, Key, blank, Slot, noSession, session, Staged, Row, noRow, row, State, free, freeRow, numbered, on, sessionPlace, sessionOf, rowOf, sessionAt, leaseOn}
 use Rattle.machine.specs.Sound.{sound}
-use Rattle.machine.specs.Expiry.{withKeys, freeSession, settle, leave, finish, lapsedValue, unlapsed, lapsedLease, those, expire}
+use Rattle.machine.specs.Expiry.{leave, finish, lapsedValue, unlapsed, lapsedLease, those, expire}
 use Rattle.machine.specs.Refusals.{decide, blocked, Sight, sight, refusal}
 use Rattle.machine.specs.Effects.{lifeEnd, slotEnd, later, latest, leaseEnd, lessNow, wait, leased, missed, looked, effect}
 use Rattle.machine.specs.Step.{settled, step}
@@ -28,7 +27,7 @@ use Rattle.machine.specs.declared.Command.the-variants.{Get}
 use Rattle.machine.proofs.Views
 use Rattle.machine.proofs.Orderly
 use Rattle.machine.proofs.Accepted
-use Rattle.machine.proofs.WellFormed.{Within, LiveAs, WellFormed}
+use Rattle.machine.proofs.WellFormed.{Within, WellFormed}
 use Rattle.machine.proofs.KeepsSound.{well-expired}
 
 -- session n is live and open until a deadline

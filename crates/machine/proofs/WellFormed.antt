@@ -2,11 +2,11 @@
 -- table, at a time that the deadlines are measured by. At the state's own clock this is what `sound` tests (`proofs/SoundMeans.antt`).
 use mathlib.Core.Path.{_≡_}
 use mathlib.Core.List.{List}
-use mathlib.Core.Option.{Option, none, some}
+use mathlib.Core.Option.{some}
 use Prim.Native.Nat.{ℕ, _+_, _≤_, _<_}
 use lib.ListN.{length as size, getD}
 use Rattle.machine.specs.Sizes.{keyCount, sessionCount, rowCount, valueMax, stepMax, lifeMax, timeMax, numberMax}
-use Rattle.machine.specs.State.{Value, Lease, Key, blank, Slot, noSession, session, Staged, nothing, staged, DROP, Row, noRow, row, State, rowAt}
+use Rattle.machine.specs.State.{Value, Head, Lease, Key, blank, Slot, noSession, session, Staged, nothing, staged, DROP, Row, noRow, row, State, rowAt}
 use Rattle.machine.specs.declared.Life.{Life}
 use Rattle.machine.specs.declared.Session.{Session}
 use Rattle.machine.proofs.Orderly.{Orderly}
@@ -45,6 +45,14 @@ pub record RowFits (k d : ℕ) (u : Staged) : Type 0 where
   pub key : k < keyCount
   pub what : StagedFits d u
 
+-- clock, lifetimes and next numbers
+pub record HeadFits (now : ℕ) (h : Head) : Type 0 where
+  pub time : now ≤ timeMax
+  pub readLife : Within 1 lifeMax (h .readLife)
+  pub writeLife : Within 1 lifeMax (h .writeLife)
+  pub nextSession : Within 1 numberMax (h .nextSession)
+  pub nextToken : Within 1 numberMax (h .nextToken)
+
 pub record KeysFit (until : ℕ) (ks : List Key) : Type 0 where
   pub length : size ks ≡ keyCount
   pub values : (k : ℕ) {v : Value} → getD ks k blank .value ≡ some v → Fine v
@@ -70,11 +78,7 @@ pub record LiveAs (l : List Slot) (n : ℕ) : Type 0 where
 
 pub record WellFormed (s : State) (now : ℕ) : Type 0 where
   pub orderly : Orderly s
-  pub time : now ≤ timeMax
-  pub readLife : Within 1 lifeMax (s .head .readLife)
-  pub writeLife : Within 1 lifeMax (s .head .writeLife)
-  pub nextSession : Within 1 numberMax (s .head .nextSession)
-  pub nextToken : Within 1 numberMax (s .head .nextToken)
+  pub head : HeadFits now (s .head)
   pub keys : KeysFit (now + s .head .readLife) (s .keys)
   pub sessions : SessionsFit (now + s .head .writeLife) (s .sessions)
   pub rows : RowsFit (s .rows)

@@ -5,17 +5,16 @@ use mathlib.Core.Bool.{Bool, true, false}
 use mathlib.Core.Logic.{_⊎_, inl, inr}
 use mathlib.Core.List.{List, [], _∷_, map}
 use mathlib.Core.Option.{Option, none, some}
-use Prim.Native.Nat.{ℕ, suc, _+_, _≤_, _<_}
+use Prim.Native.Nat.{ℕ, _+_, _≤_, _<_}
 use native.Mathlib.Omega.{arith}
 use lib.ListN.{length, getD, set, length-set, length-map, List·getD-map}
 use Rattle.lent.specs.Tables.{if_then_else_}
 use Rattle.machine.specs.Sizes.{keyCount, stepMax, timeMax, numberMax}
 use Rattle.machine.specs.Tables.{place, mem, putAt}
 use Rattle.machine.specs.Session.{opened, advanced, sealed, isDue}
-use Rattle.machine.specs.State.{Value, Lease, Key, blank, Slot, noSession, session, Staged, nothing, staged, DROP, Row, noRow, row, State, free, freeRow, sessionPlace, sessionOf, rowPlace, rowOf, sessionAt, rowAt, cached, leaseOn}
-use Rattle.machine.specs.Expiry.{withKeys, withSessions, withRows, withClock, setValue, setLease, freeIfOf, freeSession, settle, leave, finish, lapsedValue, lapsedLease, those, expire}
+use Rattle.machine.specs.State.{Value, Lease, Key, blank, noSession, session, Staged, nothing, staged, DROP, Row, noRow, row, State, free, freeRow, sessionPlace, sessionOf, rowPlace, rowOf, sessionAt, rowAt, cached, leaseOn}
+use Rattle.machine.specs.Expiry.{withKeys, withRows, withClock, setValue, setLease, freeIfOf, freeSession, settle, leave, finish, lapsedValue, lapsedLease, those, expire}
 use Rattle.machine.specs.Effects.{begins, leased, fills, toCache, onSlot, restaged, withSession, withStaged}
-use Rattle.machine.specs.declared.Life.{Life}
 use Rattle.machine.specs.declared.Session.{Session}
 use Rattle.machine.proofs.Views
 use Rattle.machine.proofs.Orderly
@@ -25,11 +24,7 @@ use Rattle.machine.proofs.WellFormed.{Fine, LeaseFits, SessionFits, Sta
 pub well-later : (s : State) (a b : ℕ) → a ≤ b → b ≤ timeMax → WellFormed s a → WellFormed s b
 well-later s a b q t h = record {
   orderly = h .orderly;
-  time = t;
-  readLife = h .readLife;
-  writeLife = h .writeLife;
-  nextSession = h .nextSession;
-  nextToken = h .nextToken;
+  head = record { time = t; readLife = h .head .readLife; writeLife = h .head .writeLife; nextSession = h .head .nextSession; nextToken = h .head .nextToken };
   keys = record {
     length = h .keys .length;
     values = h .keys .values;
@@ -43,7 +38,7 @@ well-later s a b q t h = record {
 
 -- the clock is set to that time
 pub well-clock : (s : State) (now : ℕ) → WellFormed s now → WellFormed (withClock s now) now
-well-clock s now h = record { orderly = Orderly.orderly-clock s now (h .orderly); time = h .time; readLife = h .readLife; writeLife = h .writeLife; nextSession = h .nextSession; nextToken = h .nextToken; keys = h .keys; sessions = h .sessions; rows = h .rows; live = h .live }
+well-clock s now h = record { orderly = Orderly.orderly-clock s now (h .orderly); head = record { time = h .head .time; readLife = h .head .readLife; writeLife = h .head .writeLife; nextSession = h .head .nextSession; nextToken = h .head .nextToken }; keys = h .keys; sessions = h .sessions; rows = h .rows; live = h .live }
 
 settle-length : (ns : List ℕ) (f : Staged → Option Value) (rs : List Row) (ks : List Key) → length (settle ns f rs ks) ≡ length ks
 settle-length ns f [] ks = refl
@@ -59,11 +54,7 @@ module _ (s : State) (now : ℕ) (h : WellFormed s now) where
   pub well-keys : (ks : List Key) → length ks ≡ length (s .keys) → ((k : ℕ) (v : Value) → getD ks k blank .value ≡ some v → Fine v) → ((k : ℕ) (l : Lease) → getD ks k blank .lease ≡ some l → leaseOn s k ≡ some l) → WellFormed (withKeys s ks) now
   well-keys ks n fv fl = record {
     orderly = Orderly.orderly-keys s ks (λ k l p. inl (fl k l p)) (h .orderly);
-    time = h .time;
-    readLife = h .readLife;
-    writeLife = h .writeLife;
-    nextSession = h .nextSession;
-    nextToken = h .nextToken;
+    head = h .head;
     keys = record {
       length = n ∙ h .keys .length;
       values = λ k {v} e. fv k v e;
@@ -102,11 +93,7 @@ module _ (s : State) (now : ℕ) (h : WellFormed s now) where
   unfolding leave
   well-leave ns = record {
     orderly = Orderly.orderly-leave s ns (h .orderly);
-    time = h .time;
-    readLife = h .readLife;
-    writeLife = h .writeLife;
-    nextSession = h .nextSession;
-    nextToken = h .nextToken;
+    head = h .head;
     keys = h .keys;
     sessions = record { length = length-map (s .sessions) (freeSession ns) ∙ h .sessions .length; each = λ i {x} e. h .sessions .each i (Orderly.was-session ns (s .sessions) i x e .0) };
     rows = record {
@@ -154,11 +141,7 @@ module _ (s : State) (now : ℕ) (h : WellFormed s now) where
   unfolding leased
   well-leased k room unheld = record {
     orderly = Orderly.orderly-leased s now k unheld (h .orderly);
-    time = h .time;
-    readLife = h .readLife;
-    writeLife = h .writeLife;
-    nextSession = h .nextSession;
-    nextToken = (omega (arith, h .nextToken .0), room);
+    head = record { time = h .head .time; readLife = h .head .readLife; writeLife = h .head .writeLife; nextSession = h .head .nextSession; nextToken = (omega (arith, h .head .nextToken .0), room) };
     keys = record {
       length = length-set (s .keys) k _ ∙ h .keys .length;
       values = λ j p. h .keys .values j (sym (Views.lease-value (s .keys) k (some new) j) ∙ p);
@@ -184,7 +167,7 @@ module _ (s : State) (now : ℕ) (h : WellFormed s now) where
 
       fits : (j : ℕ) (l : Lease) → Seen j l → LeaseFits (now + s .head .readLife) l
       fits j l (inl p) = h .keys .leases j p
-      fits j l (inr p) = subst (LeaseFits (now + s .head .readLife)) (p .1) (record { positive = h .nextToken .0; deadline = omega arith })
+      fits j l (inr p) = subst (LeaseFits (now + s .head .readLife)) (p .1) (record { positive = h .head .nextToken .0; deadline = omega arith })
 
       two : (i j : ℕ) (l m : Lease) → l .token ≡ m .token → Seen i l → Seen j m → i ≡ j
       two i j l m e (inl p) (inl q) = h .keys .distinct i j p q e
@@ -197,11 +180,7 @@ module _ (s : State) (now : ℕ) (h : WellFormed s now) where
   unfolding begins
   well-begin room = record {
     orderly = Orderly.orderly-begin s now (h .orderly);
-    time = h .time;
-    readLife = h .readLife;
-    writeLife = h .writeLife;
-    nextSession = (omega (arith, h .nextSession .0), room);
-    nextToken = h .nextToken;
+    head = record { time = h .head .time; readLife = h .head .readLife; writeLife = h .head .writeLife; nextSession = (omega (arith, h .head .nextSession .0), room); nextToken = h .head .nextToken };
     keys = h .keys;
     sessions = record {
       length = length-set (s .sessions) at (session new) ∙ h .sessions .length;
@@ -218,7 +197,7 @@ module _ (s : State) (now : ℕ) (h : WellFormed s now) where
       at = place free (s .sessions)
 
       fits : SessionFits (now + s .head .writeLife) new
-      fits = record { positive = h .nextSession .0; steps = omega arith; deadline = λ t p. let q : now + s .head .writeLife ≡ t = cc in omega arith }
+      fits = record { positive = h .head .nextSession .0; steps = omega arith; deadline = λ t p. let q : now + s .head .writeLife ≡ t = cc in omega arith }
 
       -- a live session is not in the free place
       still : (j : ℕ) (x : Session) → sessionAt s j ≡ session x → getD (set (s .sessions) at (session new)) j noSession ≡ session x
@@ -232,11 +211,7 @@ module _ (s : State) (now : ℕ) (h : WellFormed s now) where
       → ((i : ℕ) (x : Session) → sessionAt s i ≡ session x → x .number ≡ n → SessionFits (now + s .head .writeLife) (f x)) → WellFormed (withSession s n f) now
   well-session n f same fits = record {
     orderly = Orderly.orderly-session s n f same (h .orderly);
-    time = h .time;
-    readLife = h .readLife;
-    writeLife = h .writeLife;
-    nextSession = h .nextSession;
-    nextToken = h .nextToken;
+    head = h .head;
     keys = h .keys;
     sessions = record { length = length-set (s .sessions) (sessionPlace s n) (onSlot f (sessionOf s n)) ∙ h .sessions .length; each = λ i {x} e. each i x (Orderly.was-slot s n f i x e) };
     rows = h .rows;
@@ -263,11 +238,7 @@ module _ (s : State) (now : ℕ) (h : WellFormed s now) where
       → WellFormed (withKeys (withRows s (putAt freeRow (row n k kind nothing) (s .rows))) (setLease (s .keys) k none)) now
   well-granted n k kind small range alive unheld sharing = record {
     orderly = Orderly.orderly-granted s n k kind range sharing (h .orderly);
-    time = h .time;
-    readLife = h .readLife;
-    writeLife = h .writeLife;
-    nextSession = h .nextSession;
-    nextToken = h .nextToken;
+    head = h .head;
     keys = record {
       length = length-set (s .keys) k _ ∙ h .keys .length;
       values = λ j p. h .keys .values j (sym (Views.lease-value (s .keys) k none j) ∙ p);
@@ -308,11 +279,7 @@ module _ (s : State) (now : ℕ) (h : WellFormed s now) where
   well-restaged : (n k : ℕ) (u : Staged) → ((i d : ℕ) (v : Staged) → rowAt s i ≡ row n k d v → StagedFits d u) → Orderly.Orderly (withStaged s n k u) → WellFormed (withStaged s n k u) now
   well-restaged n k u fits o = record {
     orderly = o;
-    time = h .time;
-    readLife = h .readLife;
-    writeLife = h .writeLife;
-    nextSession = h .nextSession;
-    nextToken = h .nextToken;
+    head = h .head;
     keys = h .keys;
     sessions = h .sessions;
     rows = record {
