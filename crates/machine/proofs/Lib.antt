@@ -7,5 +7,17 @@ pub mod DeltaFits
 pub mod KeepsSound
 pub mod Wait
 pub mod Views
+pub mod Ranges
+pub mod Decided
+pub mod Examples
+pub mod Table
+pub mod Refused
 pub mod Orderly
 pub mod Accepted
+pub mod Shape
+pub mod Invariant
+pub mod Frames
+pub mod Promise
+pub mod Demand3
+pub mod Tested
+pub mod Witness

@@ -1,7 +1,7 @@
 // The words of the machine: commands, answers, the session record with its methods, and the decision table.
 ghost use mathlib.Core.Path.{_≡_};
 ghost use Prim.Native.Nat.{_<_};
-ghost use Rattle.machine.specs.Words.{wordOf, detailOf, isKind, isOperation};
+ghost use Rattle.machine.specs.Words.{isKind, isOperation};
 ghost use Rattle.machine.specs.Decision.{decision};
 ghost use Rattle.machine.specs.Session.{opened, stepOf, advanced, sealed, isSealed, isDue, validationOf};
 ghost use Rattle.machine.specs.Sizes.{stepMax};
@@ -126,9 +126,10 @@ impl Session {
         if count < step {
             return Step::Ahead;
         }
+        let life = self.life;
         Step::Acts(Session {
             number: self.number,
-            life: self.life,
+            life,
             count: self.count + 1,
         })
     }
@@ -225,69 +226,5 @@ pub fn is_operation(operation: u64) -> bool
     match operation {
         1..=4 => true,
         _ => false,
-    }
-}
-
-// The number of an answer's word.
-pub fn word(a: Answer) -> u8
-    ensures { λ r. ⌜ r ≡ wordOf a ⌝ }
-{
-    match a {
-        Answer::Refused(_) => 0,
-        Answer::Ready => 1,
-        Answer::Session(_) => 2,
-        Answer::Hit { at: _, length: _ } => 3,
-        Answer::Ask => 4,
-        Answer::Backoff(_) => 5,
-        Answer::Lease(_) => 6,
-        Answer::Stored => 7,
-        Answer::Ignored => 8,
-        Answer::Held => 9,
-        Answer::Granted => 10,
-        Answer::Aborted => 11,
-        Answer::Staged => 12,
-        Answer::Repeated => 13,
-        Answer::Dropped => 14,
-        Answer::Validated => 15,
-        Answer::Lost => 16,
-        Answer::Done => 17,
-        Answer::Undone => 18,
-        Answer::Evicted => 19,
-        Answer::Empty => 20,
-        Answer::Ticked => 21,
-        Answer::Value(_) => 22,
-        Answer::None => 23,
-    }
-}
-
-// The number that goes with an answer's word, or 0: a session, a token, a wait, a length or a refusal's number.
-pub fn detail(a: Answer) -> u64
-    ensures { λ r. ⌜ r ≡ detailOf a ⌝ }
-{
-    match a {
-        Answer::Session(n) => n as u64,
-        Answer::Hit { at: _, length } => length as u64,
-        Answer::Backoff(w) => w,
-        Answer::Lease(t) => t as u64,
-        Answer::Value(length) => length as u64,
-        Answer::Refused(n) => n as u64,
-        Answer::Ready => 0,
-        Answer::Ask => 0,
-        Answer::Stored => 0,
-        Answer::Ignored => 0,
-        Answer::Held => 0,
-        Answer::Granted => 0,
-        Answer::Aborted => 0,
-        Answer::Staged => 0,
-        Answer::Repeated => 0,
-        Answer::Dropped => 0,
-        Answer::Validated => 0,
-        Answer::Lost => 0,
-        Answer::Done => 0,
-        Answer::Undone => 0,
-        Answer::Evicted => 0,
-        Answer::Empty => 0,
-        Answer::Ticked => 0,
-        Answer::None => 0,
     }
 }

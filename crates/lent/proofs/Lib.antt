@@ -1,0 +1,9 @@
+pub mod Bits
+pub mod Choices
+pub mod Numbers
+pub mod Same
+pub mod Splice
+pub mod Stores
+pub mod Tables
+pub mod Walks
+pub mod Zeros

@@ -1,0 +1,66 @@
+-- Lists with the same elements: `same` is equality, and it goes part by part, so that a record is compared window by window.
+-- Assumes nothing.
+use mathlib.Core.Path.{_≡_, refl, sym, ap, ap₂, _∙_}
+use mathlib.Core.Bool.{Bool, true, false, _&&_, and-true, and-assoc}
+use mathlib.Core.List.{List, [], _∷_, _++_}
+use Prim.Native.Nat.{ℕ, zero, suc, _+_, _≤_, _<_}
+use native.Mathlib.Omega.{arith}
+use lib.ListN.{length, getD, take, drop, length-append}
+use lib.Seq.{take-at, drop-at}
+use lib.Dec.{eqb}
+use borrow.Author.Tests.{eq-eqb, eqb-true}
+use Rattle.lent.specs.Bytes.{win, zeros}
+use Rattle.lent.specs.Tables.{allZero, same}
+use Rattle.lent.proofs.Choices.{and-yes, clash}
+use Rattle.lent.proofs.Splice.{length-win, win-add, win-one}
+
+-- ---- same and equal
+
+pub same-refl : (l : List ℕ) → same l l ≡ true
+unfolding same
+same-refl [] = refl
+same-refl (x ∷ l) = rw (eq-eqb x x refl, same-refl l)
+
+pub same-eq : (k l : List ℕ) → same k l ≡ true → k ≡ l
+unfolding same
+same-eq [] [] e = refl
+same-eq [] (y ∷ l) e = clash false e refl
+same-eq (x ∷ k) [] e = clash false e refl
+same-eq (x ∷ k) (y ∷ l) e =
+    let b = and-yes (eqb x y) (same k l) e in
+    rw (eqb-true x y (b .0), same-eq k l (b .1))
+
+pub eq-same : (k l : List ℕ) → k ≡ l → same k l ≡ true
+eq-same k l e = rw e (same-refl l)
+
+pub same-zeros : (l : List ℕ) (n : ℕ) → length l ≡ n → same l (zeros n) ≡ allZero l
+unfolding same allZero
+same-zeros [] n e = rw (← e)
+same-zeros (x ∷ l) n e = rw (← e, same-zeros l (length l) refl)
+
+-- ---- part by part
+
+-- x falls into a front as long as p, and the rest
+pub same-split : (x p q : List ℕ) (m : ℕ) → length p ≡ m → m ≤ length x → same x (p ++ q) ≡ same (take m x) p && same (drop m x) q
+unfolding same
+same-split x [] q m e h = rw (← e)
+same-split [] (y ∷ p) q m e h = absurd (omega arith)
+same-split (z ∷ x) (y ∷ p) q m e h =
+    rw (← e) (rw (same-split x p q (length p) refl (omega arith)) (sym (and-assoc (eqb z y) (same (take (length p) x) p) (same (drop (length p) x) q))))
+
+pub same-append : (x y p q : List ℕ) (m : ℕ) → length x ≡ m → length p ≡ m → same (x ++ y) (p ++ q) ≡ same x p && same y q
+same-append x y p q m e f =
+    same-split (x ++ y) p q m f (simp length-append (omega arith)) ∙ rw (take-at x y m e, drop-at x y m e)
+
+module _ (s : List ℕ) (a m n : ℕ) (p q : List ℕ) (e : length p ≡ m) (h : a + (m + n) ≤ length s) where
+  pub same-win : same (win s a (m + n)) (p ++ q) ≡ same (win s a m) p && same (win s (a + m) n) q
+  same-win = rw (win-add s a m n) (same-append (win s a m) (win s (a + m) n) p q m (length-win s a m (omega arith)) e)
+
+  -- the front is the same
+  pub same-skip : win s a m ≡ p → same (win s a (m + n)) (p ++ q) ≡ same (win s (a + m) n) q
+  same-skip f = same-win ∙ rw (f, same-refl p)
+
+-- one byte
+pub same-one : (s : List ℕ) (a v : ℕ) → a < length s → same (win s a 1) (v ∷ []) ≡ eqb (getD s a 0) v
+unfolding same
+same-one s a v h = rw (win-one s a h) (and-true (eqb (getD s a 0) v))

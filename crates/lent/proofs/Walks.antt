@@ -1,0 +1,167 @@
+-- Tests of each index, of some index, the search for the first, and a step for each index: what a loop over the indices needs at a
+-- turn, and what its result says of the indices. All by induction on the number of indices.
+-- Assumes nothing.
+use mathlib.Core.Path.{_≡_, refl, sym, ap, _∙_}
+use mathlib.Core.Logic.{_⊎_, ⊎-elim, inl, inr}
+use mathlib.Core.Bool.{Bool, true, false, not, _&&_, _||_, and-true, and-false, and-assoc, or-true}
+use Prim.Native.Nat.{ℕ, zero, suc, _+_, _-_, _≤_, _<_}
+use native.Mathlib.Nat.{eq-or-lt-of-le, le-of-suc-le-suc, not-suc-le-zero}
+use native.Mathlib.Omega.{arith}
+use native.Mathlib.Numerals.{add-one}
+use Rattle.lent.specs.Tables.{if_then_else_, every, some, first, iter}
+use Rattle.lent.proofs.Choices.{and-swap, and-yes, or-no, clash}
+
+-- ---- each index
+
+module _ (p : ℕ → Bool) where
+  pub every-all : (n i : ℕ) → every p n ≡ true → i < n → p i ≡ true
+  unfolding every
+  every-all zero i e h = absurd (not-suc-le-zero h)
+  every-all (suc n) i e h =
+      let b = and-yes (every p n) (p n) e in
+      ⊎-elim (λ q. rw q (b .1)) (λ l. every-all n i (b .0) l) (eq-or-lt-of-le (le-of-suc-le-suc h))
+
+  pub all-every : (n : ℕ) → ((i : ℕ) → i < n → p i ≡ true) → every p n ≡ true
+  unfolding every
+  all-every zero f = refl
+  all-every (suc n) f = rw (all-every n (λ i h. f i (omega arith)), f n (omega arith))
+
+  pub every-fails : (n i : ℕ) → i < n → p i ≡ false → every p n ≡ false
+  every-fails n i h e = go (every p n) refl
+    where
+      go : (t : Bool) → every p n ≡ t → every p n ≡ false
+      go true q = clash (p i) (every-all n i q h) e
+      go false q = q
+
+  -- a turn of a loop that tests each index
+  pub every-more : (i : ℕ) → every p i ≡ true → p i ≡ true → every p (i + 1) ≡ true
+  unfolding every
+  every-more i h e = rw (add-one, h, e)
+
+  pub every-front : (n : ℕ) → every p (suc n) ≡ p 0 && every (λ i. p (suc i)) n
+  unfolding every
+  every-front zero = sym (and-true (p 0))
+  every-front (suc n) = rw (every-front n) (and-assoc (p 0) (every (λ i. p (suc i)) n) (p (suc n)))
+
+pub every-both : (p q : ℕ → Bool) (n : ℕ) → every p n && every q n ≡ every (λ i. p i && q i) n
+unfolding every
+every-both p q zero = refl
+every-both p q (suc n) = and-swap (every p n) (p n) (every q n) (q n) ∙ rw (every-both p q n)
+
+pub every-cong : (p q : ℕ → Bool) (n : ℕ) → ((i : ℕ) → i < n → p i ≡ q i) → every p n ≡ every q n
+unfolding every
+every-cong p q zero f = refl
+every-cong p q (suc n) f = rw (every-cong p q n (λ i h. f i (omega arith)), f n (omega arith))
+
+-- ---- some index
+
+module _ (p : ℕ → Bool) where
+  pub some-at : (n i : ℕ) → i < n → p i ≡ true → some p n ≡ true
+  unfolding some
+  some-at zero i h e = absurd (not-suc-le-zero h)
+  some-at (suc n) i h e =
+      ⊎-elim (λ q. rw (← q, e, or-true)) (λ l. rw (some-at n i l e)) (eq-or-lt-of-le (le-of-suc-le-suc h))
+
+  pub some-is : (n : ℕ) → some p n ≡ true → (i : ℕ) × (i < n) × (p i ≡ true)
+  unfolding some
+  some-is zero e = clash false e refl
+  some-is (suc n) e = go (some p n) e (some-is n)
+    where
+      go : (t : Bool) → t || p n ≡ true → (t ≡ true → (i : ℕ) × (i < n) × (p i ≡ true)) → (i : ℕ) × (i < suc n) × (p i ≡ true)
+      go true r f = let w = f refl in (w .0, omega arith, w .2)
+      go false r f = (n, omega arith, r)
+
+  pub some-none : (n i : ℕ) → some p n ≡ false → i < n → p i ≡ false
+  unfolding some
+  some-none zero i e h = absurd (not-suc-le-zero h)
+  some-none (suc n) i e h =
+      let b = or-no (some p n) (p n) e in
+      ⊎-elim (λ q. rw q (b .1)) (λ l. some-none n i (b .0) l) (eq-or-lt-of-le (le-of-suc-le-suc h))
+
+  pub none-some : (n : ℕ) → ((i : ℕ) → i < n → p i ≡ false) → some p n ≡ false
+  unfolding some
+  none-some zero f = refl
+  none-some (suc n) f = rw (none-some n (λ i h. f i (omega arith)), f n (omega arith))
+
+  -- a turn of a loop that has found none
+  pub some-more : (i : ℕ) → some p i ≡ false → p i ≡ false → some p (i + 1) ≡ false
+  unfolding some
+  some-more i h e = rw (add-one, h, e)
+
+pub some-cong : (p q : ℕ → Bool) (n : ℕ) → ((i : ℕ) → i < n → p i ≡ q i) → some p n ≡ some q n
+unfolding some
+some-cong p q zero f = refl
+some-cong p q (suc n) f = rw (some-cong p q n (λ i h. f i (omega arith)), f n (omega arith))
+
+-- ---- the first index
+
+module _ {A : Type 0} (p : ℕ → Bool) (hit : ℕ → A) (miss : A) where
+  -- a turn of a loop that searches from i below n
+  pub first-hit : (n i : ℕ) → i < n → p i ≡ true → first p hit miss i (n - i) ≡ hit i
+  unfolding first
+  first-hit n i h e = let q : n - i ≡ suc (n - i - 1) = omega arith in rw (q, e)
+
+  pub first-miss : (n i : ℕ) → i < n → p i ≡ false → first p hit miss i (n - i) ≡ first p hit miss (i + 1) (n - (i + 1))
+  unfolding first
+  first-miss n i h e = let q : n - i ≡ suc (n - (i + 1)) = omega arith in rw (q, e, add-one)
+
+  pub first-end : (n i : ℕ) → n ≤ i → first p hit miss i (n - i) ≡ miss
+  unfolding first
+  first-end n i h = let q : n - i ≡ 0 = omega arith in rw q
+
+  -- what a search of the n indices from i comes to: the first at which p holds, or none
+  pub data Search (r : A) (i n : ℕ) : Type 0 where
+    found : (k : ℕ) → r ≡ hit k → i ≤ k → k < i + n → p k ≡ true → ((j : ℕ) → i ≤ j → j < k → p j ≡ false) → Search r i n
+    nowhere : r ≡ miss → ((j : ℕ) → i ≤ j → j < i + n → p j ≡ false) → Search r i n
+
+  pub first-search : (n i : ℕ) → Search (first p hit miss i n) i n
+  unfolding first
+  first-search zero i = nowhere refl (λ j a b. absurd (omega arith))
+  first-search (suc n) i = turn (p i) refl (first-search n (suc i))
+    where
+      -- before j, or at it
+      from : (j : ℕ) → i ≤ j → (p i ≡ false) → (suc i ≤ j → p j ≡ false) → p j ≡ false
+      from j a e f = ⊎-elim (λ q. rw (← q) e) f (eq-or-lt-of-le a)
+
+      turn : {r : A} (t : Bool) → p i ≡ t → Search r (suc i) n → Search (if t then hit i else r) i (suc n)
+      turn true e s = found i refl (omega arith) (omega arith) e (λ j a b. absurd (omega arith))
+      turn false e (found k q a b c f) = found k q (omega arith) (omega arith) c (λ j u v. from j u e (λ l. f j l v))
+      turn false e (nowhere q f) = nowhere q (λ j u v. from j u e (λ l. f j l (omega arith)))
+
+  pub first-none : (n i : ℕ) → ((j : ℕ) → i ≤ j → j < i + n → p j ≡ false) → first p hit miss i n ≡ miss
+  unfolding first
+  first-none zero i f = refl
+  first-none (suc n) i f = rw (f i (omega arith) (omega arith), first-none n (suc i) (λ j a b. f j (omega arith) (omega arith)))
+
+  pub first-is : (n i k : ℕ) → i ≤ k → k < i + n → p k ≡ true → ((j : ℕ) → i ≤ j → j < k → p j ≡ false) → first p hit miss i n ≡ hit k
+  unfolding first
+  first-is zero i k a b e f = absurd (omega arith)
+  first-is (suc n) i k a b e f =
+      ⊎-elim (λ q. let t : p i ≡ true = rw q e in rw t (ap hit q))
+      (λ l. rw (f i (omega arith) l) (first-is n (suc i) k l (omega arith) e (λ j u v. f j (omega arith) v)))
+      (eq-or-lt-of-le a)
+
+pub first-cong : {A : Type 0} (p q : ℕ → Bool) (hit : ℕ → A) (miss : A) (n i : ℕ) → ((k : ℕ) → k < i + n → p k ≡ q k) → first p hit miss i n ≡ first q hit miss i n
+unfolding first
+first-cong p q hit miss zero i e = refl
+first-cong p q hit miss (suc n) i e =
+    rw (e i (omega arith), first-cong p q hit miss n (suc i) (λ k h. e k (omega arith)))
+
+-- ---- a step for each index
+
+pub iter-more : {A : Type 0} (step : ℕ → A → A) (i : ℕ) (a : A) → iter step (i + 1) a ≡ step i (iter step i a)
+unfolding iter
+iter-more step i a = rw add-one
+
+-- two walks whose steps keep to a relation
+pub iter-both : {A B : Type 0} (R : A → B → Type 0) (f : ℕ → A → A) (g : ℕ → B → B) (n : ℕ) (a : A) (b : B)
+    → ((i : ℕ) (x : A) (y : B) → i < n → R x y → R (f i x) (g i y)) → R a b → R (iter f n a) (iter g n b)
+unfolding iter
+iter-both R f g zero a b k r = r
+iter-both R f g (suc n) a b k r = k n _ _ (omega arith) (iter-both R f g n a b (λ i x y h. k i x y (omega arith)) r)
+
+pub iter-keeps : {A : Type 0} (P : A → Type 0) (f : ℕ → A → A) (n : ℕ) (a : A) → ((i : ℕ) (x : A) → i < n → P x → P (f i x)) → P a → P (iter f n a)
+iter-keeps P f n a k p = iter-both (λ x y. P x) f f n a a (λ i x y h q. k i x h q) p
+
+pub iter-cong : {A : Type 0} (f g : ℕ → A → A) (n : ℕ) (a : A) → ((i : ℕ) (x : A) → i < n → f i x ≡ g i x) → iter f n a ≡ iter g n a
+iter-cong f g n a k = iter-both (λ x y. x ≡ y) f g n a a (λ i x y h q. rw q (k i y h)) refl

@@ -1,0 +1,46 @@
+use mathlib.Core.Path.{refl}
+use Prim.Native.Nat.{_%_, _/_}
+use Rattle.lent.specs.Bytes.{bytes32}
+use mathlib.Core.Path.{_≡_, sym, ap, _∙_}
+use Rattle.lent.proofs.Splice.{splice-next}
+use borrow.Author.Needs.{needs}
+use Rattle.lent.proofs.store_u64.Statement.{statement}
+use Rattle.lent.proofs.store_u64.Tie as tie
+use Rattle.lent.proofs.store_u64.Reads as reads
+use Rattle.lent.proofs.store_u64.Lts as lts
+use Rattle.lent.proofs.store_u32.Reads as store-u32-reads
+
+cast-store-u32 : tie.Need-cast-store-u32
+cast-store-u32 c = search needs
+
+store-u32-requires : tie.Need-store-u32-requires
+store-u32-requires c κs = search needs
+
+add-store-u32 : tie.Need-add-store-u32
+add-store-u32 c = search needs
+
+cast-store-u32-2 : tie.Need-cast-store-u32-2
+cast-store-u32-2 c = search needs
+
+store-u32-requires-2 : tie.Need-store-u32-requires-2
+store-u32-requires-2 c κs = search needs
+
+same-length : tie.Need-same-length
+same-length c = search needs
+
+returns : tie.Need-returns
+returns c = let d = c .before .before .before .before .before .before in
+    let a = d .before .before .before .args in
+    c .before .before .store-u322 .ensures ∙ rw (d .store-u32 .ensures) (splice-next (a .s .now) (bytes32 (a .v % 4294967296)) (bytes32 (a .v / 4294967296)) (a .at) 4 refl (search needs))
+
+pub store-u64-spec : {M : Type 1} → statement M
+store-u64-spec =
+    tie.close
+    (tie.spec
+    cast-store-u32
+    store-u32-requires
+    add-store-u32
+    cast-store-u32-2
+    store-u32-requires-2
+    same-length
+    returns)

@@ -1,0 +1,39 @@
+-- The code's table of numbers is the definition's table of words, entry by entry: the second is the first put through `verdictOf`.
+use mathlib.Core.Path.{_≡_, refl, sym, ap, _∙_}
+use mathlib.Core.List.{List, [], _∷_, map}
+use Prim.Native.Nat.{ℕ, zero, suc, _<_}
+use native.Mathlib.Omega.{arith}
+use lib.Dec.{eqb}
+use lib.ListN.{length, getD, getD-replicate, List·getD-map}
+use Rattle.lent.specs.Tables.{if_then_else_}
+use Rattle.machine.specs.Decision.{decisions, decision}
+use Rattle.machine.specs.declared.Verdict.{Verdict}
+use Rattle.machine.specs.declared.Verdict.the-variants.{Grant, Void, BackOff, Abort}
+
+abbrev pub numbers : List (List ℕ)
+numbers =
+    (0 ∷ 0 ∷ 0 ∷ 0 ∷ [])
+    ∷ (2 ∷ 1 ∷ 1 ∷ 1 ∷ [])
+    ∷ (2 ∷ 0 ∷ 3 ∷ 3 ∷ [])
+    ∷ (2 ∷ 3 ∷ 3 ∷ 3 ∷ [])
+    ∷ (2 ∷ 3 ∷ 3 ∷ 3 ∷ [])
+    ∷ []
+
+abbrev pub verdictOf : ℕ → Verdict
+verdictOf n = if eqb n 0 then Grant else if eqb n 1 then Void else if eqb n 2 then BackOff else Abort
+
+-- within a list the default does not matter
+pub getD-any : {A : Type 0} (l : List A) (i : ℕ) (d e : A) → i < length l → getD l i d ≡ getD l i e
+getD-any [] i d e h = absurd (omega arith)
+getD-any (x ∷ l) zero d e h = refl
+getD-any (x ∷ l) (suc i) d e h = getD-any l i d e (omega arith)
+
+four : (held : ℕ) → held < 5 → length (getD numbers held []) ≡ 4
+four held h = sym (List·getD-map (λ (l : List ℕ). length l) numbers held []) ∙ getD-replicate 5 held 4 0 h
+
+pub entry-decides : (held asked : ℕ) → held < 5 → asked < 4 → verdictOf (getD (getD numbers held []) asked 0) ≡ decision held asked
+unfolding decision
+entry-decides held asked h a =
+    ap verdictOf (getD-any (getD numbers held []) asked 0 3 (rw (four held h) a))
+    ∙ sym (List·getD-map verdictOf (getD numbers held []) asked 3)
+    ∙ ap (λ (l : List Verdict). getD l asked Abort) (sym (List·getD-map (map verdictOf) numbers held []))
