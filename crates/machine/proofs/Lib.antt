@@ -1,3 +1,11 @@
+pub mod Every
+pub mod WellFormed
+pub mod SoundMeans
+pub mod SoundFacts
+pub mod WellKept
+pub mod DeltaFits
+pub mod KeepsSound
+pub mod Wait
 pub mod Views
 pub mod Ranges
 pub mod Decided
