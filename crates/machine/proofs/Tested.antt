@@ -11,7 +11,7 @@ use borrow.Author.Tests.{eqb-true, eq-eqb}
 use lib.Dec.{eqb}
 use lib.ListN.{getD}
 use Rattle.lent.specs.Tables.{if_then_else_, same, allZero}
-use Rattle.lent.proofs.Same.{same-eq, eq-same}
+use Rattle.lent.proofs.Equal.{same-eq, eq-same}
 use Rattle.machine.specs.Tables.{any}
 use Rattle.machine.specs.Words.{wordOf}
 use Rattle.machine.specs.Session.{sealedLife}
