@@ -115,6 +115,9 @@ splice-next s x y a n e h =
     rw (← p, drop-append-add, drop-drop) in
     rw (e, ← append-assoc (take a s) x (drop (a + n) s), take-at (take a s ++ x) (drop (a + n) s) (a + n) p, d, q) (simp append-assoc)
 
+pub splice-then : (s t u x y : List ℕ) (a n : ℕ) → t ≡ splice s a x → u ≡ splice t (a + n) y → length x ≡ n → a + n + length y ≤ length s → u ≡ splice s a (x ++ y)
+splice-then s t u x y a n e f l h = f ∙ rw e (splice-next s x y a n l h)
+
 -- behind a front p nothing changes but the place
 pub splice-append : (p r x : List ℕ) (n k : ℕ) → length p ≡ n → splice (p ++ r) (n + k) x ≡ p ++ splice r k x
 unfolding splice

@@ -145,11 +145,11 @@ module _ {A : Type 0} (p : ℕ → Bool) (hit : ℕ → A) (miss : A) where
       (λ l. rw (f i (omega arith) l) (first-is n (suc i) k l (omega arith) e (λ j u v. f j (omega arith) v)))
       (eq-or-lt-of-le a)
 
-pub first-cong : {A : Type 0} (p q : ℕ → Bool) (hit : ℕ → A) (miss : A) (n i : ℕ) → ((k : ℕ) → k < i + n → p k ≡ q k) → first p hit miss i n ≡ first q hit miss i n
+pub first-cong : {A : Type 0} (p q : ℕ → Bool) (hit : ℕ → A) (miss : A) (n i : ℕ) → ((k : ℕ) → i ≤ k → k < i + n → p k ≡ q k) → first p hit miss i n ≡ first q hit miss i n
 unfolding first
 first-cong p q hit miss zero i e = refl
 first-cong p q hit miss (suc n) i e =
-    rw (e i (omega arith), first-cong p q hit miss n (suc i) (λ k h. e k (omega arith)))
+    rw (e i (omega arith) (omega arith), first-cong p q hit miss n (suc i) (λ k a b. e k (omega arith) (omega arith)))
 
 -- ---- a step for each index
 
