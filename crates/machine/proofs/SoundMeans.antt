@@ -11,6 +11,8 @@ use lib.Dec.{eqb, leb, ltb}
 use lib.ListN.{length, getD}
 use borrow.Author.Tests.{eqb-true, eq-eqb, leb-true, le-leb, ltb-true, lt-ltb}
 use Rattle.lent.specs.Tables.{if_then_else_, every, some as someAt}
+use Rattle.lent.proofs.Choices.{and-yes}
+use Rattle.lent.proofs.Walks.{all-every, some-at, some-is}
 use Rattle.machine.specs.Sizes.{keyCount, sessionCount, rowCount, valueMax, stepMax, lifeMax, timeMax, numberMax}
 use Rattle.machine.specs.Words.{within, isKind}
 use Rattle.machine.specs.State.{Value, Head, Lease, Key, blank, Slot, noSession, session, Staged, nothing, staged, DROP, Row, noRow, row, State, keyOf, sessionAt, rowAt, leaseOn}
@@ -18,16 +20,13 @@ use Rattle.machine.specs.Sound.{clockSound, lifetime, nextSound, headSou
 use Rattle.machine.specs.Sound.{tokenIn, numberIn, numberAt, tokenAt, distinct, numbersDistinct, tokensDistinct, liveRow, rowsLive, once, rowsOnce, shares, rowsAlone, leaseless, rowsLeaseless, joined, sized, sound}
 use Rattle.machine.specs.declared.Life.{Life}
 use Rattle.machine.specs.declared.Session.{Session}
-use Rattle.machine.proofs.Views.{caseOf, clash, and-true₁, and-true₂, no-some, no-row, no-session}
-use Rattle.machine.proofs.Every.{all-every, some-at, at-some, pairs-all, all-pairs, distinct-same, same-distinct, place-inside, every-place, order}
+use Rattle.machine.proofs.Views.{caseOf, clash, no-some, no-row, no-session}
+use Rattle.machine.proofs.Ranges.{within-inside}
+use Rattle.machine.proofs.Every.{pairs-all, all-pairs, distinct-same, same-distinct, place-inside, every-place, order}
 use Rattle.machine.proofs.WellFormed.{Fine, Within, LeaseFits, SessionFits, StagedFits, RowFits, LiveAs, WellFormed}
 
--- both tests hold exactly if their conjunction does
-pub both : {a b : Bool} → a ≡ true → b ≡ true → (a && b) ≡ true
+both : {a b : Bool} → a ≡ true → b ≡ true → (a && b) ≡ true
 both p q = rw (p, q)
-
-pub each-of : (a b : Bool) → (a && b) ≡ true → (a ≡ true) × (b ≡ true)
-each-of a b e = (and-true₁ a b e, and-true₂ a b e)
 
 -- a conjunction of many, and each of its parts by its place
 abbrev all : List Bool → Bool
@@ -39,19 +38,19 @@ parts : (l : List Bool) → all l ≡ true → (i : ℕ) → getD l i true ≡ t
 parts [] e i = refl
 parts (a ∷ []) e zero = e
 parts (a ∷ []) e (suc i) = refl
-parts (a ∷ b ∷ l) e zero = and-true₁ a (all (b ∷ l)) e
-parts (a ∷ b ∷ l) e (suc i) = parts (b ∷ l) (and-true₂ a (all (b ∷ l)) e) i
+parts (a ∷ b ∷ l) e zero = and-yes a (all (b ∷ l)) e .0
+parts (a ∷ b ∷ l) e (suc i) = parts (b ∷ l) (and-yes a (all (b ∷ l)) e .1) i
 
 -- Numbers
 
 pub within-means : (low high n : ℕ) → within low high n ≡ true → Within low high n
-within-means low high n e = let r = each-of (leb low n) (leb n high) e in (leb-true low n (r .0), leb-true n high (r .1))
+within-means low high n e = let r = and-yes (leb low n) (leb n high) e in (leb-true low n (r .0), leb-true n high (r .1))
 
 pub means-within : (low high n : ℕ) → Within low high n → within low high n ≡ true
-means-within low high n r = both (le-leb low n (r .0)) (le-leb n high (r .1))
+means-within low high n r = sym (within-inside low high n (r .0) (r .1))
 
 given-means : (next n : ℕ) → given next n ≡ true → (1 ≤ n) × (n < next)
-given-means next n e = let r = each-of (leb 1 n) (ltb n next) e in (leb-true 1 n (r .0), ltb-true n next (r .1))
+given-means next n e = let r = and-yes (leb 1 n) (ltb n next) e in (leb-true 1 n (r .0), ltb-true n next (r .1))
 
 means-given : (next n : ℕ) → 1 ≤ n → n < next → given next n ≡ true
 means-given next n p q = both (le-leb 1 n p) (lt-ltb n next q)
@@ -59,7 +58,7 @@ means-given next n p q = both (le-leb 1 n p) (lt-ltb n next q)
 -- One record alone
 
 pub value-means : (v : Value) → valueSound v ≡ true → Fine v
-value-means v e = let r = each-of (leb (length v) valueMax) (every (λ i. ltb (getD v i 0) 256) (length v)) e in
+value-means v e = let r = and-yes (leb (length v) valueMax) (every (λ i. ltb (getD v i 0) 256) (length v)) e in
     record { short = leb-true (length v) valueMax (r .0); bytes = λ i. ltb-true (getD v i 0) 256 (every-place v 0 (λ b. ltb b 256) (length v) refl refl (r .1) i) }
 
 pub means-value : (v : Value) → Fine v → valueSound v ≡ true
@@ -71,7 +70,7 @@ means-cached (some v) f = means-value v (f v refl)
 
 staged-means : (d : ℕ) (u : Staged) → stagedSound d u ≡ true → StagedFits d u
 staged-means d nothing e = tt
-staged-means d (staged v) e = let r = each-of (leb 2 d) (valueSound v) e in (leb-true 2 d (r .0), value-means v (r .1))
+staged-means d (staged v) e = let r = and-yes (leb 2 d) (valueSound v) e in (leb-true 2 d (r .0), value-means v (r .1))
 staged-means d DROP e = eqb-true d 3 e
 
 means-staged : (d : ℕ) (u : Staged) → StagedFits d u → stagedSound d u ≡ true
@@ -82,9 +81,9 @@ means-staged d DROP f = eq-eqb d 3 f
 row-means : (n k d : ℕ) (u : Staged) → rowSound (row n k d u) ≡ true → (1 ≤ n) × Within 1 3 d × RowFits k d u
 unfolding rowSound
 row-means n k d u e =
-    let a = each-of (leb 1 n) (ltb k keyCount && (isKind d && stagedSound d u)) e in
-    let b = each-of (ltb k keyCount) (isKind d && stagedSound d u) (a .1) in
-    let c = each-of (isKind d) (stagedSound d u) (b .1) in
+    let a = and-yes (leb 1 n) (ltb k keyCount && (isKind d && stagedSound d u)) e in
+    let b = and-yes (ltb k keyCount) (isKind d && stagedSound d u) (a .1) in
+    let c = and-yes (isKind d) (stagedSound d u) (b .1) in
     (leb-true 1 n (a .0), within-means 1 3 d (c .0), record { key = ltb-true k keyCount (b .0); what = staged-means d u (c .1) })
 
 means-row : (r : Row) → ((n k d : ℕ) (u : Staged) → r ≡ row n k d u → (1 ≤ n) × Within 1 3 d × RowFits k d u) → rowSound r ≡ true
@@ -103,7 +102,7 @@ module _ (h : Head) where
   lease-means : (l : Lease) → leaseSound h (some l) ≡ true → LeaseOf l
   unfolding LeaseOf
   lease-means l e =
-      let a = each-of (given (h .nextToken) (l .token)) (leb (l .until) (h .clock + h .readLife)) e in
+      let a = and-yes (given (h .nextToken) (l .token)) (leb (l .until) (h .clock + h .readLife)) e in
       let b = given-means (h .nextToken) (l .token) (a .0) in
       (b .1, record { positive = b .0; deadline = leb-true (l .until) (h .clock + h .readLife) (a .1) })
 
@@ -119,9 +118,9 @@ module _ (h : Head) where
   session-means : (x : Session) → sessionSound h (session x) ≡ true → SessionOf x
   unfolding sessionSound SessionOf
   session-means x e =
-      let a = each-of (given (h .nextSession) (x .number)) (leb (x .count) stepMax && lifeSound h (x .life)) e in
+      let a = and-yes (given (h .nextSession) (x .number)) (leb (x .count) stepMax && lifeSound h (x .life)) e in
       let b = given-means (h .nextSession) (x .number) (a .0) in
-      let c = each-of (leb (x .count) stepMax) (lifeSound h (x .life)) (a .1) in
+      let c = and-yes (leb (x .count) stepMax) (lifeSound h (x .life)) (a .1) in
       (b .1, record { positive = b .0; steps = leb-true (x .count) stepMax (c .0); deadline = λ t q. leb-true t (h .clock + h .writeLife) (rw q at (c .1)) })
 
   means-session : (e : Slot) → ((x : Session) → e ≡ session x → SessionOf x) → sessionSound h e ≡ true
@@ -141,12 +140,12 @@ means-once (row m j d u) noRow f = refl
 means-once (row m j d u) (row n k e v) f = go (caseOf (eqb m n && eqb j k))
   where
     go : ((eqb m n && eqb j k) ≡ true) ⊎ ((eqb m n && eqb j k) ≡ false) → not (eqb m n && eqb j k) ≡ true
-    go (inl h) = let r = each-of (eqb m n) (eqb j k) h in
+    go (inl h) = let r = and-yes (eqb m n) (eqb j k) h in
         let p : row n k e v ≡ row m j e v = rw (eqb-true m n (r .0), eqb-true j k (r .1)) in absurd (f m j d e u v refl p)
     go (inr h) = rw h
 
 shares-means : (r t : Row) {m n k d e : ℕ} {u v : Staged} → shares r t ≡ true → r ≡ row m k d u → t ≡ row n k e v → (d ≡ 1) × (e ≡ 1)
-shares-means r t {k} {d} {e} h p q = let x = each-of (eqb d 1) (eqb e 1) (rw (p, q, eq-eqb k k refl) at h) in (eqb-true d 1 (x .0), eqb-true e 1 (x .1))
+shares-means r t {k} {d} {e} h p q = let x = and-yes (eqb d 1) (eqb e 1) (rw (p, q, eq-eqb k k refl) at h) in (eqb-true d 1 (x .0), eqb-true e 1 (x .1))
 
 means-shares : (r t : Row) → ((m n k d e : ℕ) (u v : Staged) → r ≡ row m k d u → t ≡ row n k e v → (d ≡ 1) × (e ≡ 1)) → shares r t ≡ true
 means-shares noRow t f = refl
@@ -179,12 +178,12 @@ module _ (s : State) where
 
   live-means : (n : ℕ) → 1 ≤ n → someAt (λ j. eqb (numberAt s j) n) sessionCount ≡ true → LiveAs (s .sessions) n
   live-means n h e =
-      let r = some-at (λ j. eqb (numberAt s j) n) sessionCount e in
+      let r = some-is (λ j. eqb (numberAt s j) n) sessionCount e in
       let x = named (sessionAt s (r .0)) n (eqb-true (numberAt s (r .0)) n (r .2)) h in
       record { place = r .0; live = x .0; is = x .1; number = x .2 }
 
   means-live : (n : ℕ) → length (s .sessions) ≡ sessionCount → LiveAs (s .sessions) n → someAt (λ j. eqb (numberAt s j) n) sessionCount ≡ true
-  means-live n c x = at-some (λ j. eqb (numberAt s j) n) sessionCount (x .place) (session-inside (x .place) (x .live) c (x .is)) (eq-eqb (numberAt s (x .place)) n (ap numberIn (x .is) ∙ x .number))
+  means-live n c x = some-at (λ j. eqb (numberAt s j) n) sessionCount (x .place) (session-inside (x .place) (x .live) c (x .is)) (eq-eqb (numberAt s (x .place)) n (ap numberIn (x .is) ∙ x .number))
 
 -- A sound state, part by part
 
@@ -216,7 +215,7 @@ module _ (s : State) (e : sound s ≡ true) where
 
   key-at : (k : ℕ) → (cachedSound (keyOf s k .value) ≡ true) × (leaseSound (s .head) (leaseOn s k) ≡ true)
   unfolding keySound
-  key-at k = each-of (cachedSound (keyOf s k .value)) (leaseSound (s .head) (leaseOn s k)) (every-place (s .keys) blank (keySound (s .head)) keyCount keys-length refl (sound-parts 2) k)
+  key-at k = and-yes (cachedSound (keyOf s k .value)) (leaseSound (s .head) (leaseOn s k)) (every-place (s .keys) blank (keySound (s .head)) keyCount keys-length refl (sound-parts 2) k)
 
   lease-at : (k : ℕ) (l : Lease) → leaseOn s k ≡ some l → LeaseOf (s .head) l
   lease-at k l p = lease-means (s .head) l (rw p at (key-at k .1))

@@ -68,7 +68,7 @@ module _ (s : State) (now : ℕ) (h : WellFormed s now) where
 
   pub well-fill : (k : ℕ) (v : Value) → Fine v → WellFormed (fills s k v .after) now
   unfolding fills
-  well-fill k v fv = well-keys (set (s .keys) k new) (length-set (s .keys) k new) (λ j u p. value j u p (Views.after-set (s .keys) k new j blank)) (λ j l p. lease j l p (Views.after-set (s .keys) k new j blank))
+  well-fill k v fv = well-keys (set (s .keys) k new) (length-set (s .keys) k new) (λ j u p. value j u p (Views.after-set (s .keys) k new j blank)) (Orderly.filled-was s k v)
     where
       new : Key
       new = record { value = some v; lease = none }
@@ -77,11 +77,6 @@ module _ (s : State) (now : ℕ) (h : WellFormed s now) where
       value j u p (Views.other x y) = h .keys .values j (sym (ap (λ (z : Key). z .value) y) ∙ p)
       value j u p (Views.here x y) = subst Fine (Views.some-eq v u (sym (ap (λ (z : Key). z .value) y) ∙ p)) fv
       value j u p (Views.out x y z) = Views.no-some u (sym (ap (λ (z : Key). z .value) y) ∙ p)
-
-      lease : (j : ℕ) (l : Lease) → getD (set (s .keys) k new) j blank .lease ≡ some l → Views.AfterSet (s .keys) k new j blank → leaseOn s j ≡ some l
-      lease j l p (Views.other x y) = sym (ap (λ (z : Key). z .lease) y) ∙ p
-      lease j l p (Views.here x y) = Views.no-some l (sym (ap (λ (z : Key). z .lease) y) ∙ p)
-      lease j l p (Views.out x y z) = Views.no-some l (sym (ap (λ (z : Key). z .lease) y) ∙ p)
 
   pub well-evict : (k : ℕ) → WellFormed (withKeys s (setValue (s .keys) k none)) now
   well-evict k = well-keys (setValue (s .keys) k none) (length-set (s .keys) k _)
@@ -121,13 +116,10 @@ well-finish s now ns f good h = well-leave (withKeys s ks) now
 pub well-expire : (s : State) (now at : ℕ) → WellFormed s at → WellFormed (expire now s) at
 unfolding expire
 well-expire s now at h = well-finish (withKeys s ks) at (those (isDue now) (s .sessions)) lapsedValue (λ d u v p e. Views.no-some v e)
-    (well-keys s at h ks (length-map (s .keys) (lapsedLease now)) (λ k v e. h .keys .values k (ap (λ (x : Key). x .value) (sym (key k)) ∙ e)) (λ k l e. Views.unlapsed-was now (leaseOn s k) l (ap (λ (x : Key). x .lease) (sym (key k)) ∙ e)))
+    (well-keys s at h ks (length-map (s .keys) (lapsedLease now)) (λ k v e. h .keys .values k (sym (ap (λ (x : Key). x .value) (List·getD-map (lapsedLease now) (s .keys) k blank)) ∙ e)) (Orderly.lapsed-was s now))
   where
     ks : List Key
     ks = map (lapsedLease now) (s .keys)
-
-    key : (k : ℕ) → getD ks k blank ≡ lapsedLease now (getD (s .keys) k blank)
-    key k = List·getD-map (lapsedLease now) (s .keys) k blank
 
 -- DONE caches what was staged
 pub to-cache-fine : (d : ℕ) (u : Staged) (v : Value) → StagedFits d u → toCache u ≡ some v → Fine v
@@ -242,8 +234,8 @@ module _ (s : State) (now : ℕ) (h : WellFormed s now) where
     keys = record {
       length = length-set (s .keys) k _ ∙ h .keys .length;
       values = λ j p. h .keys .values j (sym (Views.lease-value (s .keys) k none j) ∙ p);
-      leases = λ j {l} p. h .keys .leases j (lease j l p);
-      distinct = λ i j {l} {m} p q e. h .keys .distinct i j (lease i l p) (lease j m q) e;
+      leases = λ j {l} p. h .keys .leases j (Orderly.voided-was s k j l p .1);
+      distinct = λ i j {l} {m} p q e. h .keys .distinct i j (Orderly.voided-was s k i l p .1) (Orderly.voided-was s k j m q .1) e;
     };
     sessions = h .sessions;
     rows = record {
@@ -265,9 +257,6 @@ module _ (s : State) (now : ℕ) (h : WellFormed s now) where
 
       seen : (i m j d : ℕ) (v : Staged) → getD (set (s .rows) at new) i noRow ≡ row m j d v → Seen i m j d v
       seen i m j d v e = elim (Orderly.was-set (s .rows) at new i noRow (row m j d v) (Views.no-row m j d v) e) [ inl p ↦ inl p | inr p ↦ (let q = p .1 in inr (p .0, cc, cc, cc, cc)) ]
-
-      lease : (j : ℕ) (l : Lease) → getD (setLease (s .keys) k none) j blank .lease ≡ some l → leaseOn s j ≡ some l
-      lease j l p = elim (Views.lease-after (s .keys) k none j) [ inl x ↦ sym (x .1) ∙ p | inr x ↦ elim (x .1) [ inl y ↦ Views.no-some l (sym y ∙ p) | inr y ↦ Views.no-some l (sym y ∙ p) ] ]
 
       two : (i j m q d c : ℕ) (u v : Staged) → Seen i m q d u → Seen j m q c v → i ≡ j
       two i j m q d c u v (inl x) (inl y) = h .rows .once i j x y
