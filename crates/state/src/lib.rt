@@ -1,62 +1,75 @@
-// Whether a lent buffer holds a well-formed state: record by record, then what joins records.
+// Whether a lent buffer holds a well-formed state: the header, each record by itself, then what joins records.
 ghost use mathlib.Core.Path.{_≡_};
 ghost use Prim.Native.Nat.{_+_, _≤_};
 ghost use lib.ListN.{length};
-ghost use Rattle.machine.specs.Sizes.{stateSize, keyWidth, rowWidth, sessionWidth, valueMax};
+ghost use Rattle.lent.specs.Bytes.{le64, le32};
+ghost use Rattle.machine.specs.Sizes.{stateSize, keyWidth, rowWidth, sessionWidth, valueMax, timeMax};
 ghost use Rattle.machine.specs.Sound.{lifetime};
-ghost use Rattle.state.specs.Forms.{headFormed, fitted, valueFormed, leaseFormed, keyFormed, lifeFormed, sessionFormed, stagedFormed, rowFormed, keysFormed, rowsFormed, sessionsFormed};
+ghost use Rattle.layout.specs.WellFormed.{wellFormed};
+ghost use Rattle.state.specs.Forms.{headFormed, fitted, valueFormed, leaseFormed, keyFormed, stagedFormed, rowFormed, lifeFormed, sessionFormed, keysFormed, rowsFormed, sessionsFormed, tablesFormed, recordsJoin, stateFormed};
 
-// docs/LAYOUT.md
+// The layout: docs/LAYOUT.md.
 const STATE_SIZE: usize = 65536;
-const KEY_COUNT: usize = 256;
 const KEYS_FROM: usize = 64;
 const KEY_WIDTH: usize = 80;
-const ROW_COUNT: usize = 384;
+const KEY_COUNT: usize = 256;
 const ROWS_FROM: usize = 20544;
 const ROW_WIDTH: usize = 72;
-const SESSION_COUNT: usize = 128;
+const ROW_COUNT: usize = 384;
 const SESSIONS_FROM: usize = 48192;
 const SESSION_WIDTH: usize = 16;
-const VALUE_MAX: usize = 64;
+const SESSION_COUNT: usize = 128;
+const REST_FROM: usize = 50240;
+const REST_SIZE: usize = 15296;
 
-// The limits of the header's numbers and of a count.
+// Places in the header, and of the token in a key's record.
+const CLOCK: usize = 0;
+const READ_LIFE: usize = 8;
+const WRITE_LIFE: usize = 12;
+const NEXT_SESSION: usize = 16;
+const NEXT_TOKEN: usize = 20;
+const TOKENS_FROM: usize = 68;
+
 const TIME_MAX: u64 = 281474976710655;
 const LIFE_MAX: u32 = 600000;
 const STEP_MAX: u32 = 1000;
+const VALUE_MAX: usize = 64;
 
-fn lifetime(n: u32) -> bool
-    ensures { λ r. ⌜ r ≡ lifetime n ⌝ }
+fn lifetime_at(s: &[u8], at: usize) -> bool
+    requires { ⌜ at + 4 ≤ length (now s) ⌝ }
+    ensures { λ r. ⌜ r ≡ lifetime (le32 (now (s .entry)) at) ⌝ }
 {
-    match n {
-        1..=LIFE_MAX => true,
-        _ => false,
+    let n = lent::load_u32(s, at);
+    if n < 1 {
+        return false;
     }
+    n <= LIFE_MAX
 }
 
 fn head_formed(s: &[u8]) -> bool
     requires { ⌜ length (now s) ≡ stateSize ⌝ }
     ensures { λ r. ⌜ r ≡ headFormed (now (s .entry)) ⌝ }
 {
-    if TIME_MAX < lent::load_u64(s, 0) {
+    if TIME_MAX < lent::load_u64(s, CLOCK) {
         return false;
     }
-    if !lifetime(lent::load_u32(s, 8)) {
+    if !lifetime_at(s, READ_LIFE) {
         return false;
     }
-    if !lifetime(lent::load_u32(s, 12)) {
+    if !lifetime_at(s, WRITE_LIFE) {
         return false;
     }
-    if lent::load_u32(s, 16) == 0 {
+    if lent::load_u32(s, NEXT_SESSION) < 1 {
         return false;
     }
-    if lent::load_u32(s, 20) == 0 {
+    if lent::load_u32(s, NEXT_TOKEN) < 1 {
         return false;
     }
     lent::is_zero(s, 24, 40)
 }
 
 // A value of n bytes in the 64 at `at`, zero behind it.
-fn fitted(r: &[u8], at: usize, n: usize) -> bool
+fn is_fitted(r: &[u8], at: usize, n: usize) -> bool
     requires { ⌜ at + valueMax ≤ length (now r) ⌝ }
     ensures { λ b. ⌜ b ≡ fitted (now (r .entry)) at n ⌝ }
 {
@@ -82,7 +95,7 @@ fn value_formed(r: &[u8]) -> bool
     if r[3] != 0 {
         return false;
     }
-    fitted(r, 16, lent::index(r[1]))
+    is_fitted(r, 16, lent::index(r[1]))
 }
 
 fn lease_formed(r: &[u8], limit: u64, next: u32) -> bool
@@ -110,17 +123,44 @@ fn key_formed(r: &[u8], limit: u64, next: u32) -> bool
     lease_formed(r, limit, next)
 }
 
-fn keys_formed(s: &[u8], limit: u64, next: u32) -> bool
-    requires { ⌜ length (now s) ≡ stateSize ⌝ }
-    ensures { λ r. ⌜ r ≡ keysFormed limit next (now (s .entry)) ⌝ }
+fn staged_formed(r: &[u8], kind: u8) -> bool
+    requires { ⌜ length (now r) ≡ rowWidth ⌝ }
+    ensures { λ b. ⌜ b ≡ stagedFormed kind (now (r .entry)) ⌝ }
 {
-    for i in 0..KEY_COUNT {
-        let at = KEYS_FROM + i * KEY_WIDTH;
-        if !key_formed(&s[at..at + KEY_WIDTH], limit, next) {
+    let mark = r[6];
+    if mark == 1 {
+        if kind < 2 {
             return false;
         }
+        return is_fitted(r, 8, lent::index(r[7]));
     }
-    true
+    if mark == 2 {
+        if kind != 3 {
+            return false;
+        }
+        return lent::is_zero(r, 7, 65);
+    }
+    if mark != 0 {
+        return false;
+    }
+    lent::is_zero(r, 7, 65)
+}
+
+fn row_formed(r: &[u8]) -> bool
+    requires { ⌜ length (now r) ≡ rowWidth ⌝ }
+    ensures { λ b. ⌜ b ≡ rowFormed (now (r .entry)) ⌝ }
+{
+    if lent::load_u32(r, 0) == 0 {
+        return lent::is_zero(r, 0, ROW_WIDTH);
+    }
+    let kind = r[5];
+    if kind < 1 {
+        return false;
+    }
+    if 3 < kind {
+        return false;
+    }
+    staged_formed(r, kind)
 }
 
 fn life_formed(r: &[u8], limit: u64) -> bool
@@ -157,54 +197,27 @@ fn session_formed(r: &[u8], limit: u64, next: u32) -> bool
     life_formed(r, limit)
 }
 
-fn sessions_formed(s: &[u8], limit: u64, next: u32) -> bool
-    requires { ⌜ length (now s) ≡ stateSize ⌝ }
-    ensures { λ r. ⌜ r ≡ sessionsFormed limit next (now (s .entry)) ⌝ }
+// The clock plus the lifetime at `life`, which no deadline may pass.
+fn limit(s: &[u8], life: usize) -> u64
+    requires { ⌜ (length (now s) ≡ stateSize) × ((life + 4 ≤ stateSize) × (le64 (now s) 0 ≤ timeMax)) ⌝ }
+    ensures { λ r. ⌜ r ≡ le64 (now (s .entry)) 0 + le32 (now (s .entry)) life ⌝ }
 {
-    for i in 0..SESSION_COUNT {
-        let at = SESSIONS_FROM + i * SESSION_WIDTH;
-        if !session_formed(&s[at..at + SESSION_WIDTH], limit, next) {
+    lent::load_u64(s, CLOCK) + lent::load_u32(s, life) as u64
+}
+
+fn keys_formed(s: &[u8]) -> bool
+    requires { ⌜ (length (now s) ≡ stateSize) × (le64 (now s) 0 ≤ timeMax) ⌝ }
+    ensures { λ r. ⌜ r ≡ keysFormed (now (s .entry)) ⌝ }
+{
+    let until = limit(s, READ_LIFE);
+    let next = lent::load_u32(s, NEXT_TOKEN);
+    for k in 0..KEY_COUNT {
+        let at = KEYS_FROM + k * KEY_WIDTH;
+        if !key_formed(&s[at..at + KEY_WIDTH], until, next) {
             return false;
         }
     }
     true
-}
-
-fn staged_formed(r: &[u8], kind: u8) -> bool
-    requires { ⌜ length (now r) ≡ rowWidth ⌝ }
-    ensures { λ b. ⌜ b ≡ stagedFormed kind (now (r .entry)) ⌝ }
-{
-    let mark = r[6];
-    if mark == 1 {
-        if kind < 2 {
-            return false;
-        }
-        return fitted(r, 8, lent::index(r[7]));
-    }
-    if mark == 2 {
-        if kind != 3 {
-            return false;
-        }
-        return lent::is_zero(r, 7, 65);
-    }
-    if mark != 0 {
-        return false;
-    }
-    lent::is_zero(r, 7, 65)
-}
-
-fn row_formed(r: &[u8]) -> bool
-    requires { ⌜ length (now r) ≡ rowWidth ⌝ }
-    ensures { λ b. ⌜ b ≡ rowFormed (now (r .entry)) ⌝ }
-{
-    if lent::load_u32(r, 0) == 0 {
-        return lent::is_zero(r, 0, ROW_WIDTH);
-    }
-    let kind = r[5];
-    if !machine::is_kind(kind as u64) {
-        return false;
-    }
-    staged_formed(r, kind)
 }
 
 fn rows_formed(s: &[u8]) -> bool
@@ -218,4 +231,70 @@ fn rows_formed(s: &[u8]) -> bool
         }
     }
     true
+}
+
+fn sessions_formed(s: &[u8]) -> bool
+    requires { ⌜ (length (now s) ≡ stateSize) × (le64 (now s) 0 ≤ timeMax) ⌝ }
+    ensures { λ r. ⌜ r ≡ sessionsFormed (now (s .entry)) ⌝ }
+{
+    let until = limit(s, WRITE_LIFE);
+    let next = lent::load_u32(s, NEXT_SESSION);
+    for j in 0..SESSION_COUNT {
+        let at = SESSIONS_FROM + j * SESSION_WIDTH;
+        if !session_formed(&s[at..at + SESSION_WIDTH], until, next) {
+            return false;
+        }
+    }
+    true
+}
+
+fn tables_formed(s: &[u8]) -> bool
+    requires { ⌜ (length (now s) ≡ stateSize) × (le64 (now s) 0 ≤ timeMax) ⌝ }
+    ensures { λ r. ⌜ r ≡ tablesFormed (now (s .entry)) ⌝ }
+{
+    if !keys_formed(s) {
+        return false;
+    }
+    if !rows_formed(s) {
+        return false;
+    }
+    if !sessions_formed(s) {
+        return false;
+    }
+    lent::is_zero(s, REST_FROM, REST_SIZE)
+}
+
+fn records_join(s: &[u8]) -> bool
+    requires { ⌜ length (now s) ≡ stateSize ⌝ }
+    ensures { λ r. ⌜ r ≡ recordsJoin (now (s .entry)) ⌝ }
+{
+    if !joins::distinct(s, SESSIONS_FROM, SESSION_WIDTH, SESSION_COUNT) {
+        return false;
+    }
+    if !joins::distinct(s, TOKENS_FROM, KEY_WIDTH, KEY_COUNT) {
+        return false;
+    }
+    joins::rows_join(s)
+}
+
+fn state_formed(s: &[u8]) -> bool
+    requires { ⌜ length (now s) ≡ stateSize ⌝ }
+    ensures { λ r. ⌜ r ≡ stateFormed (now (s .entry)) ⌝ }
+{
+    if !head_formed(s) {
+        return false;
+    }
+    if !tables_formed(s) {
+        return false;
+    }
+    records_join(s)
+}
+
+pub fn well_formed(s: &[u8]) -> bool
+    ensures { λ r. ⌜ r ≡ wellFormed (now (s .entry)) ⌝ }
+{
+    if s.len() != STATE_SIZE {
+        return false;
+    }
+    state_formed(s)
 }

@@ -1,68 +1,58 @@
+-- Each test is the next of the header's conditions; a next number of 32 bits is at most 2^32 - 1.
+-- Assumes nothing.
+use native.Mathlib.Omega.{arith}
+use borrow.Author.Tests.{le-leb, lt-leb}
 use borrow.Author.Needs.{needs}
+use Rattle.lent.specs.Bytes.{le32, le64}
+use Rattle.machine.specs.Sizes.{timeMax, numberMax}
+use Rattle.machine.specs.Sound.{headSound}
+use Rattle.layout.specs.Layout.{decHead}
+use Rattle.state.specs.Forms.{headFormed}
+use Rattle.state.proofs.Tests.{failed, passed}
 use Rattle.state.proofs.head_formed.Statement.{statement}
 use Rattle.state.proofs.head_formed.Tie as tie
-use Rattle.state.proofs.head_formed.Reads as reads
-use Rattle.state.proofs.head_formed.Lts as lts
-use Rattle.lent.proofs.is_zero.Reads as is-zero-reads
-use Rattle.lent.proofs.load_u32.Reads as load-u32-reads
-use Rattle.lent.proofs.load_u64.Reads as load-u64-reads
-use Rattle.state.proofs.lifetime.Reads as lifetime-reads
 
--- src/lib.rt:40:19
 load-u64-requires : tie.Need-load-u64-requires
 load-u64-requires c κs = search needs
 
--- src/lib.rt:41:9
 returns : tie.Need-returns
-returns c = ?
+unfolding headFormed headSound decHead
+returns c = let s = c .before .before .before .args .s .now in rw (lt-leb (le64 s 0) timeMax (omega arith))
 
--- src/lib.rt:43:18
+lifetime-at-requires : tie.Need-lifetime-at-requires
+lifetime-at-requires c κs = search needs
+
+returns-2 : tie.Need-returns-2
+unfolding headFormed headSound decHead
+returns-2 c = let s = c .before .before .before .before .before .args .s .now in rw (le-leb (le64 s 0) timeMax (omega arith), failed (c .before .lifetime-at .ensures) (c .if2 .taken))
+
+lifetime-at-requires-2 : tie.Need-lifetime-at-requires-2
+lifetime-at-requires-2 c κs = search needs
+
+returns-3 : tie.Need-returns-3
+unfolding headFormed headSound decHead
+returns-3 c = let s = c .before .before .before .before .before .before .before .args .s .now in rw (le-leb (le64 s 0) timeMax (omega arith), passed (c .before .before .before .lifetime-at .ensures) (c .before .before .if2 .left), failed (c .before .lifetime-at2 .ensures) (c .if3 .taken))
+
 load-u32-requires : tie.Need-load-u32-requires
 load-u32-requires c κs = search needs
 
--- src/lib.rt:43:9
-lifetime-requires : tie.Need-lifetime-requires
-lifetime-requires c κs = search needs
+returns-4 : tie.Need-returns-4
+unfolding headFormed headSound decHead
+returns-4 c = let s = c .before .before .before .before .before .before .before .before .before .args .s .now in rw (le-leb (le64 s 0) timeMax (omega arith), passed (c .before .before .before .before .before .lifetime-at .ensures) (c .before .before .before .before .if2 .left), passed (c .before .before .before .lifetime-at2 .ensures) (c .before .before .if3 .left), lt-leb 1 (le32 s 16) (omega arith))
 
--- src/lib.rt:44:9
-returns-2 : tie.Need-returns-2
-returns-2 c = ?
-
--- src/lib.rt:46:18
 load-u32-requires-2 : tie.Need-load-u32-requires-2
 load-u32-requires-2 c κs = search needs
 
--- src/lib.rt:46:9
-lifetime-requires-2 : tie.Need-lifetime-requires-2
-lifetime-requires-2 c κs = search needs
-
--- src/lib.rt:47:9
-returns-3 : tie.Need-returns-3
-returns-3 c = ?
-
--- src/lib.rt:49:8
-load-u32-requires-3 : tie.Need-load-u32-requires-3
-load-u32-requires-3 c κs = search needs
-
--- src/lib.rt:50:9
-returns-4 : tie.Need-returns-4
-returns-4 c = ?
-
--- src/lib.rt:52:8
-load-u32-requires-4 : tie.Need-load-u32-requires-4
-load-u32-requires-4 c κs = search needs
-
--- src/lib.rt:53:9
 returns-5 : tie.Need-returns-5
-returns-5 c = ?
+unfolding headFormed headSound decHead
+returns-5 c = let s = c .before .before .before .before .before .before .before .before .before .before .before .args .s .now in rw (le-leb (le64 s 0) timeMax (omega arith), passed (c .before .before .before .before .before .before .before .lifetime-at .ensures) (c .before .before .before .before .before .before .if2 .left), passed (c .before .before .before .before .before .lifetime-at2 .ensures) (c .before .before .before .before .if3 .left), le-leb 1 (le32 s 16) (omega arith), le-leb (le32 s 16) numberMax (omega arith), lt-leb 1 (le32 s 20) (omega arith))
 
--- src/lib.rt:55:5
 is-zero-requires : tie.Need-is-zero-requires
 is-zero-requires c κs = search needs
 
--- src/lib.rt:36:1
 returns-6 : tie.Need-returns-6
-returns-6 c = ?
+unfolding headFormed headSound decHead
+returns-6 c = let s = c .before .before .before .before .before .before .before .before .before .before .before .before .args .s .now in rw (le-leb (le64 s 0) timeMax (omega arith), passed (c .before .before .before .before .before .before .before .before .lifetime-at .ensures) (c .before .before .before .before .before .before .before .if2 .left), passed (c .before .before .before .before .before .before .lifetime-at2 .ensures) (c .before .before .before .before .before .if3 .left), le-leb 1 (le32 s 16) (omega arith), le-leb (le32 s 16) numberMax (omega arith), le-leb 1 (le32 s 20) (omega arith), le-leb (le32 s 20) numberMax (omega arith)) (c .is-zero .ensures)
 
 pub head-formed-spec : {M : Type 1} → statement M
 head-formed-spec =
@@ -70,15 +60,13 @@ head-formed-spec =
     (tie.spec
     load-u64-requires
     returns
-    load-u32-requires
-    lifetime-requires
+    lifetime-at-requires
     returns-2
-    load-u32-requires-2
-    lifetime-requires-2
+    lifetime-at-requires-2
     returns-3
-    load-u32-requires-3
+    load-u32-requires
     returns-4
-    load-u32-requires-4
+    load-u32-requires-2
     returns-5
     is-zero-requires
     returns-6)

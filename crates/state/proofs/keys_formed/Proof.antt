@@ -1,66 +1,72 @@
+-- After k turns each of the first k keys is formed.
+-- Assumes nothing.
+use Prim.Native.Nat.{_+_, _-_, _*_, _≤_}
+use mathlib.Core.Path.{_≡_, sym}
+use mathlib.Core.Bool.{true}
+use native.Mathlib.Omega.{arith}
+use borrow.Author.Needs.{needs}
+use Rattle.lent.specs.Bytes.{win}
+use Rattle.lent.specs.Tables.{every}
+use Rattle.lent.proofs.Walks.{every-none, every-more, every-fails}
+use Rattle.machine.specs.Sizes.{keyCount, keysFrom, keyWidth}
+use Rattle.layout.specs.Layout.{decHead}
+use Rattle.state.specs.Forms.{keyFormed, keysFormed}
+use Rattle.state.proofs.Tests.{record-failed, record-passed}
 use Rattle.state.proofs.keys_formed.Statement.{statement}
 use Rattle.state.proofs.keys_formed.Tie as tie
-use Rattle.state.proofs.keys_formed.Reads as reads
-use Rattle.state.proofs.keys_formed.Lts as lts
-use Rattle.state.proofs.key_formed.Reads as key-formed-reads
 
 abbrev Inv-loop : tie.InvT-loop
-Inv-loop s limit next i₀ i = ?
+Inv-loop s until next k₀ k = (k ≤ keyCount) × (every (λ j. keyFormed until next (win s (keysFrom + j * keyWidth) keyWidth)) k ≡ true)
 
 abbrev μ-loop : tie.MeasureT-loop
-μ-loop s limit next i₀ i = ?
+μ-loop s until next k₀ k = keyCount - k
 
--- src/lib.rt:117:5
+limit-requires : tie.Need-limit-requires Inv-loop μ-loop
+limit-requires c κs = search needs
+
+load-u32-requires : tie.Need-load-u32-requires Inv-loop μ-loop
+load-u32-requires c κs = search needs
+
 loop-holds : tie.Need-loop-holds Inv-loop μ-loop
-loop-holds c = ?
+loop-holds c = (search needs, every-none _)
 
--- src/lib.rt:118:30
 mul-at : tie.Need-mul-at Inv-loop μ-loop
-mul-at c = ?
+mul-at c = search needs
 
--- src/lib.rt:118:18
 add-at : tie.Need-add-at Inv-loop μ-loop
-add-at c = ?
+add-at c = search needs
 
--- src/lib.rt:119:31
 add-key-formed : tie.Need-add-key-formed Inv-loop μ-loop
-add-key-formed c = ?
+add-key-formed c = search needs
 
--- src/lib.rt:119:24
 sub-key-formed : tie.Need-sub-key-formed Inv-loop μ-loop
-sub-key-formed c = ?
+sub-key-formed c = search needs
 
--- src/lib.rt:119:24
 part-key-formed-start : tie.Need-part-key-formed-start Inv-loop μ-loop
-part-key-formed-start c = ?
+part-key-formed-start c = search needs
 
--- src/lib.rt:119:24
 part-key-formed-end : tie.Need-part-key-formed-end Inv-loop μ-loop
-part-key-formed-end c = ?
+part-key-formed-end c = search needs
 
--- src/lib.rt:119:13
 key-formed-requires : tie.Need-key-formed-requires Inv-loop μ-loop
-key-formed-requires c κs = ?
+key-formed-requires c κs = search needs
 
--- src/lib.rt:120:13
 returns : tie.Need-returns Inv-loop μ-loop
-returns c = ?
+unfolding keysFormed decHead
+returns c = rw (← c .before .before .before .before .before .before .limit .ensures, ← c .before .before .before .before .before .load-u32 .ensures) (sym (every-fails _ keyCount (c .before .before .before .before .loop .k) (search needs) (record-failed (keyFormed (c .before .before .before .before .before .before .limit .result) (c .before .before .before .before .before .load-u32 .result)) (c .before .before .before .before .before .before .before .before .args .s .now) _ keyWidth (c .before .key-formed .ensures) (c .if1 .taken))))
 
--- src/lib.rt:117:9
-add-i : tie.Need-add-i Inv-loop μ-loop
-add-i c = ?
+add-k : tie.Need-add-k Inv-loop μ-loop
+add-k c = search needs
 
--- src/lib.rt:117:5
 loop-less : tie.Need-loop-less Inv-loop μ-loop
-loop-less c = ?
+loop-less c = search needs
 
--- src/lib.rt:117:5
 loop-again : tie.Need-loop-again Inv-loop μ-loop
-loop-again c = ?
+loop-again c = (search needs, every-more _ _ (c .before .before .before .before .loop .inv .1) (record-passed (keyFormed (c .before .before .before .before .before .before .limit .result) (c .before .before .before .before .before .load-u32 .result)) (c .before .before .before .before .before .before .before .before .args .s .now) _ keyWidth (c .before .key-formed .ensures) (c .if1 .left)))
 
--- src/lib.rt:113:1
 returns-2 : tie.Need-returns-2 Inv-loop μ-loop
-returns-2 c = ?
+unfolding keysFormed decHead
+returns-2 c = let e : c .before .loop .k ≡ keyCount = omega arith in rw (← c .before .before .before .limit .ensures, ← c .before .before .load-u32 .ensures) (sym (rw e at (c .before .loop .inv .1)))
 
 pub keys-formed-spec : {M : Type 1} → statement M
 keys-formed-spec =
@@ -68,6 +74,8 @@ keys-formed-spec =
     (tie.spec
     Inv-loop
     μ-loop
+    limit-requires
+    load-u32-requires
     loop-holds
     mul-at
     add-at
@@ -77,7 +85,7 @@ keys-formed-spec =
     part-key-formed-end
     key-formed-requires
     returns
-    add-i
+    add-k
     loop-less
     loop-again
     returns-2)

@@ -1,30 +1,33 @@
+-- The token is 0 or not, and then each test is the next of the lease's conditions.
+-- Assumes nothing.
+use Prim.Native.Nat.{ℕ}
+use mathlib.Core.Path.{ap}
+use native.Mathlib.Omega.{arith}
+use lib.Dec.{eqb, leb}
+use borrow.Author.Tests.{eq-eqb, ne-eqb, lt-ltb, le-ltb}
 use borrow.Author.Needs.{needs}
+use Rattle.lent.specs.Bytes.{le32}
+use Rattle.state.specs.Forms.{leaseFormed}
 use Rattle.state.proofs.lease_formed.Statement.{statement}
 use Rattle.state.proofs.lease_formed.Tie as tie
-use Rattle.state.proofs.lease_formed.Reads as reads
-use Rattle.state.proofs.lease_formed.Lts as lts
-use Rattle.lent.proofs.load_u32.Reads as load-u32-reads
-use Rattle.lent.proofs.load_u64.Reads as load-u64-reads
 
--- src/lib.rt:92:9
 load-u32-requires : tie.Need-load-u32-requires
 load-u32-requires c κs = search needs
 
--- src/lib.rt:93:9
 load-u64-requires : tie.Need-load-u64-requires
 load-u64-requires c κs = search needs
 
--- src/lib.rt:95:9
 returns : tie.Need-returns
-returns c = ?
+unfolding leaseFormed
+returns c = let x = c .before .before .before .before .args .r .now in rw (eq-eqb (le32 x 4) 0 (omega arith)) (ap (λ (v : ℕ). eqb v 0) (c .before .load-u64 .ensures))
 
--- src/lib.rt:98:9
 returns-2 : tie.Need-returns-2
-returns-2 c = ?
+unfolding leaseFormed
+returns-2 c = let x = c .before .before .before .before .before .args .r .now in rw (ne-eqb (le32 x 4) 0 (omega arith), le-ltb (le32 x 4) (c .before .before .before .before .before .args .next) (omega arith))
 
--- src/lib.rt:88:1
 returns-3 : tie.Need-returns-3
-returns-3 c = ?
+unfolding leaseFormed
+returns-3 c = let x = c .before .before .before .before .before .args .r .now in rw (ne-eqb (le32 x 4) 0 (omega arith), lt-ltb (le32 x 4) (c .before .before .before .before .before .args .next) (omega arith)) (ap (λ (v : ℕ). leb v (c .before .before .before .before .before .args .limit)) (c .before .before .load-u64 .ensures))
 
 pub lease-formed-spec : {M : Type 1} → statement M
 lease-formed-spec =

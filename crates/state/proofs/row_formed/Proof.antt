@@ -1,48 +1,45 @@
+-- A row is free, or its kind is 1 to 3 and the result is that of what is staged.
+-- Assumes nothing.
+use mathlib.Core.Path.{ap, _∙_}
+use native.Mathlib.Omega.{arith}
+use lib.ListN.{getD}
+use borrow.Author.Tests.{eq-eqb, ne-eqb, le-leb, lt-leb}
 use borrow.Author.Needs.{needs}
+use Rattle.lent.specs.Bytes.{le32}
+use Rattle.lent.specs.Tables.{allZero}
+use Rattle.lent.proofs.Splice.{win-whole}
+use Rattle.machine.specs.Sizes.{rowWidth}
+use Rattle.state.specs.Forms.{rowFormed}
 use Rattle.state.proofs.row_formed.Statement.{statement}
 use Rattle.state.proofs.row_formed.Tie as tie
-use Rattle.state.proofs.row_formed.Reads as reads
-use Rattle.state.proofs.row_formed.Lts as lts
-use Rattle.lent.proofs.is_zero.Reads as is-zero-reads
-use Rattle.lent.proofs.load_u32.Reads as load-u32-reads
-use Rattle.machine.proofs.is_kind.Reads as is-kind-reads
-use Rattle.state.proofs.staged_formed.Reads as staged-formed-reads
 
--- src/lib.rt:200:8
 load-u32-requires : tie.Need-load-u32-requires
 load-u32-requires c κs = search needs
 
--- src/lib.rt:201:9
 is-zero-requires : tie.Need-is-zero-requires
 is-zero-requires c κs = search needs
 
--- src/lib.rt:201:9
 returns : tie.Need-returns
-returns c = ?
+unfolding rowFormed
+returns c = let x = c .before .before .before .before .args .r .now in rw (eq-eqb (le32 x 0) 0 (omega arith)) (c .is-zero .ensures ∙ ap allZero (win-whole x rowWidth (omega arith)))
 
--- src/lib.rt:203:16
 shared-slice-read-kind : tie.Need-shared-slice-read-kind
 shared-slice-read-kind c = search needs
 
--- src/lib.rt:204:26
-cast-is-kind : tie.Need-cast-is-kind
-cast-is-kind c = ?
-
--- src/lib.rt:204:9
-is-kind-requires : tie.Need-is-kind-requires
-is-kind-requires c κs = search needs
-
--- src/lib.rt:205:9
 returns-2 : tie.Need-returns-2
-returns-2 c = ?
+unfolding rowFormed
+returns-2 c = let x = c .before .before .before .before .before .args .r .now in rw (ne-eqb (le32 x 0) 0 (omega arith), lt-leb 1 (getD x 5 0) (omega arith))
 
--- src/lib.rt:207:5
+returns-3 : tie.Need-returns-3
+unfolding rowFormed
+returns-3 c = let x = c .before .before .before .before .before .before .args .r .now in rw (ne-eqb (le32 x 0) 0 (omega arith), le-leb 1 (getD x 5 0) (omega arith), lt-leb (getD x 5 0) 3 (omega arith))
+
 staged-formed-requires : tie.Need-staged-formed-requires
 staged-formed-requires c κs = search needs
 
--- src/lib.rt:196:1
-returns-3 : tie.Need-returns-3
-returns-3 c = ?
+returns-4 : tie.Need-returns-4
+unfolding rowFormed
+returns-4 c = let x = c .before .before .before .before .before .before .before .args .r .now in rw (ne-eqb (le32 x 0) 0 (omega arith), le-leb 1 (getD x 5 0) (omega arith), le-leb (getD x 5 0) 3 (omega arith)) (c .staged-formed .ensures)
 
 pub row-formed-spec : {M : Type 1} → statement M
 row-formed-spec =
@@ -52,8 +49,7 @@ row-formed-spec =
     is-zero-requires
     returns
     shared-slice-read-kind
-    cast-is-kind
-    is-kind-requires
     returns-2
+    returns-3
     staged-formed-requires
-    returns-3)
+    returns-4)

@@ -1,52 +1,52 @@
+-- A session is free, or each test is the next of its conditions.
+-- Assumes nothing.
+use mathlib.Core.Path.{ap, _∙_}
+use native.Mathlib.Omega.{arith}
+use lib.ListN.{getD}
+use borrow.Author.Tests.{eq-eqb, ne-eqb, lt-ltb, le-ltb, le-leb, lt-leb}
 use borrow.Author.Needs.{needs}
+use Rattle.lent.specs.Bytes.{le16, le32}
+use Rattle.lent.specs.Tables.{allZero}
+use Rattle.lent.proofs.Splice.{win-whole}
+use Rattle.machine.specs.Sizes.{sessionWidth, stepMax}
+use Rattle.state.specs.Forms.{sessionFormed}
 use Rattle.state.proofs.session_formed.Statement.{statement}
 use Rattle.state.proofs.session_formed.Tie as tie
-use Rattle.state.proofs.session_formed.Reads as reads
-use Rattle.state.proofs.session_formed.Lts as lts
-use Rattle.lent.proofs.is_zero.Reads as is-zero-reads
-use Rattle.lent.proofs.load_u16.Reads as load-u16-reads
-use Rattle.lent.proofs.load_u32.Reads as load-u32-reads
-use Rattle.state.proofs.life_formed.Reads as life-formed-reads
 
--- src/lib.rt:144:9
 load-u32-requires : tie.Need-load-u32-requires
 load-u32-requires c κs = search needs
 
--- src/lib.rt:146:9
 is-zero-requires : tie.Need-is-zero-requires
 is-zero-requires c κs = search needs
 
--- src/lib.rt:146:9
 returns : tie.Need-returns
-returns c = ?
+unfolding sessionFormed
+returns c = let x = c .before .before .before .before .args .r .now in rw (eq-eqb (le32 x 0) 0 (omega arith)) (c .is-zero .ensures ∙ ap allZero (win-whole x sessionWidth (omega arith)))
 
--- src/lib.rt:149:9
 returns-2 : tie.Need-returns-2
-returns-2 c = ?
+unfolding sessionFormed
+returns-2 c = let x = c .before .before .before .before .args .r .now in rw (ne-eqb (le32 x 0) 0 (omega arith), le-ltb (le32 x 0) (c .before .before .before .before .args .next) (omega arith))
 
--- src/lib.rt:151:8
 shared-slice-read-if3 : tie.Need-shared-slice-read-if3
 shared-slice-read-if3 c = search needs
 
--- src/lib.rt:152:9
 returns-3 : tie.Need-returns-3
-returns-3 c = ?
+unfolding sessionFormed
+returns-3 c = let x = c .before .before .before .before .before .before .args .r .now in rw (ne-eqb (le32 x 0) 0 (omega arith), lt-ltb (le32 x 0) (c .before .before .before .before .before .before .args .next) (omega arith), ne-eqb (getD x 5 0) 0 (omega arith))
 
--- src/lib.rt:154:19
 load-u16-requires : tie.Need-load-u16-requires
 load-u16-requires c κs = search needs
 
--- src/lib.rt:155:9
 returns-4 : tie.Need-returns-4
-returns-4 c = ?
+unfolding sessionFormed
+returns-4 c = let x = c .before .before .before .before .before .before .before .before .args .r .now in rw (ne-eqb (le32 x 0) 0 (omega arith), lt-ltb (le32 x 0) (c .before .before .before .before .before .before .before .before .args .next) (omega arith), eq-eqb (getD x 5 0) 0 (omega arith), lt-leb (le16 x 6) stepMax (omega arith))
 
--- src/lib.rt:157:5
 life-formed-requires : tie.Need-life-formed-requires
 life-formed-requires c κs = search needs
 
--- src/lib.rt:140:1
 returns-5 : tie.Need-returns-5
-returns-5 c = ?
+unfolding sessionFormed
+returns-5 c = let x = c .before .before .before .before .before .before .before .before .before .args .r .now in rw (ne-eqb (le32 x 0) 0 (omega arith), lt-ltb (le32 x 0) (c .before .before .before .before .before .before .before .before .before .args .next) (omega arith), eq-eqb (getD x 5 0) 0 (omega arith), le-leb (le16 x 6) stepMax (omega arith)) (c .life-formed .ensures)
 
 pub session-formed-spec : {M : Type 1} → statement M
 session-formed-spec =

@@ -1,66 +1,72 @@
+-- After j turns each of the first j sessions is formed.
+-- Assumes nothing.
+use Prim.Native.Nat.{_+_, _-_, _*_, _≤_}
+use mathlib.Core.Path.{_≡_, sym}
+use mathlib.Core.Bool.{true}
+use native.Mathlib.Omega.{arith}
+use borrow.Author.Needs.{needs}
+use Rattle.lent.specs.Bytes.{win}
+use Rattle.lent.specs.Tables.{every}
+use Rattle.lent.proofs.Walks.{every-none, every-more, every-fails}
+use Rattle.machine.specs.Sizes.{sessionCount, sessionsFrom, sessionWidth}
+use Rattle.layout.specs.Layout.{decHead}
+use Rattle.state.specs.Forms.{sessionFormed, sessionsFormed}
+use Rattle.state.proofs.Tests.{record-failed, record-passed}
 use Rattle.state.proofs.sessions_formed.Statement.{statement}
 use Rattle.state.proofs.sessions_formed.Tie as tie
-use Rattle.state.proofs.sessions_formed.Reads as reads
-use Rattle.state.proofs.sessions_formed.Lts as lts
-use Rattle.state.proofs.session_formed.Reads as session-formed-reads
 
 abbrev Inv-loop : tie.InvT-loop
-Inv-loop s limit next i₀ i = ?
+Inv-loop s until next j₀ j = (j ≤ sessionCount) × (every (λ i. sessionFormed until next (win s (sessionsFrom + i * sessionWidth) sessionWidth)) j ≡ true)
 
 abbrev μ-loop : tie.MeasureT-loop
-μ-loop s limit next i₀ i = ?
+μ-loop s until next j₀ j = sessionCount - j
 
--- src/lib.rt:164:5
+limit-requires : tie.Need-limit-requires Inv-loop μ-loop
+limit-requires c κs = search needs
+
+load-u32-requires : tie.Need-load-u32-requires Inv-loop μ-loop
+load-u32-requires c κs = search needs
+
 loop-holds : tie.Need-loop-holds Inv-loop μ-loop
-loop-holds c = ?
+loop-holds c = (search needs, every-none _)
 
--- src/lib.rt:165:34
 mul-at : tie.Need-mul-at Inv-loop μ-loop
-mul-at c = ?
+mul-at c = search needs
 
--- src/lib.rt:165:18
 add-at : tie.Need-add-at Inv-loop μ-loop
-add-at c = ?
+add-at c = search needs
 
--- src/lib.rt:166:35
 add-session-formed : tie.Need-add-session-formed Inv-loop μ-loop
-add-session-formed c = ?
+add-session-formed c = search needs
 
--- src/lib.rt:166:28
 sub-session-formed : tie.Need-sub-session-formed Inv-loop μ-loop
-sub-session-formed c = ?
+sub-session-formed c = search needs
 
--- src/lib.rt:166:28
 part-session-formed-start : tie.Need-part-session-formed-start Inv-loop μ-loop
-part-session-formed-start c = ?
+part-session-formed-start c = search needs
 
--- src/lib.rt:166:28
 part-session-formed-end : tie.Need-part-session-formed-end Inv-loop μ-loop
-part-session-formed-end c = ?
+part-session-formed-end c = search needs
 
--- src/lib.rt:166:13
 session-formed-requires : tie.Need-session-formed-requires Inv-loop μ-loop
-session-formed-requires c κs = ?
+session-formed-requires c κs = search needs
 
--- src/lib.rt:167:13
 returns : tie.Need-returns Inv-loop μ-loop
-returns c = ?
+unfolding sessionsFormed decHead
+returns c = rw (← c .before .before .before .before .before .before .limit .ensures, ← c .before .before .before .before .before .load-u32 .ensures) (sym (every-fails _ sessionCount (c .before .before .before .before .loop .j) (search needs) (record-failed (sessionFormed (c .before .before .before .before .before .before .limit .result) (c .before .before .before .before .before .load-u32 .result)) (c .before .before .before .before .before .before .before .before .args .s .now) _ sessionWidth (c .before .session-formed .ensures) (c .if1 .taken))))
 
--- src/lib.rt:164:9
-add-i : tie.Need-add-i Inv-loop μ-loop
-add-i c = ?
+add-j : tie.Need-add-j Inv-loop μ-loop
+add-j c = search needs
 
--- src/lib.rt:164:5
 loop-less : tie.Need-loop-less Inv-loop μ-loop
-loop-less c = ?
+loop-less c = search needs
 
--- src/lib.rt:164:5
 loop-again : tie.Need-loop-again Inv-loop μ-loop
-loop-again c = ?
+loop-again c = (search needs, every-more _ _ (c .before .before .before .before .loop .inv .1) (record-passed (sessionFormed (c .before .before .before .before .before .before .limit .result) (c .before .before .before .before .before .load-u32 .result)) (c .before .before .before .before .before .before .before .before .args .s .now) _ sessionWidth (c .before .session-formed .ensures) (c .if1 .left)))
 
--- src/lib.rt:160:1
 returns-2 : tie.Need-returns-2 Inv-loop μ-loop
-returns-2 c = ?
+unfolding sessionsFormed decHead
+returns-2 c = let e : c .before .loop .j ≡ sessionCount = omega arith in rw (← c .before .before .before .limit .ensures, ← c .before .before .load-u32 .ensures) (sym (rw e at (c .before .loop .inv .1)))
 
 pub sessions-formed-spec : {M : Type 1} → statement M
 sessions-formed-spec =
@@ -68,6 +74,8 @@ sessions-formed-spec =
     (tie.spec
     Inv-loop
     μ-loop
+    limit-requires
+    load-u32-requires
     loop-holds
     mul-at
     add-at
@@ -77,7 +85,7 @@ sessions-formed-spec =
     part-session-formed-end
     session-formed-requires
     returns
-    add-i
+    add-j
     loop-less
     loop-again
     returns-2)
