@@ -27,7 +27,7 @@ fitted x at n = leb n valueMax && allZero (win x (at + n) (valueMax - n))
 unfoldable pub valueFormed : List ℕ → Bool
 valueFormed x =
     if eqb (le32 x 0) 0 then allZero (win x 16 valueMax)
-    else eqb (getD x 0 0) 1 && (eqb (getD x 2 0) 0 && (eqb (getD x 3 0) 0 && fitted x 16 (getD x 1 0)))
+    else eqb (getD x 0 0) 1 && (eqb (le16 x 2) 0 && fitted x 16 (getD x 1 0))
 
 unfoldable pub leaseFormed : ℕ → ℕ → List ℕ → Bool
 leaseFormed limit next x = if eqb (le32 x 4) 0 then eqb (le64 x 8) 0 else ltb (le32 x 4) next && leb (le64 x 8) limit

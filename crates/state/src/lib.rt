@@ -10,29 +10,48 @@ ghost use Rattle.state.specs.Forms.{headFormed, fitted, valueFormed, lea
 
 // The layout: docs/LAYOUT.md.
 const STATE_SIZE: usize = 65536;
+
 const KEYS_FROM: usize = 64;
+
 const KEY_WIDTH: usize = 80;
+
 const KEY_COUNT: usize = 256;
+
 const ROWS_FROM: usize = 20544;
+
 const ROW_WIDTH: usize = 72;
+
 const ROW_COUNT: usize = 384;
+
 const SESSIONS_FROM: usize = 48192;
+
 const SESSION_WIDTH: usize = 16;
+
 const SESSION_COUNT: usize = 128;
+
 const REST_FROM: usize = 50240;
+
 const REST_SIZE: usize = 15296;
 
 // Places in the header, and of the token in a key's record.
 const CLOCK: usize = 0;
+
 const READ_LIFE: usize = 8;
+
 const WRITE_LIFE: usize = 12;
+
 const NEXT_SESSION: usize = 16;
+
 const NEXT_TOKEN: usize = 20;
+
 const TOKENS_FROM: usize = 68;
 
 const TIME_MAX: u64 = 281474976710655;
+
 const LIFE_MAX: u32 = 600000;
+
 const STEP_MAX: u32 = 1000;
+
 const VALUE_MAX: usize = 64;
 
 fn lifetime_at(s: &[u8], at: usize) -> bool
@@ -89,10 +108,7 @@ fn value_formed(r: &[u8]) -> bool
     if r[0] != 1 {
         return false;
     }
-    if r[2] != 0 {
-        return false;
-    }
-    if r[3] != 0 {
+    if lent::load_u16(r, 2) != 0 {
         return false;
     }
     is_fitted(r, 16, lent::index(r[1]))

@@ -4,7 +4,7 @@ use native.Mathlib.Omega.{arith}
 use lib.ListN.{getD}
 use borrow.Author.Tests.{eq-eqb, ne-eqb}
 use borrow.Author.Needs.{needs}
-use Rattle.lent.specs.Bytes.{le32}
+use Rattle.lent.specs.Bytes.{le16, le32}
 use Rattle.state.specs.Forms.{valueFormed}
 use Rattle.state.proofs.value_formed.Statement.{statement}
 use Rattle.state.proofs.value_formed.Tie as tie
@@ -26,19 +26,12 @@ returns-2 : tie.Need-returns-2
 unfolding valueFormed
 returns-2 c = let x = c .before .before .before .before .before .args .r .now in rw (ne-eqb (le32 x 0) 0 (omega arith), ne-eqb (getD x 0 0) 1 (omega arith))
 
-shared-slice-read-if3 : tie.Need-shared-slice-read-if3
-shared-slice-read-if3 c = search needs
+load-u16-requires : tie.Need-load-u16-requires
+load-u16-requires c κs = search needs
 
 returns-3 : tie.Need-returns-3
 unfolding valueFormed
-returns-3 c = let x = c .before .before .before .before .before .before .before .args .r .now in rw (ne-eqb (le32 x 0) 0 (omega arith), eq-eqb (getD x 0 0) 1 (omega arith), ne-eqb (getD x 2 0) 0 (omega arith))
-
-shared-slice-read-if4 : tie.Need-shared-slice-read-if4
-shared-slice-read-if4 c = search needs
-
-returns-4 : tie.Need-returns-4
-unfolding valueFormed
-returns-4 c = let x = c .before .before .before .before .before .before .before .before .before .args .r .now in rw (ne-eqb (le32 x 0) 0 (omega arith), eq-eqb (getD x 0 0) 1 (omega arith), eq-eqb (getD x 2 0) 0 (omega arith), ne-eqb (getD x 3 0) 0 (omega arith))
+returns-3 c = let x = c .before .before .before .before .before .before .before .args .r .now in rw (ne-eqb (le32 x 0) 0 (omega arith), eq-eqb (getD x 0 0) 1 (omega arith), ne-eqb (le16 x 2) 0 (omega arith))
 
 shared-slice-read-index : tie.Need-shared-slice-read-index
 shared-slice-read-index c = search needs
@@ -49,9 +42,9 @@ index-requires c κs = search needs
 is-fitted-requires : tie.Need-is-fitted-requires
 is-fitted-requires c κs = search needs
 
-returns-5 : tie.Need-returns-5
+returns-4 : tie.Need-returns-4
 unfolding valueFormed
-returns-5 c = let x = c .before .before .before .before .before .before .before .before .before .before .before .before .args .r .now in rw (ne-eqb (le32 x 0) 0 (omega arith), eq-eqb (getD x 0 0) 1 (omega arith), eq-eqb (getD x 2 0) 0 (omega arith), eq-eqb (getD x 3 0) 0 (omega arith), ← c .before .index .ensures .0) (c .is-fitted .ensures)
+returns-4 c = let x = c .before .before .before .before .before .before .before .before .before .before .args .r .now in rw (ne-eqb (le32 x 0) 0 (omega arith), eq-eqb (getD x 0 0) 1 (omega arith), eq-eqb (le16 x 2) 0 (omega arith), ← c .before .index .ensures .0) (c .is-fitted .ensures)
 
 pub value-formed-spec : {M : Type 1} → statement M
 value-formed-spec =
@@ -62,11 +55,9 @@ value-formed-spec =
     returns
     shared-slice-read-if2
     returns-2
-    shared-slice-read-if3
+    load-u16-requires
     returns-3
-    shared-slice-read-if4
-    returns-4
     shared-slice-read-index
     index-requires
     is-fitted-requires
-    returns-5)
+    returns-4)
