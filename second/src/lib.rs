@@ -6,9 +6,12 @@ pub mod command;
 pub mod count;
 pub mod decision;
 pub mod lent;
+pub mod machine;
 pub mod numbers;
+pub mod rehearsal;
 pub mod tables;
 pub mod value;
 
 pub use answer::Answer;
 pub use command::Command;
+pub use machine::Machine;

@@ -11,13 +11,13 @@ use crate::numbers::*;
 /// Whether these bytes are a well-formed state.
 pub fn well_formed(state: &[u8]) -> bool {
     match <&Bytes>::try_from(state) {
-        Ok(state) => checked(state),
+        Ok(state) => fits(state),
         Err(_) => false,
     }
 }
 
 /// Whether these bytes, of the right length, are a well-formed state.
-pub fn checked(state: &Bytes) -> bool {
+pub fn fits(state: &Bytes) -> bool {
     let mut seats = Seats::empty();
     header_fits(state)
         && is_zero(&state[REST_AT..])
