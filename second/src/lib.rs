@@ -5,6 +5,7 @@ pub mod answer;
 pub mod command;
 pub mod count;
 pub mod decision;
+pub mod generate;
 pub mod lent;
 pub mod machine;
 pub mod numbers;

@@ -1,11 +1,12 @@
 //! The command line of the second program.
 
+use second::generate::{generate, Profile};
 use second::lent;
 use second::machine::Machine;
 use second::numbers::STATE_BYTES;
 use second::rehearsal::{rehearse, LentState};
 use std::fs::File;
-use std::io::{self, ErrorKind, Read, Write};
+use std::io::{self, BufWriter, ErrorKind, Read, Write};
 use std::process::ExitCode;
 
 const USAGE: &str = "usage:
@@ -14,7 +15,8 @@ const USAGE: &str = "usage:
   second state < INPUT > FILE   the lent state that the rehearsal ends with
   second check FILE...          `well formed` or `damaged`, a line for each file
   second generate --seed N --lines N [--profile NAME]
-                                input for a rehearsal";
+                                input for a rehearsal; the profiles are rules, lost, full, clocks,
+                                counts, damaged, and mix where none is named";
 
 fn main() -> ExitCode {
     let words: Vec<String> = std::env::args().skip(1).collect();
@@ -23,11 +25,12 @@ fn main() -> ExitCode {
         ["rehearse"] => rehearse(Machine::fresh(1, 1), io::stdin(), io::stdout()).map(drop),
         ["lent"] => rehearse(LentState::default(), io::stdin(), io::stdout()).map(drop),
         ["state"] => state(),
-        ["check", ref files @ ..] if !files.is_empty() => return check(files),
-        _ => {
-            eprintln!("{USAGE}");
-            return ExitCode::from(2);
+        ["generate", "--seed", seed, "--lines", lines] => input(seed, lines, "mix"),
+        ["generate", "--seed", seed, "--lines", lines, "--profile", name] => {
+            input(seed, lines, name)
         }
+        ["check", ref files @ ..] if !files.is_empty() => return check(files),
+        _ => Err(io::Error::new(ErrorKind::InvalidInput, USAGE)),
     };
     exit(ended)
 }
@@ -39,9 +42,18 @@ fn exit(ended: io::Result<()>) -> ExitCode {
         Err(error) if error.kind() == ErrorKind::BrokenPipe => ExitCode::SUCCESS,
         Err(error) => {
             eprintln!("second: {error}");
-            ExitCode::FAILURE
+            ExitCode::from(2)
         }
     }
+}
+
+/// Writes generated input.
+fn input(seed: &str, lines: &str, name: &str) -> io::Result<()> {
+    let usage = || io::Error::new(ErrorKind::InvalidInput, USAGE);
+    let seed = seed.parse().map_err(|_| usage())?;
+    let lines = lines.parse().map_err(|_| usage())?;
+    let profile = Profile::named(name).ok_or_else(usage)?;
+    generate(seed, lines, profile, BufWriter::new(io::stdout()))
 }
 
 /// Writes the lent state that a rehearsal of the input ends with.

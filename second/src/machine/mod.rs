@@ -212,6 +212,16 @@ impl Machine {
         self.write_lifetime
     }
 
+    /// The number that BEGIN would give.
+    pub fn next_session(&self) -> u64 {
+        self.next_session
+    }
+
+    /// The token that GET would give.
+    pub fn next_token(&self) -> u64 {
+        self.next_token
+    }
+
     /// The live sessions as they stand, by number.
     pub fn sessions(&self) -> &BTreeMap<u64, Session> {
         &self.sessions
