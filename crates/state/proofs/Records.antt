@@ -99,7 +99,7 @@ module _ (x : List ℕ) (f : Bytes x) where
 
     pub row-law : same x (encRow (decRow x)) && rowSound (decRow x) ≡ rowFormed x
     unfolding encRow decRow rowSound rowFormed
-    row-law = go (eqb (le32 x 0) 0)
+    row-law = go (eqb (le32 x 0) 0) refl
       where
         bytes : (y : List ℕ) → same x (bytes32 (le32 x 0) ++ (getD x 4 0 ∷ getD x 5 0 ∷ y)) ≡ same (win x 6 66) y
         bytes y =
@@ -107,11 +107,12 @@ module _ (x : List ℕ) (f : Bytes x) where
             ∙ skip 0 4 68 (bytes32 (le32 x 0)) (getD x 4 0 ∷ getD x 5 0 ∷ y) (bytes-le32 x f 0 (omega arith)) (omega arith)
             ∙ rw (same-byte 4 67 (getD x 4 0) (getD x 5 0 ∷ y) (omega arith), eq-eqb (getD x 4 0) (getD x 4 0) refl, same-byte 5 66 (getD x 5 0) y (omega arith), eq-eqb (getD x 5 0) (getD x 5 0) refl)
 
-        go : (t : Bool) → same x (encRow (if t then noRow else row (le32 x 0) (getD x 4 0) (getD x 5 0) (decStaged x))) && rowSound (if t then noRow else row (le32 x 0) (getD x 4 0) (getD x 5 0) (decStaged x))
+        go : (t : Bool) → eqb (le32 x 0) 0 ≡ t → same x (encRow (if t then noRow else row (le32 x 0) (getD x 4 0) (getD x 5 0) (decStaged x))) && rowSound (if t then noRow else row (le32 x 0) (getD x 4 0) (getD x 5 0) (decStaged x))
             ≡ (if t then allZero x else isKind (getD x 5 0) && stagedFormed (getD x 5 0) x)
-        go true = and-true _ ∙ same-zeros x rowWidth h
-        go false =
-            rw (bytes (stagedBytes (decStaged x)), lt-ltb (getD x 4 0) keyCount (f 4), ← staged-law (getD x 5 0))
+        go true e = and-true _ ∙ same-zeros x rowWidth h
+        go false e =
+            let n : 1 ≤ le32 x 0 = omega (arith, eqb-false (le32 x 0) 0 e) in
+            rw (bytes (stagedBytes (decStaged x)), le-leb 1 (le32 x 0) n, lt-ltb (getD x 4 0) keyCount (f 4), ← staged-law (getD x 5 0))
             (and-left (same (win x 6 66) (stagedBytes (decStaged x))) (isKind (getD x 5 0)) (stagedSound (getD x 5 0) (decStaged x)))
 
   -- ---- a key
