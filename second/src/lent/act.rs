@@ -173,7 +173,8 @@ fn quar(state: &mut Bytes, now: u64, session: u64, key: u8, kind: u64) -> Outcom
     Ok(Answer::Granted)
 }
 
-/// A step that STAGE or DELTA may take or has taken: its session, its row, and whether it is the next.
+/// A step that STAGE or DELTA may take or has taken: the places of its session and its row, and
+/// whether it is the next.
 struct Step {
     place: usize,
     row: usize,
