@@ -18,10 +18,10 @@ fn run_input(input: &[u8]) {
     let mut both: Option<Both> = None;
     let mut lines = Lines::default();
     let mut each = |line: &[u8]| match (read(line), &mut both) {
-        (Some(Line::Start { read, write }), None) => {
-            if Machine::fresh(1, 1).start(read, write) == Answer::Ready {
-                both = Some(Both::fresh(read, write));
-            }
+        (Some(Line::Start { read, write }), None)
+            if Machine::fresh(1, 1).start(read, write) == Answer::Ready =>
+        {
+            both = Some(Both::fresh(read, write));
         }
         (Some(Line::Command { now, command, value }), Some(both)) => {
             both.run(now, command, &value);

@@ -296,6 +296,23 @@ fn room_only_where_a_row_would_be_taken() {
     assert_eq!(both.plain(5_001, quar(129, 9, 1)), Answer::Refused(5));
 }
 
+#[test]
+fn full_and_room_are_asked_after_expiry() {
+    let mut both = sessions(127);
+    for session in 1..=96 {
+        for key in 0..4 {
+            assert_eq!(both.plain(0, quar(session, key, 1)), Answer::Granted);
+        }
+    }
+    assert_eq!(both.plain(1, BEGIN), Answer::Session(128));
+    assert_eq!(both.plain(4_999, quar(128, 9, 1)), Answer::Refused(12));
+    assert_eq!(both.plain(4_999, BEGIN), Answer::Refused(11));
+    let (machine, lent) = (both.machine.clone(), both.lent.clone());
+    assert_eq!(both.plain(5_000, quar(128, 9, 1)), Answer::Granted);
+    let mut both = Both { machine, lent };
+    assert_eq!(both.plain(5_000, BEGIN), Answer::Session(129));
+}
+
 /// A well-formed state with one open session and no number left to give.
 fn numbers_at_end() -> Tables {
     let mut tables = sessions(1).machine.tables();

@@ -113,7 +113,7 @@ fn bytes_of_any_kind_do_no_harm() {
         let mut input = if random.chance(50) { b"A 10 10\n".to_vec() } else { Vec::new() };
         for _ in 0..length {
             input.push(match round % 2 {
-                0 => random.next() as u8,
+                0 => random.any() as u8,
                 _ => random.pick(few).unwrap(),
             });
         }

@@ -105,7 +105,7 @@ fn damage(random: &mut Random, state: &mut [u8]) {
         1 => state[one..one + width].fill(0),
         2 => state[one + random.below(width as u64) as usize] = random.below(4) as u8,
         3 => state.copy_within(one..one + 8, other),
-        4 => state[random.below(24) as usize] = random.next() as u8,
+        4 => state[random.below(24) as usize] = random.any() as u8,
         _ => state[one + random.below(8) as usize] ^= 1 << random.below(8),
     }
 }
@@ -119,7 +119,7 @@ fn random_buffers() {
             1 => random.below(70_000),
             _ => random.below(200),
         };
-        let buffer: Vec<u8> = (0..length).map(|_| random.next() as u8).collect();
+        let buffer: Vec<u8> = (0..length).map(|_| random.any() as u8).collect();
         assert!(!judged(&buffer));
         let zeros = vec![0; length as usize];
         assert!(!judged(&zeros));

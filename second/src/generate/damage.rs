@@ -81,7 +81,7 @@ pub fn starts() -> Vec<Vec<u8>> {
 
 /// Any byte but LF.
 fn any_byte(random: &mut Random) -> u8 {
-    match random.next() as u8 {
+    match random.any() as u8 {
         b'\n' => b'x',
         byte => byte,
     }

@@ -62,8 +62,8 @@ pub fn burst(world: &mut World) -> Vec<Said> {
     said
 }
 
-/// A line of a client that doesn't look: an old value filled, a write for the wrong session, UNDO or
-/// DONE out of turn.
+/// A line of a client that doesn't look: an old value filled, a write for the wrong session, UNDO
+/// or DONE out of turn.
 pub fn careless(world: &mut World) -> Option<Said> {
     let sealed = world.sealed();
     let live: Vec<u64> = world.machine().sessions().keys().copied().collect();

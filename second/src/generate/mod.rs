@@ -1,5 +1,5 @@
-//! Input for a rehearsal, the same for the same seed. The generator runs each line that it makes, so
-//! that its clients know what to say next.
+//! Input for a rehearsal, the same for the same seed. The generator runs each line that it makes,
+//! so that its clients know what to say next.
 
 mod clients;
 mod clocks;
@@ -110,11 +110,11 @@ impl Generator {
         }
     }
 
-    /// The time of a line of `clocks`: the last two fifths of an input are near the end of all time,
-    /// and its last tenth at it.
+    /// The time of a line of `clocks`: the last two fifths of an input are near the end of all
+    /// time, and its last tenth at it.
     fn edge(&mut self) -> u64 {
         let clock = self.world.machine().clock();
-        let tenths = if self.lines == 0 { 0 } else { 10 * self.made / self.lines };
+        let tenths = (10 * self.made).checked_div(self.lines).unwrap_or(0);
         match tenths {
             _ if self.profile == Profile::Mix && tenths < 9 => clocks::at_edge(&mut self.world),
             9.. => clocks::at_end(&mut self.world),

@@ -52,7 +52,7 @@ pub fn count(random: &mut Random) -> Vec<u8> {
 
 /// Any bytes of this length.
 pub fn bytes(random: &mut Random, length: u64) -> Vec<u8> {
-    (0..length).map(|_| random.next() as u8).collect()
+    (0..length).map(|_| random.any() as u8).collect()
 }
 
 /// A value of 0 to 64 bytes: a count, a short text, or any bytes.

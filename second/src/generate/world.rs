@@ -1,4 +1,5 @@
-//! What the generator knows: the rehearsal that all lines so far have made, and what clients remember.
+//! What the generator knows: the rehearsal that all lines so far have made, and what clients
+//! remember.
 
 use super::random::Random;
 use crate::machine::{Machine, Session};
@@ -65,7 +66,7 @@ impl World {
         sessions.filter(|(_, session)| test(session.standing)).map(|(number, _)| *number).collect()
     }
 
-    /// A token that was granted, most often one whose lease is still there; seldom one where none is.
+    /// A token that was granted: most often one whose lease is still there, seldom any.
     pub fn granted(&mut self) -> Option<Granted> {
         let leased = |granted: &&Granted| {
             let lease = self.rehearsal.cache.lease(granted.key);

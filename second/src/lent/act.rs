@@ -24,12 +24,12 @@ pub fn act(state: &mut Bytes, now: u64, command: Command, value: &[u8]) -> Outco
         Command::Fill { token, key } => Ok(fill(state, now, token, key as u8, value)),
         Command::Quar { session, key, kind } => quar(state, now, session, key as u8, kind),
         Command::Stage { session, step, key } => {
-            let row = staging(state, now, session, step, key as u8, REFRESH)?;
-            Ok(staged(state, now, row, |_, _| Value::of(value)))
+            let step = staging(state, now, session, step, key as u8, REFRESH)?;
+            Ok(staged(state, now, step, |_, _| Value::of(value)))
         }
         Command::Delta { session, step, key, operation } => {
-            let row = staging(state, now, session, step, key as u8, INCREMENTAL)?;
-            Ok(staged(state, now, row, |state, row| {
+            let step = staging(state, now, session, step, key as u8, INCREMENTAL)?;
+            Ok(staged(state, now, step, |state, row| {
                 count::result(operation, value_under(state, row)?, value)
             }))
         }
@@ -70,7 +70,7 @@ fn get(state: &mut Bytes, now: u64, session: u64, key: u8) -> Outcome {
     }
     if let Some(row) = own_row(state, session, key) {
         accept(state, now);
-        return Ok(hit_or(found_by_holder(state, row), Answer::Ask));
+        return Ok(found_by_holder(state, row).map_or(Answer::Ask, hit));
     }
     let token = u32_at(state, NEXT_TOKEN);
     if token == NUMBERS_END
@@ -80,9 +80,8 @@ fn get(state: &mut Bytes, now: u64, session: u64, key: u8) -> Outcome {
         return Err(refusal::NUMBERS);
     }
     accept(state, now);
-    let cached = found_cached(state, key);
-    if cached.is_some() {
-        return Ok(hit_or(cached, Answer::Ask));
+    if let Some(cached) = found_cached(state, key) {
+        return Ok(hit(cached));
     }
     if asking_i(read::held(state, now, key)) != Decision::Grant {
         return Ok(Answer::Backoff(read::wait(state, now, key)));
@@ -96,11 +95,8 @@ fn get(state: &mut Bytes, now: u64, session: u64, key: u8) -> Outcome {
 /// Where a value stands in the state, and its length.
 pub type Stretch = (usize, usize);
 
-fn hit_or(found: Option<Stretch>, otherwise: Answer) -> Answer {
-    match found {
-        Some((at, length)) => Answer::Hit { at: at as u64, length: length as u64 },
-        None => otherwise,
-    }
+fn hit((at, length): Stretch) -> Answer {
+    Answer::Hit { at: at as u64, length: length as u64 }
 }
 
 /// The cached value of the key.
@@ -173,7 +169,8 @@ fn quar(state: &mut Bytes, now: u64, session: u64, key: u8, kind: u64) -> Outcom
     Ok(Answer::Granted)
 }
 
-/// A step that STAGE or DELTA may take or has taken: its session, its row, and whether it is the next.
+/// A step that STAGE or DELTA may take or has taken: the places of its session and its row, and
+/// whether it is the next.
 struct Step {
     place: usize,
     row: usize,

@@ -2,8 +2,9 @@
 //!
 //! Every command runs it on the whole state, so it decides the speed. A free record is told by an
 //! `or` over its words; the values of the key records are judged without a branch, since which keys
-//! are cached is hard to guess. Three small tables on the stack answer what pairs of records would: whether a token
-//! came before, in which place a session number stands, and which sessions hold a key.
+//! are cached is hard to guess. Three small tables on the stack answer what pairs of records would:
+//! whether a token came before, in which place a session number stands, and which sessions hold a
+//! key.
 
 use super::layout::*;
 use crate::numbers::*;

@@ -18,8 +18,8 @@ use crate::command::{is_key, Command};
 use crate::numbers::{is_lifetime, LAST_TIME};
 use layout::Bytes;
 
-/// START: makes the fresh state, clock 0, whatever the buffer held: READY, or STATE where the length
-/// is wrong, or ARG.
+/// START: makes the fresh state, clock 0, whatever the buffer held: READY, or STATE where the
+/// length is wrong, or ARG.
 pub fn start(state: &mut [u8], read_lifetime: u64, write_lifetime: u64) -> Answer {
     let Ok(state) = <&mut Bytes>::try_from(state) else {
         return Answer::Refused(refusal::STATE);

@@ -1,20 +1,14 @@
 //! Reading a well-formed lent state: finding records by their numbers, and what of the state stands
-//! once everything with a deadline at or before now has ended. Refusals are decided on the latter by
-//! reading alone, since a refused command keeps nothing of expiry.
+//! once everything with a deadline at or before now has ended. Refusals are decided on the latter
+//! by reading alone, since a refused command keeps nothing of expiry.
 
 use super::layout::*;
 use crate::answer::refusal;
 use crate::decision::Held;
 
-/// Whether a client's number can be that of a session: free records have 0, and a longer number must
-/// not lose its upper bits.
-fn given(session: u64) -> bool {
-    (1..=u64::from(u32::MAX)).contains(&session)
-}
-
-/// The place of the session of this number.
+/// The place of the session of this number; 0, which free records have, is none.
 pub fn place_of(state: &Bytes, session: u64) -> Option<usize> {
-    if !given(session) {
+    if session == 0 {
         return None;
     }
     sessions(state).iter().position(|record| u32_at(record, NUMBER) == session)
@@ -40,7 +34,7 @@ pub fn live_place(state: &Bytes, now: u64, session: u64) -> Result<usize, u64> {
 
 /// The place of the session's own Q row on the key.
 pub fn own_row(state: &Bytes, session: u64, key: u8) -> Option<usize> {
-    if !given(session) {
+    if session == 0 {
         return None;
     }
     let own = |row: &RowBytes| u32_at(row, ROW_SESSION) == session && row[ROW_KEY] == key;
@@ -83,7 +77,8 @@ pub fn held(state: &Bytes, now: u64, key: u8) -> Held {
     }
 }
 
-/// Whether the key has a cached value after expiry: a session that ends takes the values of its keys.
+/// Whether the key has a cached value after expiry: a session that ends takes the values of its
+/// keys.
 pub fn is_cached(state: &Bytes, now: u64, key: u8) -> bool {
     keys(state)[usize::from(key)][PRESENT] == 1
         && rows_on(state, key).all(|row| stays(state, now, row))
@@ -100,8 +95,8 @@ pub fn rows_full(state: &Bytes, now: u64) -> bool {
         && (!any_ends(state, now) || rows(state).iter().all(|row| stays(state, now, row)))
 }
 
-/// How long what blocks the key lasts: 0 if a sealed session does, else the latest deadline less now.
-/// The state has been swept, so every deadline is after now.
+/// How long what blocks the key lasts: 0 if a sealed session does, else the latest deadline less
+/// now. The state has been swept, so every deadline is after now.
 pub fn wait(state: &Bytes, now: u64, key: u8) -> u64 {
     let mut latest = u64_at(&keys(state)[usize::from(key)], LEASE_DEADLINE);
     for session in rows_on(state, key).filter_map(|row| session_of(state, row)) {

@@ -71,8 +71,8 @@ fn sweep_leases(state: &mut Bytes, now: u64) {
     }
 }
 
-/// Every open session with a deadline at or before now ends: the values of its keys are dropped, its
-/// rows freed.
+/// Every open session with a deadline at or before now ends: the values of its keys are dropped,
+/// its rows freed.
 fn sweep_sessions(state: &mut Bytes, now: u64) {
     let mut ended = [0u32; SESSIONS];
     let mut count = 0;

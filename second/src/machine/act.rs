@@ -136,8 +136,8 @@ impl Machine {
         }
     }
 
-    /// Whether this step of the session on the key is the next one; before it, the refusals of STAGE
-    /// and DELTA in order: NO SESSION, SEALED, NO LEASE, KIND, AHEAD.
+    /// Whether this step of the session on the key is the next one; before it, the refusals of
+    /// STAGE and DELTA in order: NO SESSION, SEALED, NO LEASE, KIND, AHEAD.
     fn is_next(&self, session: u64, step: u64, key: u8, kind: u64) -> Result<bool, u64> {
         let session = self.open(session)?;
         let row = session.rows.get(&key).ok_or(refusal::NO_LEASE)?;

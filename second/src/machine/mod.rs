@@ -112,8 +112,8 @@ impl Machine {
         }
     }
 
-    /// SHOW: the value with which GET, nothing expiring, would answer HIT, and where it stands in the
-    /// lent layout; or ARG or NO SESSION.
+    /// SHOW: the value with which GET, nothing expiring, would answer HIT, and where it stands in
+    /// the lent layout; or ARG or NO SESSION.
     pub fn show(&self, session: u64, key: u64) -> Result<Option<(usize, &Value)>, u64> {
         if !is_key(key) {
             return Err(refusal::ARG);
