@@ -1,15 +1,13 @@
-//! How long the well-formed check takes, beside reading the 65,536 bytes once.
+//! The states that the benchmarks run on.
 
-use second::lent::{encode, well_formed, well_formed_plain};
-use second::numbers::{KEYS, ROWS, SESSIONS, STATE_BYTES};
+use second::lent::encode;
+use second::numbers::{KEYS, ROWS, SESSIONS};
 use second::tables::{KeyRecord, Lease, RowRecord, SessionRecord, Staged, Standing, Tables};
 use second::value::Value;
-use std::hint::black_box;
-use std::time::Instant;
 
 /// How full a state is, and how far apart its numbers are.
-struct Plan {
-    name: &'static str,
+pub struct Plan {
+    pub name: &'static str,
     sessions: u64,
     rows: u64,
     values: u64,
@@ -17,7 +15,7 @@ struct Plan {
     apart: u64,
 }
 
-const PLANS: [Plan; 4] = [
+pub const PLANS: [Plan; 4] = [
     Plan { name: "fresh", sessions: 0, rows: 0, values: 0, leases: 0, apart: 1 },
     Plan { name: "light", sessions: 10, rows: 20, values: 100, leases: 10, apart: 1 },
     Plan { name: "full", sessions: 128, rows: 384, values: 256, leases: 253, apart: 1 },
@@ -25,7 +23,7 @@ const PLANS: [Plan; 4] = [
 ];
 
 /// A well-formed state of the plan; its first keys have the rows, its last the leases.
-fn state(plan: &Plan) -> Vec<u8> {
+pub fn state(plan: &Plan) -> Vec<u8> {
     let held_keys = if plan.rows > 128 { 3 } else { plan.rows };
     let keys = (0..KEYS as u64).map(|key| {
         let spread = key * 151 % KEYS as u64;
@@ -63,33 +61,4 @@ fn state(plan: &Plan) -> Vec<u8> {
         rows: rows.collect(),
         sessions: sessions.collect(),
     })
-}
-
-/// The floor: every byte read once.
-fn any_bit(state: &[u8]) -> bool {
-    state.as_chunks().0.iter().fold(0, |sum, word| sum | u64::from_le_bytes(*word)) != 0
-}
-
-/// The quickest of many rounds, in ns for each call.
-fn nanoseconds(state: &[u8], judge: fn(&[u8]) -> bool) -> f64 {
-    let mut best = f64::MAX;
-    for _ in 0..40 {
-        let begun = Instant::now();
-        for _ in 0..500 {
-            assert!(judge(black_box(state)));
-        }
-        best = best.min(begun.elapsed().as_nanos() as f64 / 500.0);
-    }
-    best
-}
-
-fn main() {
-    for plan in &PLANS {
-        let state = state(plan);
-        assert_eq!(state.len(), STATE_BYTES);
-        assert!(well_formed_plain(&state), "{}", plan.name);
-        let floor = nanoseconds(&state, any_bit);
-        let check = nanoseconds(&state, well_formed);
-        println!("{:<10} {check:7.0} ns   {:.2} of the floor", plan.name, check / floor);
-    }
 }
