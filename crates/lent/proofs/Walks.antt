@@ -33,7 +33,11 @@ module _ (p : ℕ → Bool) where
       go true q = clash (p i) (every-all n i q h) e
       go false q = q
 
-  -- a turn of a loop that tests each index
+  -- a loop that tests each index, as it starts and a turn of it
+  pub every-none : every p 0 ≡ true
+  unfolding every
+  every-none = refl
+
   pub every-more : (i : ℕ) → every p i ≡ true → p i ≡ true → every p (i + 1) ≡ true
   unfolding every
   every-more i h e = rw (add-one, h, e)

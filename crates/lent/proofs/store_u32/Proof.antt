@@ -1,11 +1,11 @@
+-- `store_u32` is four stores in a row.
+-- Assumes nothing.
 use native.Mathlib.Omega.{arith}
 use lib.ListN.{length-set}
-use Rattle.lent.proofs.Stores.{stores4}
 use borrow.Author.Needs.{needs}
+use Rattle.lent.proofs.Stores.{stores4}
 use Rattle.lent.proofs.store_u32.Statement.{statement}
 use Rattle.lent.proofs.store_u32.Tie as tie
-use Rattle.lent.proofs.store_u32.Reads as reads
-use Rattle.lent.proofs.store_u32.Lts as lts
 
 cast-s : tie.Need-cast-s
 cast-s c = search needs

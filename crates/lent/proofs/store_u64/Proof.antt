@@ -1,14 +1,12 @@
-use mathlib.Core.Path.{refl}
+-- `store_u64` is two writes, one behind the other.
+-- Assumes nothing.
 use Prim.Native.Nat.{_%_, _/_}
-use Rattle.lent.specs.Bytes.{bytes32}
-use mathlib.Core.Path.{_≡_, sym, ap, _∙_}
-use Rattle.lent.proofs.Splice.{splice-next}
+use mathlib.Core.Path.{refl, _∙_}
 use borrow.Author.Needs.{needs}
+use Rattle.lent.specs.Bytes.{bytes32}
+use Rattle.lent.proofs.Splice.{splice-next}
 use Rattle.lent.proofs.store_u64.Statement.{statement}
 use Rattle.lent.proofs.store_u64.Tie as tie
-use Rattle.lent.proofs.store_u64.Reads as reads
-use Rattle.lent.proofs.store_u64.Lts as lts
-use Rattle.lent.proofs.store_u32.Reads as store-u32-reads
 
 cast-store-u32 : tie.Need-cast-store-u32
 cast-store-u32 c = search needs
