@@ -4,3 +4,8 @@ pub mod Decided
 pub mod Examples
 pub mod Table
 pub mod Refused
+pub mod Every
+pub mod WellFormed
+pub mod SoundMeans
+pub mod Orderly
+pub mod Accepted
