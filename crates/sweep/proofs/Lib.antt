@@ -1,0 +1,4 @@
+pub mod Passes
+pub mod Ended
+pub mod Due
+pub mod Lapsing
