@@ -1,2 +1,4 @@
 pub mod Layout
 pub mod WellFormed
+pub mod Fields
+pub mod Holds

@@ -1,0 +1,5 @@
+pub mod Widths
+pub mod Records
+pub mod Places
+pub mod Fitting
+pub mod Formed
