@@ -3,3 +3,4 @@ pub mod Records
 pub mod Places
 pub mod Fitting
 pub mod Formed
+pub mod Held

@@ -97,7 +97,7 @@ module _ (s : State) (f : Fits s) where
 
   -- ---- reading all
 
-  heads : decHead (encode s) ≡ s .head
+  pub heads : decHead (encode s) ≡ s .head
   heads = sym (head-win (encode s)) ∙ ap decHead head-at ∙ head-read (s .head) (f .head)
 
   keys : readTab decKey keyWidth keyCount (drop keysFrom (encode s)) ≡ s .keys
