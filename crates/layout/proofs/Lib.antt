@@ -4,3 +4,4 @@ pub mod Places
 pub mod Fitting
 pub mod Formed
 pub mod Held
+pub mod Parts
