@@ -1,3 +1,4 @@
+pub mod Staged
 pub mod Passes
 pub mod Ended
 pub mod Due
