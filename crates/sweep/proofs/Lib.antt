@@ -1,3 +1,4 @@
+pub mod Deadlines
 pub mod Staged
 pub mod Passes
 pub mod Ended

@@ -1,3 +1,6 @@
+use mathlib.Core.Path.{_≡_, sym, ap, _∙_}
+use native.Mathlib.Omega.{arith}
+use Rattle.sweep.proofs.Deadlines.{lapsed-not-held, lapsed-held}
 use borrow.Author.Needs.{needs}
 use Rattle.sweep.proofs.records.lease_lapsed.Statement.{statement}
 use Rattle.sweep.proofs.records.lease_lapsed.Tie as tie
@@ -24,7 +27,7 @@ load-u32-requires c κs = search needs
 
 -- src/records.rt:83:9
 returns : tie.Need-returns
-returns c = ?
+returns c = λ σ h. sym (lapsed-not-held (c .before .before .before .args .time) h (c .before .before .before .args .k) (omega arith) (sym (c .before .load-u32 .ensures) ∙ c .if1 .taken))
 
 -- src/records.rt:85:23
 add-load-u64 : tie.Need-add-load-u64
@@ -36,7 +39,7 @@ load-u64-requires c κs = search needs
 
 -- src/records.rt:77:1
 returns-2 : tie.Need-returns-2
-returns-2 c = ?
+returns-2 c = λ σ h. rw (c .load-u64 .ensures) (sym (lapsed-held (c .before .before .before .before .args .time) h (c .before .before .before .before .args .k) (omega arith) (λ q. c .before .if1 .left (c .before .before .load-u32 .ensures ∙ q))))
 
 pub lease-lapsed-spec : {M : Type 1} → statement M
 lease-lapsed-spec =

@@ -1,3 +1,6 @@
+use mathlib.Core.Path.{_≡_, sym, ap, _∙_}
+use native.Mathlib.Omega.{arith}
+use Rattle.sweep.proofs.Deadlines.{due-not-held, due-held}
 use borrow.Author.Needs.{needs}
 use Rattle.sweep.proofs.records.session_due.Statement.{statement}
 use Rattle.sweep.proofs.records.session_due.Tie as tie
@@ -23,7 +26,7 @@ shared-slice-read-if1 c = search needs
 
 -- src/records.rt:71:9
 returns : tie.Need-returns
-returns c = ?
+returns c = λ σ h. sym (due-not-held (c .before .before .before .args .time) h (c .before .before .before .args .i) (omega arith) (c .if1 .taken))
 
 -- src/records.rt:73:23
 add-load-u64 : tie.Need-add-load-u64
@@ -35,7 +38,7 @@ load-u64-requires c κs = search needs
 
 -- src/records.rt:65:1
 returns-2 : tie.Need-returns-2
-returns-2 c = ?
+returns-2 c = λ σ h. rw (c .load-u64 .ensures) (sym (due-held (c .before .before .before .before .args .time) h (c .before .before .before .before .args .i) (omega arith) (c .before .if1 .left)))
 
 pub session-due-spec : {M : Type 1} → statement M
 session-due-spec =
