@@ -8,39 +8,44 @@ use native.Mathlib.Omega.{arith}
 use lib.ListN.{length, getD, set, take, drop, length-map}
 use lib.Seq.{append-snoc, drop-cons, take-suc, take-length, drop-length, getD-at, set-at, length-take-le}
 use Rattle.lent.specs.Tables.{iter}
-use Rattle.lent.proofs.Walks.{iter-both}
 
-module _ {A B : Type 0} (f : A → A) (g : A → B → B) (d : A) where
-  -- b handed along the entries
+module _ {A : Type 0} (f : A → A) where
+  -- after n steps the entries before place n are new
+  abbrev newBefore : ℕ → List A → List A
+  newBefore n l = map f (take n l) ++ drop n l
+
+  module _ (d : A) (l : List A) (n : ℕ) (h : n < length l) where
+    new-length : length (map f (take n l)) ≡ n
+    new-length = length-map (take n l) f ∙ length-take-le n l (omega arith)
+
+    -- the next is old
+    pub next-old : getD (newBefore n l) n d ≡ getD l n d
+    next-old = rw (drop-cons l n d h) (getD-at (map f (take n l)) (getD l n d) (drop (suc n) l) d n new-length)
+
+    next-new : set (newBefore n l) n (f (getD l n d)) ≡ newBefore (suc n) l
+    next-new =
+        let x : A = getD l n d in
+        rw (drop-cons l n d h, set-at (map f (take n l)) x (drop (suc n) l) (f x) n new-length, take-suc l n d h, map-append, append-snoc)
+
+-- b handed along the entries
+module _ {A B : Type 0} (g : A → B → B) where
   abbrev pub along : List A → B → B
   along [] b = b
   along (x ∷ l) b = along l (g x b)
-
-  -- entry i is put through f, and b through what g says of it
-  abbrev pass : ℕ → (List A × B) → (List A × B)
-  pass i x = (set (x .0) i (f (getD (x .0) i d)), g (getD (x .0) i d) (x .1))
 
   along-snoc : (l : List A) (x : A) (b : B) → along (l ++ (x ∷ [])) b ≡ g x (along l b)
   along-snoc [] x b = refl
   along-snoc (y ∷ l) x b = along-snoc l x (g y b)
 
-  -- after n steps
-  passed : (l : List A) (b : B) (n : ℕ) → n ≤ length l → iter pass n (l, b) ≡ (map f (take n l) ++ drop n l, along (take n l) b)
+-- a loop over a table that lies, beside b, in something larger
+module _ {A B S : Type 0} (f : A → A) (g : A → B → B) (d : A) (with : List A → B → S) (step : ℕ → S → S)
+    (turn : (i : ℕ) (l : List A) (b : B) → step i (with l b) ≡ with (set l i (f (getD l i d))) (g (getD l i d) b)) (l : List A) (b : B) where
+  pub pass-part : (n : ℕ) → n ≤ length l → iter step n (with l b) ≡ with (newBefore f n l) (along g (take n l) b)
   unfolding iter
-  passed l b zero h = refl
-  passed l b (suc n) h =
-      let new : List A = map f (take n l) in
-      let old : List A = drop (suc n) l in
-      let x : A = getD l n d in
-      let here : length new ≡ n = length-map (take n l) f ∙ length-take-le n l (omega arith) in
-      let front : take (suc n) l ≡ take n l ++ (x ∷ []) = take-suc l n d h in
-      let more : map f (take (suc n) l) ++ old ≡ new ++ (f x ∷ old) = rw (front, map-append, append-snoc) in
-      let on : along (take (suc n) l) b ≡ g x (along (take n l) b) = rw front (along-snoc (take n l) x b) in
-      rw (passed l b n (omega arith), drop-cons l n d h, getD-at new x old d n here, set-at new x old (f x) n here, more, on)
+  pass-part zero h = refl
+  pass-part (suc n) h =
+      let handed : along g (take (suc n) l) b ≡ g (getD l n d) (along g (take n l) b) = rw (take-suc l n d h) (along-snoc g (take n l) (getD l n d) b) in
+      rw (pass-part n (omega arith), turn n (newBefore f n l) (along g (take n l) b), next-old f d l n h, next-new f d l n h, handed)
 
-  -- a loop over the places of a table that lies in something larger
-  pub pass-within : {S : Type 0} (with : List A → B → S) (step : ℕ → S → S) → ((i : ℕ) (l : List A) (b : B) → step i (with l b) ≡ with (set l i (f (getD l i d))) (g (getD l i d) b))
-      → (l : List A) (b : B) (n : ℕ) → length l ≡ n → iter step n (with l b) ≡ with (map f l) (along l b)
-  pass-within with step same l b n e =
-      iter-both (λ x y. x ≡ with (y .0) (y .1)) step pass n (with l b) (l, b) (λ i x y h q. rw q (same i (y .0) (y .1))) refl
-      ∙ rw (← e, passed l b (length l) (omega arith), take-length, drop-length, append-nil)
+  pub pass-whole : (n : ℕ) → length l ≡ n → iter step n (with l b) ≡ with (map f l) (along g l b)
+  pass-whole n e = rw (← e, pass-part (length l) (omega arith), take-length, drop-length, append-nil)

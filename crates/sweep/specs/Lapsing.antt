@@ -1,6 +1,7 @@
 -- 01, "Expiry comes first": whether anything expires, and what expiry does to one key and to one session.
 use Prim.Native.Nat.{ℕ}
 use mathlib.Core.Bool.{Bool, true, false, _||_}
+use mathlib.Core.List.{List, [], _∷_}
 use mathlib.Core.Option.{Option, none, some}
 use lib.Dec.{leb}
 use lib.ListN.{set}
@@ -35,6 +36,11 @@ lapseKey now k s = withKeys s (set (s .keys) k (lapsedLease now (keyOf s k)))
 -- the session at place i goes, if it is due
 abbrev pub freeDue : ℕ → Slot → Slot
 freeDue now e = if dueSlot now e then noSession else e
+
+-- and its number is noted
+abbrev pub noted : ℕ → Slot → List ℕ
+noted now noSession = []
+noted now (session x) = if isDue now x then x .number ∷ [] else []
 
 unfoldable pub endDue : ℕ → ℕ → State → State
 endDue now i s = withSessions s (set (s .sessions) i (freeDue now (sessionAt s i)))

@@ -5,6 +5,7 @@ ghost use Prim.Native.Nat.{_<_};
 ghost use lib.ListN.{length, set};
 ghost use Rattle.machine.specs.Sizes.{stateSize, keyCount, sessionCount, rowCount};
 ghost use Rattle.machine.specs.State.{State, noSession, noRow, stagedIn, keyOf, sessionAt, rowAt};
+ghost use Rattle.machine.specs.Sound.{numberIn};
 ghost use Rattle.machine.specs.Expiry.{withKeys, withSessions, withRows, setValue, setLease};
 ghost use Rattle.machine.specs.Effects.{toCache};
 ghost use Rattle.layout.specs.Fields.{rowSession, rowKey, stagedMark};
@@ -59,6 +60,14 @@ pub fn free_session(s: &mut [u8], i: usize)
     ensures { λ _. ⌜ ((σ : State) → Holds (now (s .entry)) σ → Holds (now (s .exit)) (withSessions σ (set (σ .sessions) i noSession))) ⌝ }
 {
     lent::clear(s, SESSIONS_FROM + i * SESSION_WIDTH, SESSION_WIDTH);
+}
+
+// A session's number, 0 where the place is free.
+pub fn session_number(s: &[u8], i: usize) -> u32
+    requires { ⌜ (length (now s) ≡ stateSize) × (i < sessionCount) ⌝ }
+    ensures { λ r. ⌜ ((σ : State) → Holds (now (s .entry)) σ → r ≡ numberIn (sessionAt σ i)) ⌝ }
+{
+    lent::load_u32(s, SESSIONS_FROM + i * SESSION_WIDTH)
 }
 
 // Open, with its deadline at or before now.
