@@ -68,16 +68,3 @@ unfolding endDue
 session-ahead now s i h =
     ap (λ (t : State). sessionAt t i) (pass-part (freeDue now) (λ x b. b) noSession (λ l b. withSessions s l) (endDue now) (λ i l b. refl) (s .sessions) (tt {0}) i (omega arith))
     ∙ next-old (freeDue now) noSession (s .sessions) i h
-
--- what is left to do: the sessions of those numbers end
-pub leave-rest : (ns : List ℕ) (s : State) → withSessions (endRows Ending.Leaves ns s) (map (freeSession ns) (s .sessions)) ≡ leave ns s
-unfolding leave endRows
-leave-rest ns s = refl
-
-pub finish-rest : (ns : List ℕ) (s : State) → withSessions (endRows Ending.Caches ns s) (map (freeSession ns) (s .sessions)) ≡ finish ns toCache s
-unfolding finish leave endRows
-finish-rest ns s = refl
-
-pub lapse-rest : (ns : List ℕ) (s : State) → withSessions (endRows Ending.Lapses ns s) (map (freeSession ns) (s .sessions)) ≡ finish ns lapsedValue s
-unfolding finish leave endRows
-lapse-rest ns s = refl

@@ -12,7 +12,10 @@ use Rattle.machine.specs.Tables.{any, mem}
 use Rattle.machine.specs.Session.{isDue}
 use Rattle.machine.specs.State.{Value, Lease, Key, Slot, noSession, session, Staged, Row, noRow, row, State}
 use Rattle.machine.specs.Expiry.{withKeys, freeSession, freeIfOf, settle, leave, finish, lapsedValue, unlapsed, lapsedLease, those, expire}
+use Rattle.machine.specs.Effects.{toCache}
 use Rattle.machine.specs.declared.Session.{Session}
+use Rattle.sweep.specs.declared.Ending.{Ending}
+use Rattle.sweep.specs.Ends.{settled, endRows}
 use Rattle.sweep.specs.Lapsing.{lapsed, lapsedOn, dueSlot, lapsing}
 
 -- a map that changes only what passes a test that nothing passes
@@ -48,7 +51,16 @@ settle-none f [] ks = refl
 settle-none f (noRow ∷ rs) ks = settle-none f rs ks
 settle-none f (row n k d u ∷ rs) ks = settle-none f rs ks
 
-pub finish-none : (f : Staged → Option Value) (s : State) → finish [] f s ≡ s
+pub rows-of-none : (e : Ending) (s : State) → endRows e [] s ≡ s
+unfolding endRows
+rows-of-none e s = rw (go e, rows-none (s .rows))
+  where
+    go : (e : Ending) → settled e [] (s .rows) (s .keys) ≡ s .keys
+    go Ending.Leaves = refl
+    go Ending.Lapses = settle-none lapsedValue (s .rows) (s .keys)
+    go Ending.Caches = settle-none toCache (s .rows) (s .keys)
+
+finish-none : (f : Staged → Option Value) (s : State) → finish [] f s ≡ s
 unfolding finish leave
 finish-none f s = rw (settle-none, rows-none, free-none)
 

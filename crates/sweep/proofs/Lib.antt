@@ -6,3 +6,4 @@ pub mod Passes
 pub mod Ended
 pub mod Due
 pub mod Lapsing
+pub mod Whole

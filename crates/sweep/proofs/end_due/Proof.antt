@@ -27,9 +27,12 @@ same-length c = search needs
 
 -- src/lib.rt:170:9
 returns : tie.Need-returns
-returns c = (search needs, λ σ h.
-    let stays : dueSlot (c .before .before .before .before .before .args .time) (sessionAt σ (c .before .before .before .before .before .args .i)) ≡ false = sym (c .before .session-due .ensures σ h) ∙ not-true _ (c .if1 .taken) in
-    (rw (session-stays _ _ σ stays) h, rw (noted-not _ _ stays) (sym (append-nil _))))
+returns c = (
+  search needs,
+  λ σ h.
+      let stays : dueSlot (c .before .before .before .before .before .args .time) (sessionAt σ (c .before .before .before .before .before .args .i)) ≡ false = sym (c .before .session-due .ensures σ h) ∙ not-true _ (c .if1 .taken) in
+      (rw (session-stays _ _ σ stays) h, rw (noted-not _ _ stays) (sym (append-nil _))),
+)
 
 -- src/lib.rt:172:17
 session-number-requires : tie.Need-session-number-requires
@@ -61,10 +64,14 @@ same-length-3 c = search needs
 
 -- src/lib.rt:165:1
 returns-2 : tie.Need-returns-2
-returns-2 c = (search needs, λ σ h.
-    let ends : dueSlot (c .before .before .before .before .before .before .before .before .before .before .before .args .time) (sessionAt σ (c .before .before .before .before .before .before .before .before .before .before .before .args .i)) ≡ true = sym (c .before .before .before .before .before .before .before .session-due .ensures σ h) ∙ not-false _ (c .before .before .before .before .before .before .if1 .left) in
-    (rw (session-ends _ _ σ ends) (c .before .before .free-session .ensures σ h),
-    rw (noted-is _ _ ends, ← (c .before .before .before .before .session-number .ensures σ h), add-one) (take-suc-set (c .before .before .before .before .before .before .before .before .before .before .before .args .ns .now) (c .before .before .before .before .before .before .before .before .before .before .before .args .count) (c .before .before .before .before .session-number .result) (omega arith))))
+returns-2 c = (
+  search needs,
+  λ σ h.
+      let ends : dueSlot (c .before .before .before .before .before .before .before .before .before .before .before .args .time) (sessionAt σ (c .before .before .before .before .before .before .before .before .before .before .before .args .i)) ≡ true = sym (c .before .before .before .before .before .before .before .session-due .ensures σ h) ∙ not-false _ (c .before .before .before .before .before .before .if1 .left) in (
+        rw (session-ends _ _ σ ends) (c .before .before .free-session .ensures σ h),
+        rw (noted-is _ _ ends, ← (c .before .before .before .before .session-number .ensures σ h), add-one) (take-suc-set (c .before .before .before .before .before .before .before .before .before .before .before .args .ns .now) (c .before .before .before .before .before .before .before .before .before .before .before .args .count) (c .before .before .before .before .session-number .result) (omega arith)),
+      ),
+)
 
 pub end-due-spec : {M : Type 1} → statement M
 end-due-spec =

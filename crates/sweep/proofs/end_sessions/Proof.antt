@@ -45,11 +45,24 @@ loop-less c = search needs
 
 -- src/lib.rt:183:5
 loop-again : tie.Need-loop-again Inv-loop μ-loop
-loop-again c = (search needs, (search needs, (search needs, (search needs, λ σ h.
-    let was = c .before .before .before .before .before .before .before .before .loop .inv .1 .1 .1 .1 σ h in
-    let now = c .before .before .before .before .end-due .ensures .1 (iter (endDue (c .before .before .before .before .before .before .before .before .before .before .before .args .time)) (c .before .before .before .before .before .before .before .before .loop .i) σ) (was .0) in
-    (rw (iter-more (endDue (c .before .before .before .before .before .before .before .before .before .before .before .args .time)) (c .before .before .before .before .before .before .before .before .loop .i) σ) (now .0),
-    now .1 ∙ rw (was .1, session-ahead (c .before .before .before .before .before .before .before .before .before .before .before .args .time) σ (c .before .before .before .before .before .before .before .before .loop .i) (omega (arith, h .fits .sessions))) (those-more (c .before .before .before .before .before .before .before .before .before .before .before .args .time) (σ .sessions) (c .before .before .before .before .before .before .before .before .loop .i) (omega (arith, h .fits .sessions))))))))
+loop-again c = (
+  search needs,
+  (
+    search needs,
+    (
+      search needs,
+      (
+        search needs,
+        λ σ h.
+            let was = c .before .before .before .before .before .before .before .before .loop .inv .1 .1 .1 .1 σ h in
+            let now = c .before .before .before .before .end-due .ensures .1 (iter (endDue (c .before .before .before .before .before .before .before .before .before .before .before .args .time)) (c .before .before .before .before .before .before .before .before .loop .i) σ) (was .0) in (
+              rw (iter-more (endDue (c .before .before .before .before .before .before .before .before .before .before .before .args .time)) (c .before .before .before .before .before .before .before .before .loop .i) σ) (now .0),
+              now .1 ∙ rw (was .1, session-ahead (c .before .before .before .before .before .before .before .before .before .before .before .args .time) σ (c .before .before .before .before .before .before .before .before .loop .i) (omega (arith, h .fits .sessions))) (those-more (c .before .before .before .before .before .before .before .before .before .before .before .args .time) (σ .sessions) (c .before .before .before .before .before .before .before .before .loop .i) (omega (arith, h .fits .sessions))),
+            ),
+      ),
+    ),
+  ),
+)
 
 -- src/lib.rt:178:1
 same-length : tie.Need-same-length Inv-loop μ-loop
@@ -61,11 +74,15 @@ same-length-2 c = search needs
 
 -- src/lib.rt:178:1
 returns : tie.Need-returns Inv-loop μ-loop
-returns c = (search needs, λ σ h.
-    let e : c .before .loop .i ≡ sessionCount = omega arith in
-    let was = c .before .loop .inv .1 .1 .1 .1 σ h in
-    (rw (← sessions-ended (c .before .before .before .before .args .time) σ (h .fits .sessions), ← e) (was .0),
-    was .1 ∙ ap (those (isDue (c .before .before .before .before .args .time))) (take-all (c .before .loop .i) (σ .sessions) (omega (arith, h .fits .sessions)))))
+returns c = (
+  search needs,
+  λ σ h.
+      let e : c .before .loop .i ≡ sessionCount = omega arith in
+      let was = c .before .loop .inv .1 .1 .1 .1 σ h in (
+        rw (← sessions-ended (c .before .before .before .before .args .time) σ (h .fits .sessions), ← e) (was .0),
+        was .1 ∙ ap (those (isDue (c .before .before .before .before .args .time))) (take-all (c .before .loop .i) (σ .sessions) (omega (arith, h .fits .sessions))),
+      ),
+)
 
 pub end-sessions-spec : {M : Type 1} → statement M
 end-sessions-spec =

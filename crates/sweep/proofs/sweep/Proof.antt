@@ -1,3 +1,11 @@
+use mathlib.Core.Path.{_≡_, sym, ap, _∙_}
+use mathlib.Core.List.{List, [], _∷_}
+use native.Mathlib.Omega.{arith}
+use Prim.Native.Nat.{ℕ}
+use lib.ListN.{take, length-take}
+use Rattle.machine.specs.Session.{isDue}
+use Rattle.machine.specs.Expiry.{those}
+use Rattle.sweep.proofs.Whole.{expire-whole, expire-none}
 use borrow.Author.Needs.{needs}
 use Rattle.sweep.proofs.sweep.Statement.{statement}
 use Rattle.sweep.proofs.sweep.Tie as tie
@@ -25,7 +33,10 @@ same-length c = search needs
 
 -- src/lib.rt:198:9
 returns : tie.Need-returns
-returns c = ?
+returns c = λ σ h ok.
+    let ends = c .before .before .before .before .end-sessions .ensures .1 _ (c .before .before .before .before .before .before .before .before .before .lapse-leases .ensures σ h) in
+    let empty : those (isDue (c .before .before .before .before .before .before .before .before .before .before .before .before .args .time)) (σ .sessions) ≡ [] = sym (ends .1) ∙ ap (λ (n : ℕ). take n (c .before .before .before .before .end-sessions .last .1 .1 .0)) (c .if1 .taken) in
+    rw (← expire-none σ ok (c .before .before .before .before .before .before .before .before .before .before .before .before .args .time) empty) (ends .0)
 
 -- src/lib.rt:200:17
 array-share-prefix-ns : tie.Need-array-share-prefix-ns
@@ -33,7 +44,7 @@ array-share-prefix-ns c = search needs
 
 -- src/lib.rt:200:17
 slice-aggregate-end-rows : tie.Need-slice-aggregate-end-rows
-slice-aggregate-end-rows c = ?
+slice-aggregate-end-rows c = simp length-take (omega arith)
 
 -- src/lib.rt:200:5
 end-rows-requires : tie.Need-end-rows-requires
@@ -45,7 +56,9 @@ same-length-2 c = search needs
 
 -- src/lib.rt:190:1
 returns-2 : tie.Need-returns-2
-returns-2 c = ?
+returns-2 c = λ σ h ok.
+    let ends = c .before .before .before .before .before .before .before .before .before .end-sessions .ensures .1 _ (c .before .before .before .before .before .before .before .before .before .before .before .before .before .before .lapse-leases .ensures σ h) in
+    rw (← expire-whole σ ok (c .before .before .before .before .before .before .before .before .before .before .before .before .before .before .before .before .before .args .time), ← ends .1) (c .before .before .end-rows .ensures _ (ends .0))
 
 pub sweep-spec : {M : Type 1} → statement M
 sweep-spec =
