@@ -1,2 +1,68 @@
-// The records of the lent state, between bytes and values.
-ghost use mathlib.Core.Path.{_≡_};
+// The layout of the lent state's 65,536 bytes (docs/LAYOUT.md): where each table stands, how wide its records are, and what a search tells.
+
+pub const STATE_SIZE: usize = 65536;
+
+// The header: clock, read lifetime, write lifetime, next session, next token.
+pub const CLOCK: usize = 0;
+
+pub const READ_LIFE: usize = 8;
+
+pub const WRITE_LIFE: usize = 12;
+
+pub const NEXT_SESSION: usize = 16;
+
+pub const NEXT_TOKEN: usize = 20;
+
+// A key: 1 if a value is there, its length, token and deadline of its I lease, the value.
+pub const KEYS_FROM: usize = 64;
+
+pub const KEY_WIDTH: usize = 80;
+
+pub const KEY_COUNT: usize = 256;
+
+pub const KEY_LENGTH: usize = 1;
+
+pub const KEY_TOKEN: usize = 4;
+
+pub const KEY_UNTIL: usize = 8;
+
+pub const KEY_VALUE: usize = 16;
+
+// A Q row: session, key, kind, what is staged, its length, the value.
+pub const ROWS_FROM: usize = 20544;
+
+pub const ROW_WIDTH: usize = 72;
+
+pub const ROW_COUNT: usize = 384;
+
+pub const ROW_KEY: usize = 4;
+
+pub const ROW_KIND: usize = 5;
+
+pub const ROW_STAGED: usize = 6;
+
+pub const ROW_LENGTH: usize = 7;
+
+pub const ROW_VALUE: usize = 8;
+
+// A session: number, 1 open or 2 sealed, count, deadline.
+pub const SESSIONS_FROM: usize = 48192;
+
+pub const SESSION_WIDTH: usize = 16;
+
+pub const SESSION_COUNT: usize = 128;
+
+pub const SESSION_LIFE: usize = 4;
+
+pub const SESSION_STEPS: usize = 6;
+
+pub const SESSION_UNTIL: usize = 8;
+
+// A value takes at most this many bytes.
+pub const VALUE_MAX: usize = 64;
+
+// The place of the first record that a search is for.
+pub enum Found {
+    At(usize),
+    Nothing,
+}
