@@ -11,6 +11,7 @@ use machine::Answer;
 
 // A lifetime, in ms.
 const LIFE_MIN: u64 = 1;
+
 const LIFE_MAX: u64 = 600000;
 
 fn is_lifetime(n: u64) -> bool
