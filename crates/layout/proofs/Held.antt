@@ -86,6 +86,26 @@ module _ {b : List ℕ} {s : State} (h : Holds b s) where
   pub head-is : decHead b ≡ s .head
   head-is = ap decHead (h .bytes) ∙ heads s (h .fits)
 
+  pub clock-held : le64 b 0 ≡ s .head .clock
+  unfolding decHead
+  clock-held = ap (λ (x : Head). x .clock) head-is
+
+  pub read-held : le32 b 8 ≡ s .head .readLife
+  unfolding decHead
+  read-held = ap (λ (x : Head). x .readLife) head-is
+
+  pub write-held : le32 b 12 ≡ s .head .writeLife
+  unfolding decHead
+  write-held = ap (λ (x : Head). x .writeLife) head-is
+
+  pub session-next-held : le32 b 16 ≡ s .head .nextSession
+  unfolding decHead
+  session-next-held = ap (λ (x : Head). x .nextSession) head-is
+
+  pub token-next-held : le32 b 20 ≡ s .head .nextToken
+  unfolding decHead
+  token-next-held = ap (λ (x : Head). x .nextToken) head-is
+
   pub store-head : (x : Head) → HeadFits x → Holds (splice b 0 (encHead x)) (withHead s x)
   store-head x g = record {
     bytes = rw (h .bytes) (put-head s (h .fits) x);

@@ -5,3 +5,4 @@ pub mod Fitting
 pub mod Formed
 pub mod Held
 pub mod Parts
+pub mod Search

@@ -5,13 +5,13 @@ use mathlib.Core.Path.{_≡_, refl, sym, ap, ap₂, _∙_}
 use mathlib.Core.Bool.{Bool, true, false, not}
 use mathlib.Core.List.{List, [], _∷_, _++_}
 use mathlib.Core.Option.{Option, none, some}
-use Prim.Native.Nat.{ℕ, _+_, _*_, _≤_, _<_, _^_}
+use Prim.Native.Nat.{ℕ, _+_, _-_, _*_, _≤_, _<_, _^_}
 use native.Mathlib.Nat.{add-zero}
 use native.Mathlib.Omega.{arith}
-use lib.ListN.{length, getD, set, length-append}
+use lib.ListN.{length, set, length-replicate}
 use Rattle.lent.specs.Bytes.{bytes32, bytes64, splice, win, zeros}
 use Rattle.lent.proofs.Choices.{clash}
-use Rattle.lent.proofs.Splice.{length-splice, length-win, splice-append, splice-front, splice-whole}
+use Rattle.lent.proofs.Splice.{length-splice, length-win, splice-append, splice-front, splice-next, splice-whole}
 use Rattle.machine.specs.Sizes.{keyCount, sessionCount, rowCount, headSize, keysFrom, keyWidth, rowsFrom, rowWidth, sessionsFrom, sessionWidth, valueMax}
 use Rattle.machine.specs.State.{Value, Head, Lease, Key, Slot, noSession, Staged, nothing, staged, DROP, Row, noRow, row, State, blank, keyOf, rowAt, freeRow}
 use Rattle.machine.specs.Expiry.{withHead, withKeys, withSessions, withRows, withClock, withNumbers, setValue, setLease}
@@ -44,6 +44,11 @@ module _ (b : List ℕ) (a w : ℕ) (x : List ℕ) (e : win b a w ≡ x) (l : a 
   parts-put y j z v m n q =
       let lx : length x ≡ w = ap length (sym e) ∙ length-win b a w l in
       part-more b a w l (splice b a y) (splice x 0 y) j z (front-put y (splice x 0 y) m refl) (length-splice x 0 y (omega arith) ∙ lx) n ∙ rw q
+
+-- ---- a value in its 64 bytes
+
+pub padded-put : (b v : List ℕ) (a : ℕ) → length v ≤ valueMax → a + valueMax ≤ length b → splice (splice b a v) (a + length v) (zeros (valueMax - length v)) ≡ splice b a (padded v)
+padded-put b v a h l = splice-next b v (zeros (valueMax - length v)) a (length v) refl (simp length-replicate (omega arith))
 
 -- ---- a key
 

@@ -1,4 +1,14 @@
-// The layout of the lent state's 65,536 bytes (docs/LAYOUT.md): where each table stands, how wide its records are, and what a search tells.
+// The layout of the lent state's 65,536 bytes (docs/LAYOUT.md): where each table stands and how wide its records are; the search of a table
+// by the number that its records start with, and the writing of a value.
+ghost use mathlib.Core.Path.{_≡_};
+ghost use mathlib.Core.List.{[], _∷_};
+ghost use Prim.Native.Nat.{_+_, _*_, _≤_, _<_};
+ghost use lib.ListN.{length};
+ghost use Rattle.lent.specs.Bytes.{splice};
+ghost use Rattle.lent.specs.Tables.{first};
+ghost use Rattle.machine.specs.Sizes.{valueMax};
+ghost use Rattle.layout.specs.Layout.{padded};
+ghost use Rattle.layout.specs.Search.{Below, startsWith};
 
 pub const STATE_SIZE: usize = 65536;
 
@@ -65,4 +75,37 @@ pub const VALUE_MAX: usize = 64;
 pub enum Found {
     At(usize),
     Nothing,
+}
+
+// The first of the `count` records of `width` bytes at `from` that starts with the number n.
+pub fn find_number(s: &[u8], from: usize, width: usize, count: usize, n: u64) -> Found
+    requires { ⌜ (from + count * width ≤ length (now s)) × (4 ≤ width) ⌝ }
+    ensures { λ r. ⌜ (r ≡ first (startsWith (now (s .entry)) from width n) Found.At Found.Nothing 0 count) × Below count r ⌝ }
+{
+    for i in 0..count {
+        let at = from + i * width;
+        if lent::load_u32(s, at) as u64 == n {
+            return Found::At(i);
+        }
+    }
+    Found::Nothing
+}
+
+// Two bytes.
+pub fn store_pair(s: &mut [u8], at: usize, a: u8, b: u8)
+    requires { ⌜ at + 2 ≤ length (now s) ⌝ }
+    ensures { λ _. ⌜ now (s .exit) ≡ splice (now (s .entry)) at (a ∷ b ∷ []) ⌝ }
+{
+    s[at] = a;
+    s[at + 1] = b;
+}
+
+// A value in its 64 bytes, zero behind it.
+pub fn store_value(s: &mut [u8], at: usize, v: &[u8])
+    requires { ⌜ (length (now v) ≤ valueMax) × (at + valueMax ≤ length (now s)) ⌝ }
+    ensures { λ _. ⌜ now (s .exit) ≡ splice (now (s .entry)) at (padded (now (v .entry))) ⌝ }
+{
+    lent::copy_in(s, at, v);
+    let n = v.len();
+    lent::clear(s, at + n, VALUE_MAX - n);
 }

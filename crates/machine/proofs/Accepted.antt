@@ -1,11 +1,11 @@
 -- What is known of a command that is not refused: every test of its list was false, so what it names is there, and the
 -- decision table lets only an invalidation stand beside an invalidation, and no I lease beside a quarantine.
 use mathlib.Core.Path.{_≡_, refl, sym, ap, _∙_}
-use mathlib.Core.Bool.{Bool, true, false, not, _&&_}
+use mathlib.Core.Bool.{true, false}
 use mathlib.Core.Logic.{_⊎_, inl, inr}
-use mathlib.Core.List.{List, _∷_}
+use mathlib.Core.List.{_∷_}
 use mathlib.Core.Option.{Option, none, some}
-use Prim.Native.Nat.{ℕ, zero, suc, _≤_}
+use Prim.Native.Nat.{ℕ, suc, _≤_}
 use native.Mathlib.Omega.{arith}
 use borrow.Author.Tests.{eqb-true, leb-true}
 use lib.Dec.{eqb, leb}
@@ -13,15 +13,15 @@ use lib.ListN.{getD}
 use Rattle.machine.specs.Sizes.{numberMax}
 use Rattle.machine.specs.Tables.{place, find}
 use Rattle.machine.specs.Words.{isKind}
-use Rattle.machine.specs.Session.{sealedLife}
 use Rattle.machine.specs.Decision.{decision, grants}
-use Rattle.machine.specs.State.{Value, Lease, Slot, noSession, session, Staged, Row, noRow, row, State, free, freeRow, numbered, on, ofOn, kindOf, sessionPlace, sessionOf, rowPlace, rowOf, sessionAt, rowAt}
-use Rattle.machine.specs.Refusals.{decide, blocked, sight, wouldLease, sealedSlot, clockRefusal, refusals, refusal}
+use Rattle.machine.specs.State.{Value, Lease, Slot, noSession, session, Staged, Row, noRow, row, State, free, freeRow, numbered, on, ofOn, kindOf, sessionOf, rowPlace, rowOf, rowAt}
+use Rattle.machine.specs.Refusals.{decide, blocked, sight, wouldLease, clockRefusal, refusals, refusal}
 use Rattle.machine.specs.Effects.{matches}
 use Rattle.machine.specs.declared.Session.{Session}
 use Rattle.machine.specs.declared.Command.{Command}
 use Rattle.machine.specs.declared.Command.the-variants.{Get}
 use Rattle.machine.proofs.Views
+use Rattle.machine.proofs.Table.{only-Q1-shares, quarantined-backs-off}
 use Rattle.machine.proofs.Orderly.{Orderly}
 
 -- each test of an accepted command was false
@@ -34,61 +34,36 @@ pub room-for : (s : State) (now n k : ℕ) (v : Value) → refusal s now (Get n 
 unfolding refusals wouldLease
 room-for s now n k v e p q b = rw (p, q, b) at (passed s now (Get n k) v e 3)
 
--- kinds
-
 pub is-kind : (d : ℕ) → isKind d ≡ true → (1 ≤ d) × (d ≤ 3)
 is-kind d e = (leb-true 1 d (Views.and-true₁ (leb 1 d) (leb d 3) e), leb-true d 3 (Views.and-true₂ (leb 1 d) (leb d 3) e))
 
--- what holds of 1, 2 and 3 holds of each kind
-each-kind : (P : ℕ → Type 0) → P 1 → P 2 → P 3 → (d : ℕ) → (1 ≤ d) × (d ≤ 3) → P d
-each-kind P a b c zero h = absurd (omega (arith, h .0))
-each-kind P a b c (suc zero) h = a
-each-kind P a b c (suc (suc zero)) h = b
-each-kind P a b c (suc (suc (suc zero))) h = c
-each-kind P a b c (suc (suc (suc (suc d)))) h = absurd (omega (arith, h .1))
-
--- the table, a row of kind d held and a asked: only Q1 shares, and with Q1
-Shares : ℕ → ℕ → Type 0
-Shares d a = grants (decision (suc d) a) ≡ true → (a ≡ 1) × (d ≡ 1)
-
-refuses : (d a : ℕ) → grants (decision (suc d) a) ≡ false → Shares d a
-unfolding Shares
-refuses d a e h = Views.clash _ h e
-
-pub shares : (d a : ℕ) → (1 ≤ d) × (d ≤ 3) → (1 ≤ a) × (a ≤ 3) → grants (decision (suc d) a) ≡ true → (a ≡ 1) × (d ≡ 1)
-unfolding Shares decision
-shares d a hd ha = each-kind (λ (d : ℕ). Shares d a)
-    (each-kind (Shares 1) (λ e. (refl, refl)) (refuses 1 2 refl) (refuses 1 3 refl) a ha)
-    (each-kind (Shares 2) (refuses 2 1 refl) (refuses 2 2 refl) (refuses 2 3 refl) a ha)
-    (each-kind (Shares 3) (refuses 3 1 refl) (refuses 3 2 refl) (refuses 3 3 refl) a ha)
-    d
-    hd
-
--- and no I lease is granted
-pub no-lease : (d : ℕ) → (1 ≤ d) × (d ≤ 3) → grants (decision (suc d) 0) ≡ false
-unfolding decision
-no-lease d h = each-kind (λ (d : ℕ). grants (decision (suc d) 0) ≡ false) refl refl refl d h
-
 module _ (s : State) (h : Orderly s) where
-  -- the first row on a key where there is one
-  first-on : (i m k d : ℕ) (v : Staged) → rowAt s i ≡ row m k d v → (n : ℕ) × (c : ℕ) × (u : Staged) × (find (on k) noRow (s .rows) ≡ row n k c u)
-  first-on i m k d v e = Views.on-row k (find (on k) noRow (s .rows)) (Views.find-passes (on k) noRow (s .rows) i refl (Views.row-on m k d v (rowAt s i) e))
+  -- the first row on a key where there is one, which decides
+  first-on : (i m k d : ℕ) (v : Staged) → rowAt s i ≡ row m k d v → (n : ℕ) × (c : ℕ) × (u : Staged) × (find (on k) noRow (s .rows) ≡ row n k c u) × (1 ≤ c) × (c ≤ 3)
+  first-on i m k d v e =
+      let r = Views.on-row k (find (on k) noRow (s .rows)) (Views.find-passes (on k) noRow (s .rows) i refl (Views.row-on m k d v (rowAt s i) e)) in
+      let range = h .kinds (place (on k) (s .rows)) (r .0) k (r .1) (r .2) (r .3) in
+      (r .0, r .1, r .2, r .3, range .0, range .1)
 
   -- a row may be granted: who has one on the key invalidates, as the asker does
   pub sharing : (k a : ℕ) → (1 ≤ a) × (a ≤ 3) → grants (decide s k a) ≡ true → (i m d : ℕ) (v : Staged) → rowAt s i ≡ row m k d v → (a ≡ 1) × (d ≡ 1)
   unfolding decide
   sharing k a range e i m d v p =
       let r = first-on i m k d v p in
-      let at = place (on k) (s .rows) in
-      let x = shares (r .1) a (h .kinds at (r .0) k (r .1) (r .2) (r .3)) range (rw (r .3) at e) in
-      (x .0, elim (h .alone i at m (r .0) k d (r .1) v (r .2) p (r .3)) [ inl y ↦ y | inr y ↦ (let z : row m k d v ≡ row (r .0) k (r .1) (r .2) = sym p ∙ ap (rowAt s) y ∙ r .3 in let z′ : d ≡ r .1 = cc in z′ ∙ x .1) ])
+      let one = only-Q1-shares (suc (r .1)) a (omega (arith, r .4)) (omega (arith, r .5)) (range .0) (omega (arith, range .1)) (rw (r .3) at e) in (
+        one .1,
+        elim (h .alone i (place (on k) (s .rows)) m (r .0) k d (r .1) v (r .2) p (r .3)) [
+          | inl y ↦ y
+          | inr y ↦ (let z : row m k d v ≡ row (r .0) k (r .1) (r .2) = sym p ∙ ap (rowAt s) y ∙ r .3 in let z′ : d ≡ r .1 = cc in omega (arith, one .0))
+        ],
+      )
 
   -- an I lease may be granted: no row is on the key
   pub unblocked : (k : ℕ) → blocked s k ≡ false → (i m d : ℕ) (v : Staged) → rowAt s i ≡ row m k d v → ⊥
   unfolding blocked decide
   unblocked k e i m d v p =
       let r = first-on i m k d v p in
-      Views.clash _ (Views.not-false′ _ (rw (r .3) at e)) (no-lease (r .1) (h .kinds (place (on k) (s .rows)) (r .0) k (r .1) (r .2) (r .3)))
+      Views.clash (grants (decision (suc (r .1)) 0)) (Views.not-false′ _ (rw (r .3) at e)) (rw (quarantined-backs-off (suc (r .1)) (omega arith) (omega (arith, r .5))))
 
 -- What is found is there
 

@@ -1,43 +1,18 @@
--- A walk over the indices below n passes exactly if each index passes; so does a walk over pairs, and one that asks for distinct numbers.
--- What holds of the free entry holds past a table's end, so such facts are had for every place.
-use mathlib.Core.Path.{_≡_, refl, sym, ap, _∙_, subst}
-use mathlib.Core.Bool.{Bool, true, false, not, _&&_, _||_}
-use mathlib.Core.Logic.{_⊎_, inl, inr, ⊎-elim}
+-- A walk over pairs of indices passes exactly if each pair does, and one that asks for distinct numbers exactly if no two are the same.
+-- What holds of the free entry holds past a table's end, so what a walk over a table tests is had for every place.
+use mathlib.Core.Path.{_≡_, sym}
+use mathlib.Core.Bool.{Bool, true, false, not}
+use mathlib.Core.Logic.{_⊎_, inl, inr}
 use mathlib.Core.List.{List}
-use Prim.Native.Nat.{ℕ, zero, suc, _≤_, _<_}
+use Prim.Native.Nat.{ℕ, _≤_, _<_}
 use native.Mathlib.Omega.{arith}
-use native.Mathlib.Nat.{eq-or-lt-of-le, le-of-suc-le-suc, not-suc-le-zero}
 use lib.Dec.{eqb, ltb}
 use lib.ListN.{length, getD, List·getD-eq-default}
 use borrow.Author.Tests.{eqb-true, eqb-false, eq-eqb, ne-eqb, ltb-true, ltb-false}
-use Rattle.lent.specs.Tables.{if_then_else_, every, some as someAt}
+use Rattle.lent.specs.Tables.{every}
+use Rattle.lent.proofs.Walks.{every-all, all-every}
 use Rattle.machine.specs.Sound.{newAt, distinct}
-use Rattle.machine.proofs.Views.{caseOf, clash, and-true₁, and-true₂, or-true, not-true′}
-
-module _ (p : ℕ → Bool) where
-  pub every-all : (n i : ℕ) → every p n ≡ true → i < n → p i ≡ true
-  unfolding every
-  every-all zero i e h = absurd (not-suc-le-zero h)
-  every-all (suc n) i e h = ⊎-elim (λ q. rw q (and-true₂ (every p n) (p n) e)) (λ l. every-all n i (and-true₁ (every p n) (p n) e) l) (eq-or-lt-of-le (le-of-suc-le-suc h))
-
-  pub all-every : (n : ℕ) → ((i : ℕ) → i < n → p i ≡ true) → every p n ≡ true
-  unfolding every
-  all-every zero f = refl
-  all-every (suc n) f = rw (all-every n (λ i h. f i (omega arith)), f n (omega arith))
-
-  pub some-at : (n : ℕ) → someAt p n ≡ true → (i : ℕ) × (i < n) × (p i ≡ true)
-  unfolding someAt
-  some-at zero e = clash false e refl
-  some-at (suc n) e = go (caseOf (someAt p n)) (some-at n)
-    where
-      go : (someAt p n ≡ true) ⊎ (someAt p n ≡ false) → (someAt p n ≡ true → (i : ℕ) × (i < n) × (p i ≡ true)) → (i : ℕ) × (i < suc n) × (p i ≡ true)
-      go (inl q) f = let r = f q in (r .0, omega (arith, r .1), r .2)
-      go (inr q) f = (n, omega arith, rw q at e)
-
-  pub at-some : (n i : ℕ) → i < n → p i ≡ true → someAt p n ≡ true
-  unfolding someAt
-  at-some zero i h e = absurd (not-suc-le-zero h)
-  at-some (suc n) i h e = ⊎-elim (λ q. rw (← q) (rw e (or-true (someAt p i)))) (λ l. rw (at-some n i l e)) (eq-or-lt-of-le (le-of-suc-le-suc h))
+use Rattle.machine.proofs.Views.{caseOf, clash, not-true′}
 
 -- pairs, the lower index first
 module _ (q : ℕ → ℕ → Bool) where

@@ -9,3 +9,15 @@ pub mod WellFormed
 pub mod SoundMeans
 pub mod Orderly
 pub mod Accepted
+pub mod DeltaFits
+pub mod Demand3
+pub mod Frames
+pub mod Invariant
+pub mod KeepsSound
+pub mod Promise
+pub mod Shape
+pub mod SoundFacts
+pub mod Tested
+pub mod Wait
+pub mod WellKept
+pub mod Witness

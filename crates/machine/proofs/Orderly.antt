@@ -4,7 +4,7 @@
 use mathlib.Core.Path.{_≡_, refl, sym, ap, _∙_}
 use mathlib.Core.Bool.{true, false}
 use mathlib.Core.Logic.{_⊎_, inl, inr}
-use mathlib.Core.List.{List, [], _∷_, map}
+use mathlib.Core.List.{List, map}
 use mathlib.Core.Option.{Option, none, some}
 use Prim.Native.Nat.{ℕ, suc, _+_, _≤_, _<_}
 use native.Mathlib.Omega.{arith}
@@ -12,7 +12,7 @@ use borrow.Author.Tests.{eqb-true}
 use lib.Dec.{eqb}
 use lib.ListN.{getD, set, List·getD-map}
 use Rattle.machine.specs.Sizes.{keyCount, sessionCount, rowCount}
-use Rattle.machine.specs.Tables.{place, find, mem, putAt}
+use Rattle.machine.specs.Tables.{place, mem, putAt}
 use Rattle.machine.specs.Session.{opened, advanced, sealed, isDue}
 use Rattle.machine.specs.State.{Value, Lease, Key, blank, Slot, noSession, session, Staged, nothing, staged, Row, noRow, row, State, fresh, free, freeRow, numbered, ofOn, sessionOf, rowOf, leaseOn, sessionAt, rowAt}
 use Rattle.machine.specs.Expiry.{withKeys, withSessions, withRows, withClock, setValue, setLease, freeIfOf, freeSession, settle, leave, finish, lapsedValue, lapsedLease, those, expire}
@@ -119,6 +119,28 @@ module _ (ns : List ℕ) where
   pub was-session : (l : List Slot) (i : ℕ) (x : Session) → getD (map (freeSession ns) l) i noSession ≡ session x → (getD l i noSession ≡ session x) × (mem (x .number) ns ≡ false)
   was-session l i x e = Views.ended ns (getD l i noSession) x (sym (List·getD-map (freeSession ns) l i noSession) ∙ e)
 
+-- Leases that are left
+
+-- a lease that has not lapsed
+pub lapsed-was : (s : State) (now k : ℕ) (l : Lease) → getD (map (lapsedLease now) (s .keys)) k blank .lease ≡ some l → leaseOn s k ≡ some l
+lapsed-was s now k l e = Views.unlapsed-was now (leaseOn s k) l (sym (ap (λ (x : Key). x .lease) (List·getD-map (lapsedLease now) (s .keys) k blank)) ∙ e)
+
+-- a lease, once key k is filled
+pub filled-was : (s : State) (k : ℕ) (v : Value) (j : ℕ) (l : Lease) → getD (set (s .keys) k (record { value = some v; lease = none })) j blank .lease ≡ some l → leaseOn s j ≡ some l
+filled-was s k v j l e = go (Views.after-set (s .keys) k (record { value = some v; lease = none }) j blank)
+  where
+    go : Views.AfterSet (s .keys) k (record { value = some v; lease = none }) j blank → leaseOn s j ≡ some l
+    go (Views.other p q) = sym (ap (λ (x : Key). x .lease) q) ∙ e
+    go (Views.here p q) = Views.no-some l (sym (ap (λ (x : Key). x .lease) q) ∙ e)
+    go (Views.out p q r) = Views.no-some l (sym (ap (λ (x : Key). x .lease) q) ∙ e)
+
+-- a lease, once that of key k is voided, is on another key
+pub voided-was : (s : State) (k j : ℕ) (l : Lease) → getD (setLease (s .keys) k none) j blank .lease ≡ some l → (k ≡ j → ⊥) × (leaseOn s j ≡ some l)
+voided-was s k j l e = elim (Views.lease-after (s .keys) k none j) [
+  | inl p ↦ (p .0, sym (p .1) ∙ e)
+  | inr p ↦ elim (p .1) [ inl q ↦ Views.no-some l (sym q ∙ e) | inr q ↦ Views.no-some l (sym q ∙ e) ]
+]
+
 -- One table replaced
 
 -- each lease stood before, or is as it must be
@@ -177,25 +199,12 @@ orderly-finish s ns f h = orderly-leave (withKeys s (settle ns f (s .rows) (s .k
 
 pub orderly-expire : (s : State) (now : ℕ) → Orderly s → Orderly (expire now s)
 unfolding expire
-orderly-expire s now h = orderly-finish (withKeys s lapsed) (those (isDue now) (s .sessions)) lapsedValue (orderly-keys s lapsed (λ k l p. inl (kept k l p)) h)
-  where
-    lapsed : List Key
-    lapsed = map (lapsedLease now) (s .keys)
-
-    kept : (k : ℕ) (l : Lease) → getD lapsed k blank .lease ≡ some l → leaseOn s k ≡ some l
-    kept k l p = Views.unlapsed-was now (leaseOn s k) l (sym (ap (λ (x : Key). x .lease) (List·getD-map (lapsedLease now) (s .keys) k blank)) ∙ p)
+orderly-expire s now h = orderly-finish (withKeys s (map (lapsedLease now) (s .keys))) (those (isDue now) (s .sessions)) lapsedValue
+    (orderly-keys s (map (lapsedLease now) (s .keys)) (λ k l p. inl (lapsed-was s now k l p)) h)
 
 pub orderly-filled : (s : State) (k : ℕ) (v : Value) → Orderly s → Orderly (fills s k v .after)
 unfolding fills
-orderly-filled s k v h = orderly-keys s (set (s .keys) k new) (λ j l p. inl (kept j l p (Views.after-set (s .keys) k new j blank))) h
-  where
-    new : Key
-    new = record { value = some v; lease = none }
-
-    kept : (j : ℕ) (l : Lease) → getD (set (s .keys) k new) j blank .lease ≡ some l → Views.AfterSet (s .keys) k new j blank → leaseOn s j ≡ some l
-    kept j l p (Views.other x y) = sym (ap (λ (z : Key). z .lease) y) ∙ p
-    kept j l p (Views.here x y) = Views.no-some l (sym (ap (λ (z : Key). z .lease) y) ∙ p)
-    kept j l p (Views.out x y z) = Views.no-some l (sym (ap (λ (z : Key). z .lease) y) ∙ p)
+orderly-filled s k v h = orderly-keys s (set (s .keys) k (record { value = some v; lease = none })) (λ j l p. inl (filled-was s k v j l p)) h
 
 pub orderly-evicted : (s : State) (k : ℕ) → Orderly s → Orderly (withKeys s (setValue (s .keys) k none))
 orderly-evicted s k h = orderly-keys s (setValue (s .keys) k none) (λ j l p. inl (sym (Views.value-lease (s .keys) k none j) ∙ p)) h
@@ -287,7 +296,10 @@ orderly-leased s now k bare h = record {
 pub orderly-granted : (s : State) (n k kind : ℕ) → (1 ≤ kind) × (kind ≤ 3) → ((i m d : ℕ) (v : Staged) → rowAt s i ≡ row m k d v → (kind ≡ 1) × (d ≡ 1)) → Orderly s
     → Orderly (withKeys (withRows s (putAt freeRow (row n k kind nothing) (s .rows))) (setLease (s .keys) k none))
 orderly-granted s n k kind range sharing h = record {
-  leases = λ j l e. lease j l e (Views.lease-after (s .keys) k none j);
+  leases = λ j l e.
+      let p = voided-was s k j l e in
+      let q = h .leases j l (p .1) in
+      (q .0, λ i m d v f. elim (seen i m j d v f) [ inl x ↦ q .1 i m d v x | inr x ↦ p .0 (sym (x .1)) ]);
   numbers = h .numbers;
   unique = h .unique;
   kinds = λ i m j d v e. elim (seen i m j d v e) [ inl p ↦ h .kinds i m j d v p | inr p ↦ rw (p .2) range ];
@@ -309,12 +321,6 @@ orderly-granted s n k kind range sharing h = record {
     two i i′ m m′ j d c u v (inl x) (inr y) = inl (sharing i m d u (rw (y .1) at x) .1)
     two i i′ m m′ j d c u v (inr x) (inl y) = inl (x .2 ∙ sharing i′ m′ c v (rw (x .1) at y) .0)
     two i i′ m m′ j d c u v (inr x) (inr y) = inr (sym (x .0) ∙ y .0)
-
-    lease : (j : ℕ) (l : Lease) → getD (setLease (s .keys) k none) j blank .lease ≡ some l
-        → ((k ≡ j → ⊥) × (getD (setLease (s .keys) k none) j blank .lease ≡ leaseOn s j)) ⊎ ((k ≡ j) × ((getD (setLease (s .keys) k none) j blank .lease ≡ none) ⊎ (getD (setLease (s .keys) k none) j blank .lease ≡ none)))
-        → (l .token < s .head .nextToken) × ((i m d : ℕ) (v : Staged) → getD (putAt freeRow (row n k kind nothing) (s .rows)) i noRow ≡ row m j d v → ⊥)
-    lease j l e (inl x) = let p = h .leases j l (sym (x .1) ∙ e) in (p .0, λ i m d v q. elim (seen i m j d v q) [ inl y ↦ p .1 i m d v y | inr y ↦ x .0 (sym (y .1)) ])
-    lease j l e (inr x) = elim (x .1) [ inl y ↦ Views.no-some l (sym y ∙ e) | inr y ↦ Views.no-some l (sym y ∙ e) ]
 
 -- the fresh state
 pub orderly-fresh : (readLife writeLife : ℕ) → Orderly (fresh readLife writeLife)

@@ -9,6 +9,7 @@ use Prim.Native.Nat.{ℕ, zero, suc, _+_, _<_}
 use native.Mathlib.Omega.{arith}
 use lib.Dec.{eqb, ltb}
 use lib.ListN.{getD}
+use borrow.Author.Tests.{eqb-true}
 use Rattle.lent.specs.Tables.{if_then_else_}
 use Rattle.machine.specs.Tables.{mem, first, isNone}
 use Rattle.machine.specs.Words.{wordOf, wordsOf}
@@ -96,9 +97,17 @@ no-refusal-word (Undo n) = refl
 no-refusal-word (Evict k) = refl
 no-refusal-word Tick = refl
 
-not-refused : (s : State) (now : ℕ) (c : Command) (v : Value) (e : ℕ) → effect s now c v .answer ≡ Answer.Refused e → ⊥
+-- so an effect is never answered with one
+pub effect-accepts : (s : State) (now : ℕ) (c : Command) (v : Value) → eqb (wordOf (effect s now c v .answer)) 0 ≡ false
 unfolding Worded
-not-refused s now c v e p = clash (mem 0 (wordsOf c)) (let q : wordOf (effect s now c v .answer) ≡ 0 = rw p in rw q at (effect-worded s now v c)) (no-refusal-word c)
+effect-accepts s now c v = go (caseOf (eqb (wordOf (effect s now c v .answer)) 0))
+  where
+    go : (eqb (wordOf (effect s now c v .answer)) 0 ≡ true) ⊎ (eqb (wordOf (effect s now c v .answer)) 0 ≡ false) → eqb (wordOf (effect s now c v .answer)) 0 ≡ false
+    go (inr q) = q
+    go (inl q) = clash (mem 0 (wordsOf c)) (rw (eqb-true (wordOf (effect s now c v .answer)) 0 q) at (effect-worded s now v c)) (no-refusal-word c)
+
+not-refused : (s : State) (now : ℕ) (c : Command) (v : Value) (e : ℕ) → effect s now c v .answer ≡ Answer.Refused e → ⊥
+not-refused s now c v e p = clash (eqb (wordOf (effect s now c v .answer)) 0) (rw p refl) (effect-accepts s now c v)
 
 -- The theorems
 

@@ -1,16 +1,11 @@
-use mathlib.Core.Path.{refl}
-use native.Mathlib.Omega.{arith}
+-- Below the least, or at most the largest.
 use borrow.Author.Tests.{le-leb, lt-leb}
 use Rattle.startup.proofs.is_lifetime.Statement.{statement}
 use Rattle.startup.proofs.is_lifetime.Tie as tie
-use Rattle.startup.proofs.is_lifetime.Reads as reads
-use Rattle.startup.proofs.is_lifetime.Lts as lts
 
--- src/lib.rt:20:9
 returns : tie.Need-returns
 returns c = rw (lt-leb 1 (c .before .args .n) (c .if1 .taken))
 
--- src/lib.rt:16:1
 returns-2 : tie.Need-returns-2
 returns-2 c = rw (le-leb 1 (c .before .args .n) (c .if1 .left))
 

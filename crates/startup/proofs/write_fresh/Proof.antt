@@ -1,38 +1,27 @@
-use mathlib.Core.Path.{_≡_, refl, sym, ap, _∙_}
+-- All is cleared, and the four numbers of the header are written.
 use Rattle.startup.proofs.Fresh.{fresh-written}
 use borrow.Author.Needs.{needs}
 use Rattle.startup.proofs.write_fresh.Statement.{statement}
 use Rattle.startup.proofs.write_fresh.Tie as tie
-use Rattle.startup.proofs.write_fresh.Reads as reads
-use Rattle.startup.proofs.write_fresh.Lts as lts
-use Rattle.lent.proofs.clear.Reads as clear-reads
-use Rattle.lent.proofs.store_u32.Reads as store-u32-reads
 
--- src/lib.rt:29:5
 clear-requires : tie.Need-clear-requires
 clear-requires c κs = search needs
 
--- src/lib.rt:30:5
 store-u32-requires : tie.Need-store-u32-requires
 store-u32-requires c κs = search needs
 
--- src/lib.rt:31:5
 store-u32-requires-2 : tie.Need-store-u32-requires-2
 store-u32-requires-2 c κs = search needs
 
--- src/lib.rt:32:5
 store-u32-requires-3 : tie.Need-store-u32-requires-3
 store-u32-requires-3 c κs = search needs
 
--- src/lib.rt:33:5
 store-u32-requires-4 : tie.Need-store-u32-requires-4
 store-u32-requires-4 c κs = search needs
 
--- src/lib.rt:25:1
 same-length : tie.Need-same-length
 same-length c = search needs
 
--- src/lib.rt:25:1
 returns : tie.Need-returns
 returns c = rw (c .before .before .store-u324 .ensures, c .before .before .before .before .before .before .store-u323 .ensures, c .before .before .before .before .before .before .before .before .before .before .store-u322 .ensures, c .before .before .before .before .before .before .before .before .before .before .before .before .before .before .store-u32 .ensures, c .before .before .before .before .before .before .before .before .before .before .before .before .before .before .before .before .before .before .clear .ensures) (fresh-written (c .before .before .before .before .before .before .before .before .before .before .before .before .before .before .before .before .before .before .before .before .before .args .s .now) (c .before .before .before .before .before .before .before .before .before .before .before .before .before .before .before .before .before .before .before .before .before .args .read) (c .before .before .before .before .before .before .before .before .before .before .before .before .before .before .before .before .before .before .before .before .before .args .write) (search needs))
 
