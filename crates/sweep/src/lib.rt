@@ -58,14 +58,14 @@ fn end_row(s: &mut [u8], i: usize, ns: &[u32], ending: Ending)
     requires { ⌜ (length (now s) ≡ stateSize) × (i < rowCount) ⌝ }
     ensures { λ _. ⌜ ((σ : State) → Holds (now (s .entry)) σ → Holds (now (s .exit)) (endRow ending (now (ns .entry)) i σ)) ⌝ }
 {
-    let n = records::row_session(s, i);
+    let n = rows::session(s, i);
     if n == 0 {
         return;
     }
     if !among(ns, n) {
         return;
     }
-    let k = records::row_key(s, i);
+    let k = rows::key(s, i);
     settle(s, k, i, ending);
     records::free_row(s, i);
 }
@@ -86,7 +86,7 @@ pub fn leave(s: &mut [u8], n: u32, place: usize)
 {
     let ns = [n; 1];
     end_rows(s, &ns, Ending::Leaves);
-    records::free_session(s, place);
+    sessions::free(s, place);
 }
 
 // It ends and what its rows have staged is cached.
@@ -96,7 +96,7 @@ pub fn finish(s: &mut [u8], n: u32, place: usize)
 {
     let ns = [n; 1];
     end_rows(s, &ns, Ending::Caches);
-    records::free_session(s, place);
+    sessions::free(s, place);
 }
 
 // Whether some I lease has lapsed.
@@ -163,8 +163,8 @@ fn end_due(s: &mut [u8], i: usize, time: u64, ns: &mut [u32], count: usize) -> u
     if !records::session_due(s, i, time) {
         return count;
     }
-    ns[count] = records::session_number(s, i);
-    records::free_session(s, i);
+    ns[count] = sessions::number(s, i);
+    sessions::free(s, i);
     count + 1
 }
 

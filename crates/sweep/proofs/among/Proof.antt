@@ -13,9 +13,6 @@ use Rattle.sweep.proofs.Searches.{NoneBelow, any-hit, none-any}
 use Rattle.sweep.proofs.among.Statement.{statement}
 use Rattle.sweep.proofs.among.Tie as tie
 
--- `among` is `mem`: as long as no number passed is n, none before place j is.
--- Assumes nothing.
-
 abbrev Inv-loop : tie.InvT-loop
 Inv-loop ns n count j₀ j = (j ≤ length ns) × NoneBelow (λ m. eqb m n) 0 ns j
 

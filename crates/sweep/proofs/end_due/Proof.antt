@@ -14,9 +14,6 @@ use Rattle.sweep.proofs.Steps.{session-stays, session-ends, noted-not, 
 use Rattle.sweep.proofs.end_due.Statement.{statement}
 use Rattle.sweep.proofs.end_due.Tie as tie
 
--- A session that is not due stays and nothing is noted; one that is due is freed, and its number stands behind those noted before.
--- Assumes nothing.
-
 session-due-requires : tie.Need-session-due-requires
 session-due-requires c κs = search needs
 
@@ -31,8 +28,8 @@ returns c = let args = c .before .before .before .before .before .args in (
       (rw (session-stays _ _ σ stays) h, rw (noted-not _ _ stays) (sym (append-nil _))),
 )
 
-session-number-requires : tie.Need-session-number-requires
-session-number-requires c κs = search needs
+number-requires : tie.Need-number-requires
+number-requires c κs = search needs
 
 mul-ns : tie.Need-mul-ns
 mul-ns c = search needs
@@ -40,8 +37,8 @@ mul-ns c = search needs
 slice-write-ns : tie.Need-slice-write-ns
 slice-write-ns c = search needs
 
-free-session-requires : tie.Need-free-session-requires
-free-session-requires c κs = search needs
+free-requires : tie.Need-free-requires
+free-requires c κs = search needs
 
 add-result : tie.Need-add-result
 add-result c = search needs
@@ -53,16 +50,16 @@ same-length-3 : tie.Need-same-length-3
 same-length-3 c = search needs
 
 returns-2 : tie.Need-returns-2
-returns-2 c = let free-session = c .before .before .free-session in
-    let session-number = c .before .before .before .before .session-number in
+returns-2 c = let free = c .before .before .free in
+    let number = c .before .before .before .before .number in
     let if1 = c .before .before .before .before .before .before .if1 in
     let session-due = c .before .before .before .before .before .before .before .session-due in
     let args = c .before .before .before .before .before .before .before .before .before .before .before .args in (
       search needs,
       λ σ h.
           let ends : dueSlot (args .time) (sessionAt σ (args .i)) ≡ true = sym (session-due .ensures σ h) ∙ not-false _ (if1 .left) in (
-            rw (session-ends _ _ σ ends) (free-session .ensures σ h),
-            rw (noted-is _ _ ends, ← (session-number .ensures σ h), add-one) (take-suc-set (args .ns .now) (args .count) (session-number .result) (omega arith)),
+            rw (session-ends _ _ σ ends) (free .ensures σ h),
+            rw (noted-is _ _ ends, ← (number .ensures σ h), add-one) (take-suc-set (args .ns .now) (args .count) (number .result) (omega arith)),
           ),
     )
 
@@ -73,10 +70,10 @@ end-due-spec =
     session-due-requires
     same-length
     returns
-    session-number-requires
+    number-requires
     mul-ns
     slice-write-ns
-    free-session-requires
+    free-requires
     add-result
     same-length-2
     same-length-3

@@ -15,9 +15,6 @@ use Rattle.sweep.proofs.Ended.{rows-ended}
 use Rattle.sweep.proofs.end_rows.Statement.{statement}
 use Rattle.sweep.proofs.end_rows.Tie as tie
 
--- After i turns the bytes hold the state after i steps of `endRow`; all of them are `endRows` (`rows-ended`).
--- Assumes nothing.
-
 abbrev Inv-loop : tie.InvT-loop
 Inv-loop s₀ ns ending i₀ s i = (i ≤ rowCount) × (length s ≡ stateSize) × ((σ : State) → Holds s₀ σ → Holds s (iter (endRow ending ns) i σ))
 

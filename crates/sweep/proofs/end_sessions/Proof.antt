@@ -18,9 +18,6 @@ use Rattle.sweep.proofs.Ended.{noted-next, sessions-ended}
 use Rattle.sweep.proofs.end_sessions.Statement.{statement}
 use Rattle.sweep.proofs.end_sessions.Tie as tie
 
--- After i turns the bytes hold the state after i steps of `endDue`, and what is noted are the numbers of those due before place i, since the loop finds each session as it was (`noted-next`).
--- Assumes nothing.
-
 abbrev Inv-loop : tie.InvT-loop
 Inv-loop s₀ time ns₀ count₀ i₀ s ns count i = (i ≤ sessionCount) × (length s ≡ stateSize) × (length ns ≡ sessionCount) × (count ≤ i) × ((σ : State) → Holds s₀ σ → Holds s (iter (endDue time) i σ) × (take count ns ≡ those (isDue time) (take i (σ .sessions))))
 

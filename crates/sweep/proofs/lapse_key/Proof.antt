@@ -6,9 +6,6 @@ use Rattle.sweep.proofs.Steps.{lease-stays, lease-goes}
 use Rattle.sweep.proofs.lapse_key.Statement.{statement}
 use Rattle.sweep.proofs.lapse_key.Tie as tie
 
--- A lease that has lapsed is dropped (`lease-goes`), any other stays (`lease-stays`).
--- Assumes nothing.
-
 lease-lapsed-requires : tie.Need-lease-lapsed-requires
 lease-lapsed-requires c κs = search needs
 

@@ -15,9 +15,6 @@ use Rattle.sweep.proofs.Ended.{keys-lapsed}
 use Rattle.sweep.proofs.lapse_leases.Statement.{statement}
 use Rattle.sweep.proofs.lapse_leases.Tie as tie
 
--- After k turns the bytes hold the state after k steps of `lapseKey`; all of them are the map over the keys (`keys-lapsed`).
--- Assumes nothing.
-
 abbrev Inv-loop : tie.InvT-loop
 Inv-loop s₀ time k₀ s k = (k ≤ keyCount) × (length s ≡ stateSize) × ((σ : State) → Holds s₀ σ → Holds s (iter (lapseKey time) k σ))
 

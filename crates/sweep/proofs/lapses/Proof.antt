@@ -6,9 +6,6 @@ use Rattle.sweep.specs.Lapsing.{lapsing}
 use Rattle.sweep.proofs.lapses.Statement.{statement}
 use Rattle.sweep.proofs.lapses.Tie as tie
 
--- `lapsing` is the one or the other, in this order.
--- Assumes nothing.
-
 leases-lapse-requires : tie.Need-leases-lapse-requires
 leases-lapse-requires c κs = search needs
 

@@ -14,9 +14,6 @@ use Rattle.sweep.proofs.Searches.{NoneBelow, any-hit, none-any}
 use Rattle.sweep.proofs.leases_lapse.Statement.{statement}
 use Rattle.sweep.proofs.leases_lapse.Tie as tie
 
--- As long as no lease passed has lapsed, none before key k has; one that has is a hit for all.
--- Assumes nothing.
-
 abbrev Inv-loop : tie.InvT-loop
 Inv-loop s time k₀ k = (k ≤ keyCount) × ((σ : State) → Holds s σ → NoneBelow (lapsedOn time) blank (σ .keys) k)
 

@@ -14,9 +14,6 @@ use Rattle.sweep.proofs.Searches.{NoneBelow, any-hit, none-any}
 use Rattle.sweep.proofs.sessions_lapse.Statement.{statement}
 use Rattle.sweep.proofs.sessions_lapse.Tie as tie
 
--- As long as no session passed is due, none before place i is; one that is due is a hit for all.
--- Assumes nothing.
-
 abbrev Inv-loop : tie.InvT-loop
 Inv-loop s time i₀ i = (i ≤ sessionCount) × ((σ : State) → Holds s σ → NoneBelow (dueSlot time) noSession (σ .sessions) i)
 

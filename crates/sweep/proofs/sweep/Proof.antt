@@ -12,9 +12,6 @@ use Rattle.sweep.proofs.Whole.{expire-whole, expire-none}
 use Rattle.sweep.proofs.sweep.Statement.{statement}
 use Rattle.sweep.proofs.sweep.Tie as tie
 
--- Leases, sessions and rows one after the other are `expire` (`expire-whole`); where no session was due the rows stay as they are (`expire-none`).
--- Assumes nothing.
-
 lapse-leases-requires : tie.Need-lapse-leases-requires
 lapse-leases-requires c κs = search needs
 

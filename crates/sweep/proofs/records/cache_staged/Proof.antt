@@ -7,11 +7,8 @@ use Rattle.sweep.proofs.Staged.{staged-not, staged-copied}
 use Rattle.sweep.proofs.records.cache_staged.Statement.{statement}
 use Rattle.sweep.proofs.records.cache_staged.Tie as tie
 
--- Without the mark of a value nothing is cached (`staged-not`); with it, mark, length and bytes are those of a cached value (`staged-copied`).
--- Assumes nothing.
-
-row-mark-requires : tie.Need-row-mark-requires
-row-mark-requires c κs = search needs
+mark-requires : tie.Need-mark-requires
+mark-requires c κs = search needs
 
 drop-value-requires : tie.Need-drop-value-requires
 drop-value-requires c κs = search needs
@@ -22,8 +19,8 @@ same-length c = search needs
 returns : tie.Need-returns
 returns c = let drop-value = c .before .before .drop-value in
     let if1 = c .before .before .before .before .if1 in
-    let row-mark = c .before .before .before .before .before .row-mark in
-    λ σ h. rw (staged-not _ (λ q. if1 .taken (row-mark .ensures σ h ∙ q))) (drop-value .ensures σ h)
+    let mark = c .before .before .before .before .before .mark in
+    λ σ h. rw (staged-not _ (λ q. if1 .taken (mark .ensures σ h ∙ q))) (drop-value .ensures σ h)
 
 mul-from : tie.Need-mul-from
 mul-from c = search needs
@@ -59,15 +56,15 @@ returns-2 : tie.Need-returns-2
 returns-2 c = let copy-within2 = c .before .before .copy-within2 in
     let copy-within = c .before .before .before .before .before .before .copy-within in
     let if1 = c .before .before .before .before .before .before .before .before .if1 in
-    let row-mark = c .before .before .before .before .before .before .before .before .before .row-mark in
+    let mark = c .before .before .before .before .before .before .before .before .before .mark in
     let args = c .before .before .before .before .before .before .before .before .before .before .before .before .args in
-    λ σ h. rw (copy-within2 .ensures, copy-within .ensures) (staged-copied h (args .k) (args .i) (omega arith) (omega arith) (sym (row-mark .ensures σ h) ∙ if1 .left))
+    λ σ h. rw (copy-within2 .ensures, copy-within .ensures) (staged-copied h (args .k) (args .i) (omega arith) (omega arith) (sym (mark .ensures σ h) ∙ if1 .left))
 
 pub cache-staged-spec : {M : Type 1} → statement M
 cache-staged-spec =
     tie.close
     (tie.spec
-    row-mark-requires
+    mark-requires
     drop-value-requires
     same-length
     returns
