@@ -1,55 +1,29 @@
-use mathlib.Core.Path.{_≡_, sym, ap, _∙_}
+-- A token of 0 is no lease (`lapsed-not`); any other has a deadline (`lapsed-by`).
+-- Assumes nothing.
+use mathlib.Core.Path.{sym, _∙_}
 use native.Mathlib.Omega.{arith}
-use Rattle.sweep.proofs.Deadlines.{lapsed-not-held, lapsed-held}
 use borrow.Author.Needs.{needs}
+use Rattle.machine.specs.State.{leaseOn}
+use Rattle.layout.proofs.Held.{key-fits}
+use Rattle.sweep.proofs.Deadlines.{lapsed-not, lapsed-by}
 use Rattle.sweep.proofs.records.lease_lapsed.Statement.{statement}
 use Rattle.sweep.proofs.records.lease_lapsed.Tie as tie
-use Rattle.sweep.proofs.records.lease_lapsed.Reads as reads
-use Rattle.sweep.proofs.records.lease_lapsed.Lts as lts
-use Rattle.lent.proofs.load_u32.Reads as load-u32-reads
-use Rattle.lent.proofs.load_u64.Reads as load-u64-reads
 
--- src/records.rt:81:26
-mul-at : tie.Need-mul-at
-mul-at c = search needs
+lease-token-requires : tie.Need-lease-token-requires
+lease-token-requires c κs = search needs
 
--- src/records.rt:81:14
-add-at : tie.Need-add-at
-add-at c = search needs
-
--- src/records.rt:82:26
-add-load-u32 : tie.Need-add-load-u32
-add-load-u32 c = search needs
-
--- src/records.rt:82:8
-load-u32-requires : tie.Need-load-u32-requires
-load-u32-requires c κs = search needs
-
--- src/records.rt:83:9
 returns : tie.Need-returns
-returns c = λ σ h. sym (lapsed-not-held (c .before .before .before .args .time) h (c .before .before .before .args .k) (omega arith) (sym (c .before .load-u32 .ensures) ∙ c .if1 .taken))
+returns c = let args = c .before .before .before .args in
+    λ σ h. sym (lapsed-not (args .time) (leaseOn σ (args .k)) (key-fits h (args .k) (omega arith) .lease) (sym (c .before .lease-token .ensures σ h) ∙ c .if1 .taken))
 
--- src/records.rt:85:23
-add-load-u64 : tie.Need-add-load-u64
-add-load-u64 c = search needs
+lease-until-requires : tie.Need-lease-until-requires
+lease-until-requires c κs = search needs
 
--- src/records.rt:85:5
-load-u64-requires : tie.Need-load-u64-requires
-load-u64-requires c κs = search needs
-
--- src/records.rt:77:1
 returns-2 : tie.Need-returns-2
-returns-2 c = λ σ h. rw (c .load-u64 .ensures) (sym (lapsed-held (c .before .before .before .before .args .time) h (c .before .before .before .before .args .k) (omega arith) (λ q. c .before .if1 .left (c .before .before .load-u32 .ensures ∙ q))))
+returns-2 c = let lease-token = c .before .before .lease-token in
+    let args = c .before .before .before .before .args in
+    λ σ h. rw (c .lease-until .ensures σ h) (sym (lapsed-by (args .time) (leaseOn σ (args .k)) (λ q. c .before .if1 .left (lease-token .ensures σ h ∙ q))))
 
 pub lease-lapsed-spec : {M : Type 1} → statement M
 lease-lapsed-spec =
-    tie.close
-    (tie.spec
-    mul-at
-    add-at
-    add-load-u32
-    load-u32-requires
-    returns
-    add-load-u64
-    load-u64-requires
-    returns-2)
+    tie.close (tie.spec lease-token-requires returns lease-until-requires returns-2)

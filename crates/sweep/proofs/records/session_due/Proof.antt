@@ -1,54 +1,37 @@
+-- A place with the number 0 is free (`due-not`); any other session says itself whether it is due (`due-by`).
+-- Assumes nothing.
 use mathlib.Core.Path.{_≡_, sym, ap, _∙_}
 use native.Mathlib.Omega.{arith}
-use Rattle.sweep.proofs.Deadlines.{due-not-held, due-held}
 use borrow.Author.Needs.{needs}
+use Rattle.machine.specs.State.{sessionAt}
+use Rattle.machine.specs.declared.Session.{Session}
+use Rattle.layout.specs.Fields.{sessionIn}
+use Rattle.layout.proofs.Held.{session-fits}
+use Rattle.sweep.proofs.Deadlines.{due-not, due-by}
 use Rattle.sweep.proofs.records.session_due.Statement.{statement}
 use Rattle.sweep.proofs.records.session_due.Tie as tie
-use Rattle.sweep.proofs.records.session_due.Reads as reads
-use Rattle.sweep.proofs.records.session_due.Lts as lts
-use Rattle.lent.proofs.load_u64.Reads as load-u64-reads
 
--- src/records.rt:69:30
-mul-at : tie.Need-mul-at
-mul-at c = search needs
+load-requires : tie.Need-load-requires
+load-requires c κs = search needs
 
--- src/records.rt:69:14
-add-at : tie.Need-add-at
-add-at c = search needs
-
--- src/records.rt:70:10
-add-if1 : tie.Need-add-if1
-add-if1 c = search needs
-
--- src/records.rt:70:8
-shared-slice-read-if1 : tie.Need-shared-slice-read-if1
-shared-slice-read-if1 c = search needs
-
--- src/records.rt:71:9
 returns : tie.Need-returns
-returns c = λ σ h. sym (due-not-held (c .before .before .before .args .time) h (c .before .before .before .args .i) (omega arith) (c .if1 .taken))
+returns c = let load = c .before .before .load in
+    let args = c .before .before .before .before .args in
+    λ σ h.
+    let e = sessionAt σ (args .i) in
+    let zero : sessionIn e .number ≡ 0 = sym (ap (λ (x : Session). x .number) (load .ensures σ h)) ∙ c .if1 .taken in
+    sym (due-not (args .time) e (session-fits h (args .i) (omega arith)) zero)
 
--- src/records.rt:73:23
-add-load-u64 : tie.Need-add-load-u64
-add-load-u64 c = search needs
+due-requires : tie.Need-due-requires
+due-requires c κs = search needs
 
--- src/records.rt:73:5
-load-u64-requires : tie.Need-load-u64-requires
-load-u64-requires c κs = search needs
-
--- src/records.rt:65:1
 returns-2 : tie.Need-returns-2
-returns-2 c = λ σ h. rw (c .load-u64 .ensures) (sym (due-held (c .before .before .before .before .args .time) h (c .before .before .before .before .args .i) (omega arith) (c .before .if1 .left)))
+returns-2 c = let load = c .before .before .before .load in
+    let args = c .before .before .before .before .before .args in
+    λ σ h.
+    let e = sessionAt σ (args .i) in
+    let there : sessionIn e .number ≡ 0 → ⊥ = λ q. c .before .if1 .left (ap (λ (x : Session). x .number) (load .ensures σ h) ∙ q) in
+    c .due .ensures ∙ rw (load .ensures σ h) (sym (due-by (args .time) e there))
 
 pub session-due-spec : {M : Type 1} → statement M
-session-due-spec =
-    tie.close
-    (tie.spec
-    mul-at
-    add-at
-    add-if1
-    shared-slice-read-if1
-    returns
-    add-load-u64
-    load-u64-requires
-    returns-2)
+session-due-spec = tie.close (tie.spec load-requires returns due-requires returns-2)
