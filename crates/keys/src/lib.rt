@@ -62,10 +62,10 @@ pub fn put_value(s: &mut [u8], k: usize, v: &[u8])
     layout::store_value(s, at + layout::KEY_VALUE, v);
 }
 
-// An I lease on a key, in place of one that it may have.
+// An I lease on a key, in place of one that it may have. Its token is not 0, which says that there is none.
 pub fn put_lease(s: &mut [u8], k: usize, token: u32, until: u64)
-    requires { ⌜ (length (now s) ≡ stateSize) × ((k < keyCount) × (1 ≤ token)) ⌝ }
-    ensures { λ _. ⌜ ((σ : State) → Holds (now (s .entry)) σ → Holds (now (s .exit)) (withKeys σ (setLease (σ .keys) k (some (record { token = token; until = until }))))) ⌝ }
+    requires { ⌜ (length (now s) ≡ stateSize) × (k < keyCount) ⌝ }
+    ensures { λ _. ⌜ ((σ : State) → Holds (now (s .entry)) σ → 1 ≤ token → Holds (now (s .exit)) (withKeys σ (setLease (σ .keys) k (some (record { token = token; until = until }))))) ⌝ }
 {
     let at = layout::KEYS_FROM + k * layout::KEY_WIDTH;
     lent::store_u32(s, at + layout::KEY_TOKEN, token);
