@@ -40,12 +40,12 @@ fine-of : (v : Value) → Bytes v → long v ≡ false → Fine v
 fine-of v b e = record { short = ltb-false valueMax (length v) e; bytes = b }
 
 module _ (s : State) (now : ℕ) (h : WellFormed s now) where
-  Keeps : Outcome → Type 0
+  abbrev Keeps : Outcome → Type 0
   Keeps r = WellFormed (r .after) now
 
   -- GET
   well-looked : (n k : ℕ) (o : Option Sight) → (o ≡ none → freeRow (rowOf s n k) ≡ true → blocked s k ≡ false → s .head .nextToken < numberMax) → Keeps (looked s now n k o)
-  unfolding Keeps looked missed
+  unfolding looked missed
   well-looked n k (some x) f = h
   well-looked n k none f = Views.if-ind Keeps (freeRow (rowOf s n k))
       (λ q. Views.if-ind Keeps (blocked s k) (λ e. h) (λ e. WellKept.well-leased s now h k (f refl q e) (Accepted.unblocked s (h .orderly) k e))) (λ q. h)
@@ -65,14 +65,14 @@ module _ (s : State) (now : ℕ) (h : WellFormed s now) where
       mine (row a b c u) e = refl
 
   well-asked : (n k kind : ℕ) → k < keyCount → (1 ≤ kind) × (kind ≤ 3) → free (sessionOf s n) ≡ false → eqb (kindOf (rowOf s n k)) kind ≡ false → Keeps (asks s n k kind)
-  unfolding Keeps asks
+  unfolding asks
   well-asked n k kind small range e f = Views.if-ind Keeps (grants (decide s k kind))
       (λ p. WellKept.well-granted s now h n k kind small range (live-of s n e) (unheld n k kind range f p) (Accepted.sharing s (h .orderly) k kind range p)) (λ p. WellKept.well-leave s now h (n ∷ []))
 
   -- STAGE and DELTA: a step that acts is the session's count, so the count has room
   well-stages : (n i k d : ℕ) (u : Staged) → i < stepMax → free (sessionOf s n) ≡ false → freeRow (rowOf s n k) ≡ false → not (eqb (kindOf (rowOf s n k)) d) ≡ false → ltb (countOf s n) i ≡ false → (d ≡ 1 → ⊥) → StagedFits d u
       → Keeps (stages s n i k u)
-  unfolding Keeps stages
+  unfolding stages
   well-stages n i k d u small e f q ahead apart fits = Views.if-ind Keeps (ltb i (countOf s n)) (λ p. h)
       (λ p. let r = Accepted.row-of s n k f in
       let is : kindOf (rowOf s n k) ≡ d = eqb-true (kindOf (rowOf s n k)) d (Views.not-false′ _ q) in
@@ -90,8 +90,8 @@ module _ (s : State) (now : ℕ) (h : WellFormed s now) where
   staged-in (row n k d v) i e q = rw q at (h .rows .each i e .what)
 
   -- each accepted command
-  well-effect : (c : Command) (v : Value) → Bytes v → refusal s now c v ≡ none → Keeps (effect s now c v)
-  unfolding Keeps effect refusals
+  pub well-effect : (c : Command) (v : Value) → Bytes v → refusal s now c v ≡ none → WellFormed (effect s now c v .after) now
+  unfolding effect refusals
   well-effect Begin v b e = WellKept.well-begin s now h (leb-false numberMax (s .head .nextSession) (Accepted.passed s now Begin v e 2))
   well-effect (Get n k) v b e = well-looked n k (sight s n k) (λ p q r. leb-false numberMax (s .head .nextToken) (Accepted.room-for s now n k v e p q r))
   well-effect (Fill t k) v b e = Views.if-ind Keeps (matches t (leaseOn s k)) (λ m. WellKept.well-fill s now h k v (fine-of v b (Accepted.passed s now (Fill t k) v e 2))) (λ m. h)
@@ -118,12 +118,17 @@ expired-time s now c v e =
     let x : (ltb now (s .head .clock) || ltb timeMax now) ≡ false = Accepted.passed (expire now s) now c v e 0 in
     (ltb-false now (s .head .clock) (Views.or-false₁ (ltb now (s .head .clock)) (ltb timeMax now) x), ltb-false timeMax now (Views.or-false₂ (ltb now (s .head .clock)) (ltb timeMax now) x))
 
+-- expiry alone keeps a state sound, at its clock
+pub expire-sound : (s : State) (now : ℕ) → sound s ≡ true → sound (expire now s) ≡ true
+unfolding expire finish leave
+expire-sound s now h = means-sound (expire now s) (WellKept.well-expire s now (s .head .clock) (sound-means s h))
+
 -- the state in which an accepted command acts
 pub well-expired : (s : State) (now : ℕ) (c : Command) (v : Value) → sound s ≡ true → refusal (expire now s) now c v ≡ none → WellFormed (expire now s) now
 well-expired s now c v h e = let t = expired-time s now c v e in WellKept.well-later (expire now s) (s .head .clock) now (t .0) (t .1) (WellKept.well-expire s now (s .head .clock) (sound-means s h))
 
 settled-sound : (s : State) (now : ℕ) (c : Command) (v : Value) → Bytes v → sound s ≡ true → (o : Option ℕ) → refusal (expire now s) now c v ≡ o → sound (settled s now o (effect (expire now s) now c v) .after) ≡ true
-unfolding settled Keeps
+unfolding settled
 settled-sound s now c v b h (some e) p = h
 settled-sound s now c v b h none p = means-sound (withClock t now) (WellKept.well-clock t now (well-effect (expire now s) now (well-expired s now c v h p) c v b p))
   where

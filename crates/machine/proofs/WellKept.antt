@@ -265,7 +265,7 @@ module _ (s : State) (now : ℕ) (h : WellFormed s now) where
       two i j m q d c u v (inr x) (inr y) = sym (x .0) ∙ y .0
 
   -- what is staged in the row of session n on key k becomes u, which fits its kind
-  well-restaged : (n k : ℕ) (u : Staged) → ((i d : ℕ) (v : Staged) → rowAt s i ≡ row n k d v → StagedFits d u) → Orderly.Orderly (withStaged s n k u) → WellFormed (withStaged s n k u) now
+  pub well-restaged : (n k : ℕ) (u : Staged) → ((i d : ℕ) (v : Staged) → rowAt s i ≡ row n k d v → StagedFits d u) → Orderly.Orderly (withStaged s n k u) → WellFormed (withStaged s n k u) now
   well-restaged n k u fits o = record {
     orderly = o;
     head = h .head;
