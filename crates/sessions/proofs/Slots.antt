@@ -81,8 +81,8 @@ module _ {b : List ℕ} {s : State} (h : Holds b s) where
   number-search : (p : Slot → Bool) (n : ℕ) → ((e : Slot) → SlotFits e → eqb (numberIn e) n ≡ p e)
       → first (startsWith b sessionsFrom sessionWidth n) Found.At Found.Nothing 0 sessionCount ≡ found sessionCount (place p (s .sessions))
   number-search p n q =
-      first-cong (startsWith b sessionsFrom sessionWidth n) (λ i. p (sessionAt s i)) Found.At Found.Nothing sessionCount 0 (λ i k.
-      let l : i < sessionCount = omega arith in
+      first-cong (startsWith b sessionsFrom sessionWidth n) (λ i. p (sessionAt s i)) Found.At Found.Nothing sessionCount 0 (λ i z k.
+      let l : i < sessionCount = k in
       rw (number-held h i l) (q (sessionAt s i) (session-fits h i l)))
       ∙ first-place p noSession (s .sessions) sessionCount (h .fits .sessions)
 

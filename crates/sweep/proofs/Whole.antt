@@ -11,7 +11,7 @@ use Rattle.machine.specs.State.{noSession, State, numbered, sessionAt}
 use Rattle.machine.specs.Expiry.{withKeys, withSessions, freeSession, those, lapsedLease, lapsedValue, leave, finish, expire}
 use Rattle.machine.specs.Effects.{toCache}
 use Rattle.machine.specs.Sound.{sound}
-use Rattle.machine.proofs.SoundMeans.{sound-means}
+use Rattle.machine.proofs.SoundFacts as facts
 use Rattle.sweep.specs.Ends.{endRows}
 use Rattle.sweep.specs.Lapsing.{freeDue}
 use Rattle.sweep.specs.declared.Ending.{Ending}
@@ -20,7 +20,7 @@ use Rattle.sweep.proofs.Lapsing.{rows-of-none}
 
 module _ (s : State) (ok : sound s ≡ true) where
   pub numbers-distinct : Distinct (s .sessions)
-  numbers-distinct i j x y e f q = sound-means s ok .sessions .distinct i j e f q
+  numbers-distinct i j x y e f q = facts.numbers-distinct s ok i j e f q
 
   module _ (n i : ℕ) (h : numbered n (sessionAt s i) ≡ true) where
     pub leave-whole : withSessions (endRows Ending.Leaves (n ∷ []) s) (set (endRows Ending.Leaves (n ∷ []) s .sessions) i noSession) ≡ leave (n ∷ []) s
