@@ -28,7 +28,7 @@ same-length : tie.Need-same-length
 same-length c = search needs
 
 returns : tie.Need-returns
-returns c = λ σ h. rw (c .before .before .store-u64 .ensures, c .before .before .before .before .before .before .store-u32 .ensures) (lease-written h (c .before .before .before .before .before .before .before .before .before .args .k) (omega arith) (c .before .before .before .before .before .before .before .before .before .args .token) (c .before .before .before .before .before .before .before .before .before .args .until) (omega arith) (omega arith) (omega arith))
+returns c = λ σ h g. rw (c .before .before .store-u64 .ensures, c .before .before .before .before .before .before .store-u32 .ensures) (lease-written h (c .before .before .before .before .before .before .before .before .before .args .k) (omega arith) (c .before .before .before .before .before .before .before .before .before .args .token) (c .before .before .before .before .before .before .before .before .before .args .until) (omega arith) (omega arith) (omega arith))
 
 pub put-lease-spec : {M : Type 1} → statement M
 put-lease-spec =
