@@ -4,13 +4,12 @@
 use mathlib.Core.Path.{_≡_, refl, sym, ap, _∙_}
 use mathlib.Core.Bool.{Bool, true, false}
 use mathlib.Core.Logic.{_⊎_, inl, inr}
-use mathlib.Core.List.{List, [], _∷_, _++_, map}
-use Prim.Native.Nat.{ℕ, _+_, _<_}
-use native.Mathlib.Numerals.{add-one}
+use mathlib.Core.List.{List, [], _∷_, map}
+use Prim.Native.Nat.{ℕ}
 use native.Mathlib.Omega.{arith}
 use lib.Dec.{eqb}
-use lib.ListN.{length, getD, set, take, length-map, length-set, List·getD-map}
-use lib.Seq.{ext-getD, take-suc}
+use lib.ListN.{length, getD, set, length-map, length-set, List·getD-map}
+use lib.Seq.{ext-getD}
 use borrow.Author.Tests.{eqb-true, eqb-false, eq-eqb}
 use Rattle.lent.specs.Tables.{if_then_else_}
 use Rattle.machine.specs.Tables.{place, find, mem}
@@ -19,7 +18,7 @@ use Rattle.machine.specs.State.{Slot, noSession, session, numbered}
 use Rattle.machine.specs.Expiry.{freeSession, those}
 use Rattle.machine.specs.declared.Session.{Session}
 use Rattle.machine.proofs.Views.{AfterSet, other, here, out, after-set, caseOf, clash, find-passes, mem-one, among-those, those-has, no-session}
-use Rattle.sweep.specs.Lapsing.{dueSlot, freeDue, noted}
+use Rattle.sweep.specs.Lapsing.{dueSlot, freeDue}
 
 -- no two sessions have one number
 abbrev pub Distinct : List Slot → Type 0
@@ -29,21 +28,6 @@ Distinct l = (i j : ℕ) (x y : Session) → getD l i noSession ≡ session x �
 slots-are : (f : Slot → Slot) (l m : List Slot) → f noSession ≡ noSession → length m ≡ length l → ((i : ℕ) → f (getD l i noSession) ≡ getD m i noSession) → map f l ≡ m
 slots-are f l m e n same =
     ext-getD noSession (map f l) m (length-map l f ∙ sym n) (λ i h. sym (ap (getD (map f l) i) e) ∙ List·getD-map f l i noSession ∙ same i)
-
--- the numbers of those that are due, one session more
-those-snoc : (now : ℕ) (l : List Slot) (e : Slot) → those (isDue now) (l ++ (e ∷ [])) ≡ those (isDue now) l ++ noted now e
-those-snoc now [] noSession = refl
-those-snoc now [] (session x) = refl
-those-snoc now (noSession ∷ l) e = those-snoc now l e
-those-snoc now (session x ∷ l) e = go (isDue now x) (those-snoc now l e)
-  where
-    go : (t : Bool) → those (isDue now) (l ++ (e ∷ [])) ≡ those (isDue now) l ++ noted now e
-        → (if t then x .number ∷ those (isDue now) (l ++ (e ∷ [])) else those (isDue now) (l ++ (e ∷ []))) ≡ (if t then x .number ∷ those (isDue now) l else those (isDue now) l) ++ noted now e
-    go true q = ap (_∷_ (x .number)) q
-    go false q = q
-
-pub those-more : (now : ℕ) (l : List Slot) (i : ℕ) → i < length l → those (isDue now) (take i l) ++ noted now (getD l i noSession) ≡ those (isDue now) (take (i + 1) l)
-those-more now l i h = rw (add-one, take-suc l i noSession h) (sym (those-snoc now (take i l) (getD l i noSession)))
 
 module _ (l : List Slot) (d : Distinct l) where
   -- by its number a session is found among those that pass

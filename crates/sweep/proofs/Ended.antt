@@ -3,18 +3,21 @@
 -- Assumes nothing.
 use mathlib.Core.Path.{_≡_, refl, sym, ap, _∙_}
 use mathlib.Core.Bool.{Bool, true, false}
-use mathlib.Core.List.{List, [], _∷_, map}
-use Prim.Native.Nat.{ℕ, _<_}
+use mathlib.Core.List.{List, [], _∷_, _++_, map}
+use Prim.Native.Nat.{ℕ, _+_, _<_}
+use native.Mathlib.Numerals.{add-one}
 use native.Mathlib.Omega.{arith}
-use lib.ListN.{length, getD, set}
+use lib.ListN.{length, getD, set, take}
+use lib.Seq.{take-suc}
 use Rattle.lent.specs.Tables.{if_then_else_, iter}
 use Rattle.machine.specs.Sizes.{keyCount, sessionCount, rowCount}
 use Rattle.machine.specs.Tables.{mem}
-use Rattle.machine.specs.State.{Key, blank, Slot, noSession, Staged, Row, noRow, row, State, keyOf, sessionAt, rowAt}
-use Rattle.machine.specs.Expiry.{withKeys, withSessions, withRows, setValue, freeIfOf, freeSession, leave, settle, finish, lapsedLease, lapsedValue}
+use Rattle.machine.specs.Session.{isDue}
+use Rattle.machine.specs.State.{Key, blank, Slot, noSession, session, Staged, Row, noRow, row, State, keyOf, sessionAt, rowAt}
+use Rattle.machine.specs.Expiry.{withKeys, withSessions, withRows, setValue, freeIfOf, freeSession, leave, settle, finish, lapsedLease, lapsedValue, those}
 use Rattle.machine.specs.Effects.{toCache}
 use Rattle.sweep.specs.Ends.{settled, settles, rowSettles, endRow, endRows}
-use Rattle.sweep.specs.Lapsing.{lapseKey, freeDue, endDue}
+use Rattle.sweep.specs.Lapsing.{lapseKey, freeDue, noted, endDue}
 use Rattle.sweep.specs.declared.Ending.{Ending}
 use Rattle.sweep.proofs.Passes.{along, next-old, pass-part, pass-whole}
 
@@ -63,8 +66,24 @@ unfolding endDue
 sessions-ended now s h = pass-whole (freeDue now) (λ x b. b) noSession (λ l b. withSessions s l) (endDue now) (λ i l b. refl) (s .sessions) (tt {0}) sessionCount h
 
 -- a session that the loop has not come to stands as before
-pub session-ahead : (now : ℕ) (s : State) (i : ℕ) → i < length (s .sessions) → sessionAt (iter (endDue now) i s) i ≡ sessionAt s i
+session-ahead : (now : ℕ) (s : State) (i : ℕ) → i < length (s .sessions) → sessionAt (iter (endDue now) i s) i ≡ sessionAt s i
 unfolding endDue
 session-ahead now s i h =
     ap (λ (t : State). sessionAt t i) (pass-part (freeDue now) (λ x b. b) noSession (λ l b. withSessions s l) (endDue now) (λ i l b. refl) (s .sessions) (tt {0}) i (omega arith))
     ∙ next-old (freeDue now) noSession (s .sessions) i h
+
+-- the numbers of those that are due, one session more
+those-snoc : (now : ℕ) (l : List Slot) (e : Slot) → those (isDue now) (l ++ (e ∷ [])) ≡ those (isDue now) l ++ noted now e
+those-snoc now [] noSession = refl
+those-snoc now [] (session x) = refl
+those-snoc now (noSession ∷ l) e = those-snoc now l e
+those-snoc now (session x ∷ l) e = go (isDue now x) (those-snoc now l e)
+  where
+    go : (t : Bool) → those (isDue now) (l ++ (e ∷ [])) ≡ those (isDue now) l ++ noted now e
+        → (if t then x .number ∷ those (isDue now) (l ++ (e ∷ [])) else those (isDue now) (l ++ (e ∷ []))) ≡ (if t then x .number ∷ those (isDue now) l else those (isDue now) l) ++ noted now e
+    go true q = ap (_∷_ (x .number)) q
+    go false q = q
+
+pub noted-next : (now : ℕ) (s : State) (i : ℕ) → i < length (s .sessions) → those (isDue now) (take i (s .sessions)) ++ noted now (sessionAt (iter (endDue now) i s) i) ≡ those (isDue now) (take (i + 1) (s .sessions))
+noted-next now s i h =
+    rw (session-ahead now s i h, add-one, take-suc (s .sessions) i noSession h) (sym (those-snoc now (take i (s .sessions)) (sessionAt s i)))

@@ -1,5 +1,5 @@
 // How sessions end on the lent state, and what expiry does. Whoever calls has checked the state: it is sound, and of 65,536 bytes.
-mod records;
+pub mod records;
 
 ghost use mathlib.Core.Path.{_≡_};
 ghost use mathlib.Core.Bool.{true};
@@ -23,12 +23,6 @@ pub enum Ending {
     Lapses,
     Caches,
 }
-
-pub const KEY_COUNT: usize = 256;
-
-pub const ROW_COUNT: usize = 384;
-
-pub const SESSION_COUNT: usize = 128;
 
 // Whether n is one of the numbers.
 fn among(ns: &[u32], n: u32) -> bool
@@ -80,7 +74,7 @@ fn end_rows(s: &mut [u8], ns: &[u32], ending: Ending)
     requires { ⌜ length (now s) ≡ stateSize ⌝ }
     ensures { λ _. ⌜ ((σ : State) → Holds (now (s .entry)) σ → Holds (now (s .exit)) (endRows ending (now (ns .entry)) σ)) ⌝ }
 {
-    for i in 0..ROW_COUNT {
+    for i in 0..layout::ROW_COUNT {
         end_row(s, i, ns, ending);
     }
 }
@@ -110,7 +104,7 @@ fn leases_lapse(s: &[u8], time: u64) -> bool
     requires { ⌜ length (now s) ≡ stateSize ⌝ }
     ensures { λ r. ⌜ ((σ : State) → Holds (now (s .entry)) σ → r ≡ any (lapsedOn time) (σ .keys)) ⌝ }
 {
-    for k in 0..KEY_COUNT {
+    for k in 0..layout::KEY_COUNT {
         if records::lease_lapsed(s, k, time) {
             return true;
         }
@@ -123,7 +117,7 @@ fn sessions_lapse(s: &[u8], time: u64) -> bool
     requires { ⌜ length (now s) ≡ stateSize ⌝ }
     ensures { λ r. ⌜ ((σ : State) → Holds (now (s .entry)) σ → r ≡ any (dueSlot time) (σ .sessions)) ⌝ }
 {
-    for i in 0..SESSION_COUNT {
+    for i in 0..layout::SESSION_COUNT {
         if records::session_due(s, i, time) {
             return true;
         }
@@ -156,7 +150,7 @@ fn lapse_leases(s: &mut [u8], time: u64)
     requires { ⌜ length (now s) ≡ stateSize ⌝ }
     ensures { λ _. ⌜ ((σ : State) → Holds (now (s .entry)) σ → Holds (now (s .exit)) (withKeys σ (map (lapsedLease time) (σ .keys)))) ⌝ }
 {
-    for k in 0..KEY_COUNT {
+    for k in 0..layout::KEY_COUNT {
         lapse_key(s, k, time);
     }
 }
@@ -180,7 +174,7 @@ fn end_sessions(s: &mut [u8], time: u64, ns: &mut [u32]) -> usize
     ensures { λ r. ⌜ (r ≤ sessionCount) × ((σ : State) → Holds (now (s .entry)) σ → Holds (now (s .exit)) (withSessions σ (map (freeDue time) (σ .sessions))) × (take r (now (ns .exit)) ≡ those (isDue time) (σ .sessions))) ⌝ }
 {
     let mut count = 0;
-    for i in 0..SESSION_COUNT {
+    for i in 0..layout::SESSION_COUNT {
         count = end_due(s, i, time, ns, count);
     }
     count

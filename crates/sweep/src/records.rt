@@ -12,32 +12,24 @@ ghost use Rattle.layout.specs.Fields.{rowSession, rowKey, stagedMark};
 ghost use Rattle.layout.specs.Holds.{Holds};
 ghost use Rattle.sweep.specs.Lapsing.{lapsedOn, dueSlot};
 
-// The places and sizes of the layout, as `specs/Sizes` of `machine` names them.
-pub const KEYS_FROM: usize = 64;
+// A mark with the length behind it, in a key and in a row; a lease, its token and its deadline.
+const MARK_WIDTH: usize = 2;
 
-pub const KEY_WIDTH: usize = 80;
-
-pub const ROWS_FROM: usize = 20544;
-
-pub const ROW_WIDTH: usize = 72;
-
-pub const SESSIONS_FROM: usize = 48192;
-
-pub const SESSION_WIDTH: usize = 16;
+const LEASE_WIDTH: usize = 12;
 
 // A row's session, 0 where the row is free.
 pub fn row_session(s: &[u8], i: usize) -> u32
     requires { ⌜ (length (now s) ≡ stateSize) × (i < rowCount) ⌝ }
     ensures { λ r. ⌜ ((σ : State) → Holds (now (s .entry)) σ → r ≡ rowSession (rowAt σ i)) ⌝ }
 {
-    lent::load_u32(s, ROWS_FROM + i * ROW_WIDTH)
+    lent::load_u32(s, layout::ROWS_FROM + i * layout::ROW_WIDTH)
 }
 
 pub fn row_key(s: &[u8], i: usize) -> usize
     requires { ⌜ (length (now s) ≡ stateSize) × (i < rowCount) ⌝ }
     ensures { λ r. ⌜ ((σ : State) → Holds (now (s .entry)) σ → r ≡ rowKey (rowAt σ i)) × (r < keyCount) ⌝ }
 {
-    lent::index(s[ROWS_FROM + i * ROW_WIDTH + 4])
+    lent::index(s[layout::ROWS_FROM + i * layout::ROW_WIDTH + layout::ROW_KEY])
 }
 
 // 0 nothing, 1 a value, 2 DROP.
@@ -45,21 +37,29 @@ pub fn row_mark(s: &[u8], i: usize) -> u8
     requires { ⌜ (length (now s) ≡ stateSize) × (i < rowCount) ⌝ }
     ensures { λ r. ⌜ ((σ : State) → Holds (now (s .entry)) σ → r ≡ stagedMark (stagedIn (rowAt σ i))) ⌝ }
 {
-    s[ROWS_FROM + i * ROW_WIDTH + 6]
+    s[layout::ROWS_FROM + i * layout::ROW_WIDTH + layout::ROW_STAGED]
 }
 
 pub fn free_row(s: &mut [u8], i: usize)
     requires { ⌜ (length (now s) ≡ stateSize) × (i < rowCount) ⌝ }
     ensures { λ _. ⌜ ((σ : State) → Holds (now (s .entry)) σ → Holds (now (s .exit)) (withRows σ (set (σ .rows) i noRow))) ⌝ }
 {
-    lent::clear(s, ROWS_FROM + i * ROW_WIDTH, ROW_WIDTH);
+    lent::clear(
+        s,
+        layout::ROWS_FROM + i * layout::ROW_WIDTH,
+        layout::ROW_WIDTH,
+    );
 }
 
 pub fn free_session(s: &mut [u8], i: usize)
     requires { ⌜ (length (now s) ≡ stateSize) × (i < sessionCount) ⌝ }
     ensures { λ _. ⌜ ((σ : State) → Holds (now (s .entry)) σ → Holds (now (s .exit)) (withSessions σ (set (σ .sessions) i noSession))) ⌝ }
 {
-    lent::clear(s, SESSIONS_FROM + i * SESSION_WIDTH, SESSION_WIDTH);
+    lent::clear(
+        s,
+        layout::SESSIONS_FROM + i * layout::SESSION_WIDTH,
+        layout::SESSION_WIDTH,
+    );
 }
 
 // A session's number, 0 where the place is free.
@@ -67,7 +67,7 @@ pub fn session_number(s: &[u8], i: usize) -> u32
     requires { ⌜ (length (now s) ≡ stateSize) × (i < sessionCount) ⌝ }
     ensures { λ r. ⌜ ((σ : State) → Holds (now (s .entry)) σ → r ≡ numberIn (sessionAt σ i)) ⌝ }
 {
-    lent::load_u32(s, SESSIONS_FROM + i * SESSION_WIDTH)
+    lent::load_u32(s, layout::SESSIONS_FROM + i * layout::SESSION_WIDTH)
 }
 
 // Open, with its deadline at or before now.
@@ -75,11 +75,11 @@ pub fn session_due(s: &[u8], i: usize, time: u64) -> bool
     requires { ⌜ (length (now s) ≡ stateSize) × (i < sessionCount) ⌝ }
     ensures { λ r. ⌜ ((σ : State) → Holds (now (s .entry)) σ → r ≡ dueSlot time (sessionAt σ i)) ⌝ }
 {
-    let at = SESSIONS_FROM + i * SESSION_WIDTH;
-    if s[at + 4] != 1 {
+    let at = layout::SESSIONS_FROM + i * layout::SESSION_WIDTH;
+    if s[at + layout::SESSION_LIFE] != 1 {
         return false;
     }
-    lent::load_u64(s, at + 8) <= time
+    lent::load_u64(s, at + layout::SESSION_UNTIL) <= time
 }
 
 // The I lease on key k has its deadline at or before now.
@@ -87,18 +87,22 @@ pub fn lease_lapsed(s: &[u8], k: usize, time: u64) -> bool
     requires { ⌜ (length (now s) ≡ stateSize) × (k < keyCount) ⌝ }
     ensures { λ r. ⌜ ((σ : State) → Holds (now (s .entry)) σ → r ≡ lapsedOn time (keyOf σ k)) ⌝ }
 {
-    let at = KEYS_FROM + k * KEY_WIDTH;
-    if lent::load_u32(s, at + 4) == 0 {
+    let at = layout::KEYS_FROM + k * layout::KEY_WIDTH;
+    if lent::load_u32(s, at + layout::KEY_TOKEN) == 0 {
         return false;
     }
-    lent::load_u64(s, at + 8) <= time
+    lent::load_u64(s, at + layout::KEY_UNTIL) <= time
 }
 
 pub fn drop_lease(s: &mut [u8], k: usize)
     requires { ⌜ (length (now s) ≡ stateSize) × (k < keyCount) ⌝ }
     ensures { λ _. ⌜ ((σ : State) → Holds (now (s .entry)) σ → Holds (now (s .exit)) (withKeys σ (setLease (σ .keys) k none))) ⌝ }
 {
-    lent::clear(s, KEYS_FROM + k * KEY_WIDTH + 4, 12);
+    lent::clear(
+        s,
+        layout::KEYS_FROM + k * layout::KEY_WIDTH + layout::KEY_TOKEN,
+        LEASE_WIDTH,
+    );
 }
 
 // The mark with the length, and the 64 bytes of the value; the lease lies between them.
@@ -106,9 +110,9 @@ pub fn drop_value(s: &mut [u8], k: usize)
     requires { ⌜ (length (now s) ≡ stateSize) × (k < keyCount) ⌝ }
     ensures { λ _. ⌜ ((σ : State) → Holds (now (s .entry)) σ → Holds (now (s .exit)) (withKeys σ (setValue (σ .keys) k none))) ⌝ }
 {
-    let at = KEYS_FROM + k * KEY_WIDTH;
-    lent::clear(s, at, 2);
-    lent::clear(s, at + 16, 64);
+    let at = layout::KEYS_FROM + k * layout::KEY_WIDTH;
+    lent::clear(s, at, MARK_WIDTH);
+    lent::clear(s, at + layout::KEY_VALUE, layout::VALUE_MAX);
 }
 
 // What row i has staged becomes the value of key k: mark and length stand side by side in both, and the 64 bytes are the same.
@@ -120,8 +124,13 @@ pub fn cache_staged(s: &mut [u8], k: usize, i: usize)
         drop_value(s, k);
         return;
     }
-    let from = ROWS_FROM + i * ROW_WIDTH;
-    let at = KEYS_FROM + k * KEY_WIDTH;
-    lent::copy_within(s, from + 6, at, 2);
-    lent::copy_within(s, from + 8, at + 16, 64);
+    let from = layout::ROWS_FROM + i * layout::ROW_WIDTH;
+    let at = layout::KEYS_FROM + k * layout::KEY_WIDTH;
+    lent::copy_within(s, from + layout::ROW_STAGED, at, MARK_WIDTH);
+    lent::copy_within(
+        s,
+        from + layout::ROW_VALUE,
+        at + layout::KEY_VALUE,
+        layout::VALUE_MAX,
+    );
 }

@@ -1,69 +1,67 @@
-use mathlib.Core.Path.{_≡_, sym, ap, _∙_}
-use mathlib.Core.Bool.{true, false}
+-- A free row and one of another session stay (`row-free`, `row-stays`); else the key is settled and the row freed (`row-ends`).
+-- Assumes nothing.
+use mathlib.Core.Path.{_≡_, sym, _∙_}
+use mathlib.Core.Bool.{true}
 use native.Mathlib.Omega.{arith}
 use borrow.Author.Tests.{not-true, not-false}
+use borrow.Author.Needs.{needs}
 use Rattle.machine.specs.Tables.{mem}
 use Rattle.machine.specs.State.{rowAt}
 use Rattle.layout.specs.Fields.{rowSession}
 use Rattle.layout.proofs.Held.{row-fits}
 use Rattle.sweep.proofs.Steps.{row-free, row-stays, row-ends}
-use borrow.Author.Needs.{needs}
 use Rattle.sweep.proofs.end_row.Statement.{statement}
 use Rattle.sweep.proofs.end_row.Tie as tie
-use Rattle.sweep.proofs.end_row.Reads as reads
-use Rattle.sweep.proofs.end_row.Lts as lts
-use Rattle.sweep.proofs.among.Reads as among-reads
-use Rattle.sweep.proofs.records.free_row.Reads as free-row-reads
-use Rattle.sweep.proofs.records.row_key.Reads as row-key-reads
-use Rattle.sweep.proofs.records.row_session.Reads as row-session-reads
-use Rattle.sweep.proofs.settle.Reads as settle-reads
 
--- src/lib.rt:67:9
+-- A free row and one of another session stay (`row-free`, `row-stays`); else the key is settled and the row freed (`row-ends`).
+-- Assumes nothing.
+
 row-session-requires : tie.Need-row-session-requires
 row-session-requires c κs = search needs
 
--- src/lib.rt:69:9
 same-length : tie.Need-same-length
 same-length c = search needs
 
--- src/lib.rt:69:9
 returns : tie.Need-returns
-returns c = λ σ h. rw (row-free (c .before .before .before .before .before .args .ending) (c .before .before .before .before .before .args .ns .now) (c .before .before .before .before .before .args .i) σ (row-fits h (c .before .before .before .before .before .args .i) (omega arith)) (sym (c .before .row-session .ensures σ h) ∙ c .if1 .taken)) h
+returns c = let args = c .before .before .before .before .before .args in
+    λ σ h. rw (row-free (args .ending) (args .ns .now) (args .i) σ (row-fits h (args .i) (omega arith)) (sym (c .before .row-session .ensures σ h) ∙ c .if1 .taken)) h
 
--- src/lib.rt:71:9
 among-requires : tie.Need-among-requires
 among-requires c κs = search needs
 
--- src/lib.rt:72:9
 same-length-2 : tie.Need-same-length-2
 same-length-2 c = search needs
 
--- src/lib.rt:72:9
 returns-2 : tie.Need-returns-2
-returns-2 c = λ σ h. rw (row-stays (c .before .before .before .before .before .before .before .args .ending) (c .before .before .before .before .before .before .before .args .ns .now) (c .before .before .before .before .before .before .before .args .i) σ (rw (← c .before .before .before .row-session .ensures σ h) (sym (c .before .among .ensures) ∙ not-true _ (c .if2 .taken)))) h
+returns-2 c = let row-session = c .before .before .before .row-session in
+    let args = c .before .before .before .before .before .before .before .args in
+    λ σ h. rw (row-stays (args .ending) (args .ns .now) (args .i) σ (rw (← row-session .ensures σ h) (sym (c .before .among .ensures) ∙ not-true _ (c .if2 .taken)))) h
 
--- src/lib.rt:74:9
 row-key-requires : tie.Need-row-key-requires
 row-key-requires c κs = search needs
 
--- src/lib.rt:75:5
 settle-requires : tie.Need-settle-requires
 settle-requires c κs = search needs
 
--- src/lib.rt:76:5
 free-row-requires : tie.Need-free-row-requires
 free-row-requires c κs = search needs
 
--- src/lib.rt:63:1
 same-length-3 : tie.Need-same-length-3
 same-length-3 c = search needs
 
--- src/lib.rt:63:1
 returns-3 : tie.Need-returns-3
-returns-3 c = λ σ h.
-    let other : rowSession (rowAt σ (c .before .before .before .before .before .before .before .before .before .before .before .before .before .before .before .before .before .args .i)) ≡ 0 → ⊥ = λ q. c .before .before .before .before .before .before .before .before .before .before .before .before .if1 .left (c .before .before .before .before .before .before .before .before .before .before .before .before .before .row-session .ensures σ h ∙ q) in
-    let one : mem (rowSession (rowAt σ (c .before .before .before .before .before .before .before .before .before .before .before .before .before .before .before .before .before .args .i))) (c .before .before .before .before .before .before .before .before .before .before .before .before .before .before .before .before .before .args .ns .now) ≡ true = rw (← c .before .before .before .before .before .before .before .before .before .before .before .before .before .row-session .ensures σ h) (sym (c .before .before .before .before .before .before .before .before .before .before .before .among .ensures) ∙ not-false _ (c .before .before .before .before .before .before .before .before .before .before .if2 .left)) in
-    rw (row-ends (c .before .before .before .before .before .before .before .before .before .before .before .before .before .before .before .before .before .args .ending) (c .before .before .before .before .before .before .before .before .before .before .before .before .before .before .before .before .before .args .ns .now) (c .before .before .before .before .before .before .before .before .before .before .before .before .before .before .before .before .before .args .i) σ other one, ← c .before .before .before .before .before .before .before .before .row-key .ensures .0 σ h) (c .before .before .free-row .ensures _ (c .before .before .before .before .before .before .settle .ensures σ h))
+returns-3 c = let free-row = c .before .before .free-row in
+    let settle = c .before .before .before .before .before .before .settle in
+    let row-key = c .before .before .before .before .before .before .before .before .row-key in
+    let if2 = c .before .before .before .before .before .before .before .before .before .before .if2 in
+    let among = c .before .before .before .before .before .before .before .before .before .before .before .among in
+    let if1 = c .before .before .before .before .before .before .before .before .before .before .before .before .if1 in
+    let row-session = c .before .before .before .before .before .before .before .before .before .before .before .before .before .row-session in
+    let args = c .before .before .before .before .before .before .before .before .before .before .before .before .before .before .before .before .before .args in
+    λ σ h.
+    let other : rowSession (rowAt σ (args .i)) ≡ 0 → ⊥ = λ q. if1 .left (row-session .ensures σ h ∙ q) in
+    let one : mem (rowSession (rowAt σ (args .i))) (args .ns .now) ≡ true = rw (← row-session .ensures σ h) (sym (among .ensures) ∙ not-false _ (if2 .left)) in
+    rw (row-ends (args .ending) (args .ns .now) (args .i) σ other one, ← row-key .ensures .0 σ h) (free-row .ensures _ (settle .ensures σ h))
 
 pub end-row-spec : {M : Type 1} → statement M
 end-row-spec =
