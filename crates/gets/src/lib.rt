@@ -1,0 +1,63 @@
+// GET and SHOW on the lent state.
+ghost use mathlib.Core.Path.{_≡_};
+ghost use Prim.Native.Nat.{_<_};
+ghost use lib.ListN.{length};
+ghost use Rattle.machine.specs.Sizes.{stateSize, keyCount, rowCount};
+ghost use Rattle.machine.specs.State.{State, cached, rowAt};
+ghost use Rattle.machine.specs.Refusals.{cachedSight, rowSight, sight};
+ghost use Rattle.layout.specs.Holds.{Holds};
+ghost use Rattle.gets.specs.Sights.{placed, Inside};
+use layout::Found;
+
+// Where the value stands with which a GET would be answered HIT, and its length.
+pub enum Sight {
+    At { at: usize, length: usize },
+    Nothing,
+}
+
+// The cached value of key k.
+fn cached_sight(s: &[u8], k: usize) -> Sight
+    requires { ⌜ (length (now s) ≡ stateSize) × (k < keyCount) ⌝ }
+    ensures { λ r. ⌜ ((σ : State) → Holds (now (s .entry)) σ → r ≡ placed (cachedSight k (cached σ k))) × Inside r ⌝ }
+{
+    if !keys::has_value(s, k) {
+        return Sight::Nothing;
+    }
+    Sight::At {
+        at: layout::KEYS_FROM + k * layout::KEY_WIDTH + layout::KEY_VALUE,
+        length: keys::value_length(s, k),
+    }
+}
+
+// By one's own row i on key k: its staged value; nothing for DROP or kind 1; otherwise the cached value.
+fn row_sight(s: &[u8], i: usize, k: usize) -> Sight
+    requires { ⌜ (length (now s) ≡ stateSize) × ((i < rowCount) × (k < keyCount)) ⌝ }
+    ensures { λ r. ⌜ ((σ : State) → Holds (now (s .entry)) σ → r ≡ placed (rowSight i k (rowAt σ i) (cached σ k))) × Inside r ⌝ }
+{
+    let mark = rows::mark(s, i);
+    if mark == 1 {
+        return Sight::At {
+            at: layout::ROWS_FROM + i * layout::ROW_WIDTH + layout::ROW_VALUE,
+            length: rows::staged_length(s, i),
+        };
+    }
+    if mark == 2 {
+        return Sight::Nothing;
+    }
+    if rows::kind(s, i) == 1 {
+        return Sight::Nothing;
+    }
+    cached_sight(s, k)
+}
+
+// What the session, or no session if it is 0, sees on key k.
+pub fn look(s: &[u8], session: u64, k: usize) -> Sight
+    requires { ⌜ (length (now s) ≡ stateSize) × (k < keyCount) ⌝ }
+    ensures { λ r. ⌜ ((σ : State) → Holds (now (s .entry)) σ → r ≡ placed (sight σ session k)) × Inside r ⌝ }
+{
+    let row = rows::find(s, session, k);
+    match row {
+        Found::At(i) => row_sight(s, i, k),
+        Found::Nothing => cached_sight(s, k),
+    }
+}
