@@ -9,6 +9,8 @@ ghost use Rattle.layout.specs.Holds.{Holds};
 ghost use Rattle.gets.specs.Sights.{placed, Inside};
 use layout::Found;
 
+mod waiting;
+
 // Where the value stands with which a GET would be answered HIT, and its length.
 pub enum Sight {
     At { at: usize, length: usize },
