@@ -18,7 +18,7 @@ unfolding allZero
 zero-append [] q = refl
 zero-append (x ∷ p) q = rw (zero-append p q) (sym (and-assoc (eqb x 0) (allZero p) (allZero q)))
 
-eqb-or : (a b : ℕ) → eqb (bitOr a b) 0 ≡ eqb a 0 && eqb b 0
+pub eqb-or : (a b : ℕ) → eqb (bitOr a b) 0 ≡ eqb a 0 && eqb b 0
 eqb-or zero b = rw (or-zero-l b)
 eqb-or (suc a) b = ne-eqb (bitOr (suc a) b) 0 (λ e. omega (arith, or-add-and (suc a) b, and-le-r (suc a) b)) ∙ rw (eqb·suc-zero a)
 
