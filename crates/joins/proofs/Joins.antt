@@ -17,7 +17,7 @@ use Rattle.lent.specs.Tables.{if_then_else_, every}
 use Rattle.lent.proofs.Choices.{and-yes, clash}
 use Rattle.lent.proofs.Walks.{all-every, every-all, every-fails}
 use Rattle.machine.specs.Sizes.{keyCount, keysFrom, keyWidth, sessionCount, sessionsFrom, sessionWidth}
-use Rattle.joins.specs.Joins.{numbers, rowSession, rowKey, rowKind, isLive, pairOk, joinOk, item, Gathered, placeOf, toldOk, On, Seen, Joined}
+use Rattle.joins.specs.Joins.{numbers, rowSession, rowKey, rowKind, isLive, pairOk, joinOk, item, Gathered, placeOf, mayShare, On, Seen, Joined}
 use Rattle.joins.proofs.Lookup.{Stands, place-dead, place-live}
 use Rattle.joins.proofs.Numbers.{last-or, same-or, item-zeros}
 
@@ -147,7 +147,7 @@ module _ (s nums hint : List ℕ) (g : Gathered (numbers s sessionsFrom sessionW
       all-read true m e x = sym (twice m)
       all-read false m e x = sym (all-every pairs i (λ j l. pair-if s n k (rowKind s i) j i l (λ o. (new m j o, omega (arith, e, h .kinds k j o), omega (arith, isd, x)))))
 
-      told-is : toldOk (item seen k) d (bit k (p - 1)) ≡ every pairs i
+      told-is : mayShare (item seen k) d (bit k (p - 1)) ≡ every pairs i
       told-is =
           ⊎-elim
           (λ e. rw (eq-eqb (item seen k) 0 e) (sym (all-every pairs i (λ j l. pair-if s n k (rowKind s i) j i l (λ o. absurd (omega (arith, e, h .kinds k j o)))))))
@@ -211,7 +211,7 @@ module _ (s nums hint : List ℕ) (g : Gathered (numbers s sessionsFrom sessionW
     join-dead e l = join-is ∙ rw (eq-eqb token 0 e, place-dead s nums hint g n used (sym isp ∙ l))
 
     pub joined : k < keyCount → token ≡ 0 → (l : p ≡ 0 → ⊥) (bit′ : ℕ → ℕ → Bool) → ((a v : ℕ) → bit′ a v ≡ (bit a v || (eqb a k && eqb v (p - 1))))
-        → (r : Bool) → r ≡ toldOk (item seen k) d (bit k (p - 1)) → Joined s P i r (set seen k d) bit′
+        → (r : Bool) → r ≡ mayShare (item seen k) d (bit k (p - 1)) → Joined s P i r (set seen k d) bit′
     joined b e l bit′ m r t =
         let all : r ≡ every pairs i = t ∙ told-is l in
         record {

@@ -15,7 +15,7 @@ use Rattle.lent.specs.Tables.{if_then_else_, every, some, first}
 use Rattle.lent.proofs.Walks.{every-all, some-at, none-some, Search, found, nowhere, first-search}
 use Rattle.lent.proofs.Zeros.{eqb-or}
 use Rattle.machine.specs.Sizes.{sessionCount, sessionsFrom, sessionWidth}
-use Rattle.joins.specs.Joins.{numbers, isLive, side, item, Gathered, slotOf, joinedPlaces, firstPlace, chosenPlace, foundPlace, placeOf}
+use Rattle.joins.specs.Joins.{numbers, isLive, side, item, Gathered, slotOf, joinedPlaces, firstPlace, chosenPlace, findPlace, placeOf}
 
 -- ---- the places joined
 
@@ -23,9 +23,15 @@ pub joined-more : (nums : List ℕ) (n j f : ℕ) → f ≡ joinedPlaces nums n 
 unfolding joinedPlaces
 joined-more nums n j f e = rw (add-one j) (rw (e, add-one j))
 
+-- 0 if the test fails
 zero-choice : (t : Bool) (m : ℕ) → eqb (if t then m + 1 else 0) 0 ≡ not t
 zero-choice true m = rw add-one (eqb·suc-zero m)
 zero-choice false m = refl
+
+-- a turn of a loop that looks whether n stands anywhere
+pub absent-more : (nums : List ℕ) (n j f : ℕ) → eqb f 0 ≡ every (λ k. not (eqb (item nums k) n)) j → eqb (bitOr f (if eqb (item nums j) n then 1 else 0)) 0 ≡ every (λ k. not (eqb (item nums k) n)) (j + 1)
+unfolding every
+absent-more nums n j f e = rw (add-one j, eqb-or, e, zero-choice (eqb (item nums j) n) 0)
 
 pub joined-zero : (nums : List ℕ) (n m : ℕ) → eqb (joinedPlaces nums n m) 0 ≡ every (λ j. not (eqb (item nums j) n)) m
 unfolding joinedPlaces every
@@ -47,8 +53,8 @@ module _ (nums : List ℕ) (n : ℕ) where
       go r (found k q a b c f) = rw q (at-place {m = k} (omega arith) (eqb-true (item nums k) n c))
       go r (nowhere q f) = rw q (no-place (λ j h e. eqb-false (item nums j) n (f j (omega arith) (omega arith)) e))
 
-  found-is : Place (foundPlace nums n)
-  unfolding foundPlace
+  found-is : Place (findPlace nums n)
+  unfolding findPlace
   found-is = go (joinedPlaces nums n sessionCount) refl (eqb (joinedPlaces nums n sessionCount) 0) refl
     where
       at-last : (p : ℕ) → (p ≡ 0 → ⊥) → (t u : Bool) → ltb sessionCount p ≡ t → eqb (item nums (p - 1)) n ≡ u → Place (if t then firstPlace nums n else if u then p else firstPlace nums n)
@@ -71,7 +77,7 @@ module _ (nums : List ℕ) (n : ℕ) where
         low m e true q = absurd (used (sym e ∙ g .rest m (leb-true sessionCount m q)))
         low m e false q = leb-false sessionCount m q
 
-        go : (m : ℕ) (t : Bool) → eqb (item nums m) n ≡ t → Place (if t then m + 1 else foundPlace nums n)
+        go : (m : ℕ) (t : Bool) → eqb (item nums m) n ≡ t → Place (if t then m + 1 else findPlace nums n)
         go m true e = let o = eqb-true (item nums m) n e in at-place {m = m} (low m o (leb sessionCount m) refl) o
         go m false e = found-is
 

@@ -91,12 +91,12 @@ chosenPlace nums n p =
     else if eqb (item nums (p - 1)) n then p
     else firstPlace nums n
 
-unfoldable pub foundPlace : List ℕ → ℕ → ℕ
-foundPlace nums n = chosenPlace nums n (joinedPlaces nums n sessionCount)
+unfoldable pub findPlace : List ℕ → ℕ → ℕ
+findPlace nums n = chosenPlace nums n (joinedPlaces nums n sessionCount)
 
 -- what the hint says if it is a place of n
 unfoldable pub placeOf : List ℕ → List ℕ → ℕ → ℕ
-placeOf nums hint n = if eqb (item nums (item hint (slotOf n))) n then item hint (slotOf n) + 1 else foundPlace nums n
+placeOf nums hint n = if eqb (item nums (item hint (slotOf n))) n then item hint (slotOf n) + 1 else findPlace nums n
 
 -- One pass over the rows
 
@@ -116,8 +116,8 @@ pub record Noted (near far : List ℕ) (k q : ℕ) (r : Bool) (near′ far′ : 
   pub bits : (a v : ℕ) → pairBit near′ far′ a v ≡ (pairBit near far a v || (eqb a k && eqb v q))
 
 -- what is told of the rows before by the kind seen on the key, plus 1, and by the mark
-abbrev pub toldOk : ℕ → ℕ → Bool → Bool
-toldOk seen d marked = if eqb seen 0 then true else if eqb seen 2 then (if eqb d 2 then not marked else false) else false
+abbrev pub mayShare : ℕ → ℕ → Bool → Bool
+mayShare seen d marked = if eqb seen 0 then true else if eqb seen 2 then (if eqb d 2 then not marked else false) else false
 
 -- row j is before row i, used, and on key k
 pub record On (s : List ℕ) (i k j : ℕ) : Type 0 where

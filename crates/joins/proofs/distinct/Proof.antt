@@ -13,12 +13,6 @@ use Rattle.joins.specs.Joins.{numbers}
 use Rattle.joins.proofs.Numbers.{gathered-none, distinct-gathered, every-less}
 use Rattle.joins.proofs.distinct.Statement.{statement}
 use Rattle.joins.proofs.distinct.Tie as tie
-use Rattle.joins.proofs.distinct.Reads as reads
-use Rattle.joins.proofs.distinct.Lts as lts
-use Rattle.joins.proofs.gather.Reads as gather-reads
-use Rattle.joins.proofs.is_new_at.Reads as is-new-at-reads
-use Rattle.joins.proofs.lesser.Reads as lesser-reads
-use Rattle.joins.proofs.side_distinct.Reads as side-distinct-reads
 
 abbrev Inv-loop : tie.InvT-loop
 Inv-loop s off w n m i₀ i = (i ≤ n) × (every (newAt (numbers s off w)) i ≡ true)
@@ -26,51 +20,40 @@ Inv-loop s off w n m i₀ i = (i ≤ n) × (every (newAt (numbers s off w)) i �
 abbrev μ-loop : tie.MeasureT-loop
 μ-loop s off w n m i₀ i = n - i
 
--- src/lib.rt:140:9
 lesser-requires : tie.Need-lesser-requires Inv-loop μ-loop
 lesser-requires c κs = search needs
 
--- src/lib.rt:141:5
 gather-requires : tie.Need-gather-requires Inv-loop μ-loop
 gather-requires c κs = let h : c .before .lesser .result ≤ c .before .before .before .args .n = omega arith in
     (omega (arith, mul-le-mul-right (c .before .before .before .args .w) h), (search needs, (search needs, gathered-none _)))
 
--- src/lib.rt:142:9
 side-distinct-requires : tie.Need-side-distinct-requires Inv-loop μ-loop
 side-distinct-requires c κs = search needs
 
--- src/lib.rt:143:9
 returns : tie.Need-returns Inv-loop μ-loop
 unfolding distinct
 returns c = let h : c .before .before .before .before .before .lesser .result ≤ c .before .before .before .before .before .before .before .args .n = omega arith in
     sym (every-less _ _ _ h (sym (distinct-gathered _ _ _ (c .before .before .before .gather .ensures)) ∙ (sym (c .before .side-distinct .ensures) ∙ not-true _ (c .if1 .taken))))
 
--- src/lib.rt:145:5
 loop-holds : tie.Need-loop-holds Inv-loop μ-loop
 loop-holds c = (search needs, sym (distinct-gathered _ _ _ (c .before .before .before .gather .ensures)) ∙ (sym (c .before .side-distinct .ensures) ∙ not-false _ (c .if1 .left)))
 
--- src/lib.rt:146:13
 is-new-at-requires : tie.Need-is-new-at-requires Inv-loop μ-loop
 is-new-at-requires c κs = (omega (arith, place-fits (c .before .loop .i) (c .before .before .before .before .before .before .before .before .before .args .n) (c .before .before .before .before .before .before .before .before .before .args .w) (omega arith)), search needs)
 
--- src/lib.rt:147:13
 returns-2 : tie.Need-returns-2 Inv-loop μ-loop
 unfolding distinct
 returns-2 c = sym (every-fails _ _ (c .before .before .before .loop .i) (search needs) (sym (c .before .is-new-at .ensures) ∙ not-true _ (c .if2 .taken)))
 
--- src/lib.rt:145:9
 add-i : tie.Need-add-i Inv-loop μ-loop
 add-i c = search needs
 
--- src/lib.rt:145:5
 loop-less : tie.Need-loop-less Inv-loop μ-loop
 loop-less c = search needs
 
--- src/lib.rt:145:5
 loop-again : tie.Need-loop-again Inv-loop μ-loop
 loop-again c = (search needs, every-more _ _ (c .before .before .before .loop .inv .1) (sym (c .before .is-new-at .ensures) ∙ not-false _ (c .if2 .left)))
 
--- src/lib.rt:135:1
 returns-3 : tie.Need-returns-3 Inv-loop μ-loop
 unfolding distinct
 returns-3 c = let e : c .before .loop .i ≡ c .before .before .before .before .before .before .before .before .before .args .n = omega arith in sym (rw e at (c .before .loop .inv .1))

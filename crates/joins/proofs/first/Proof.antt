@@ -10,8 +10,6 @@ use Rattle.machine.specs.Sizes.{sessionCount}
 use Rattle.joins.specs.Joins.{item, firstPlace}
 use Rattle.joins.proofs.first.Statement.{statement}
 use Rattle.joins.proofs.first.Tie as tie
-use Rattle.joins.proofs.first.Reads as reads
-use Rattle.joins.proofs.first.Lts as lts
 
 abbrev Inv-loop : tie.InvT-loop
 Inv-loop nums n j₀ j = (j ≤ sessionCount) × (firstPlace nums n ≡ first (λ k. eqb (item nums k) n) (λ k. k + 1) 0 j (sessionCount - j))
@@ -19,39 +17,30 @@ Inv-loop nums n j₀ j = (j ≤ sessionCount) × (firstPlace nums n ≡ first (�
 abbrev μ-loop : tie.MeasureT-loop
 μ-loop nums n j₀ j = sessionCount - j
 
--- src/lib.rt:167:5
 loop-holds : tie.Need-loop-holds Inv-loop μ-loop
 loop-holds c = (search needs, refl)
 
--- src/lib.rt:168:12
 mul-if1 : tie.Need-mul-if1 Inv-loop μ-loop
 mul-if1 c = search needs
 
--- src/lib.rt:168:12
 element-copy-out-if1 : tie.Need-element-copy-out-if1 Inv-loop μ-loop
 element-copy-out-if1 c = search needs
 
--- src/lib.rt:169:20
 add-result : tie.Need-add-result Inv-loop μ-loop
 add-result c = search needs
 
--- src/lib.rt:169:13
 returns : tie.Need-returns Inv-loop μ-loop
 returns c = (sym (c .before .before .before .loop .inv .1 ∙ first-hit _ _ _ sessionCount (c .before .before .before .loop .j) (search needs) (eq-eqb _ _ (c .if1 .taken))), search needs)
 
--- src/lib.rt:167:9
 add-j : tie.Need-add-j Inv-loop μ-loop
 add-j c = search needs
 
--- src/lib.rt:167:5
 loop-less : tie.Need-loop-less Inv-loop μ-loop
 loop-less c = search needs
 
--- src/lib.rt:167:5
 loop-again : tie.Need-loop-again Inv-loop μ-loop
 loop-again c = (search needs, c .before .before .before .loop .inv .1 ∙ first-miss _ _ _ sessionCount (c .before .before .before .loop .j) (search needs) (ne-eqb _ _ (c .if1 .left)))
 
--- src/lib.rt:164:1
 returns-2 : tie.Need-returns-2 Inv-loop μ-loop
 returns-2 c = (sym (c .before .loop .inv .1 ∙ first-end _ _ _ sessionCount (c .before .loop .j) (search needs)), search needs)
 

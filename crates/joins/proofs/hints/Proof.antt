@@ -3,9 +3,6 @@ use Prim.Native.Nat.{_-_, _≤_}
 use Rattle.machine.specs.Sizes.{sessionCount}
 use Rattle.joins.proofs.hints.Statement.{statement}
 use Rattle.joins.proofs.hints.Tie as tie
-use Rattle.joins.proofs.hints.Reads as reads
-use Rattle.joins.proofs.hints.Lts as lts
-use Rattle.joins.proofs.slot.Reads as slot-reads
 
 abbrev Inv-loop : tie.InvT-loop
 Inv-loop nums hint₀ i₀ hint i = i ≤ sessionCount
@@ -13,43 +10,33 @@ Inv-loop nums hint₀ i₀ hint i = i ≤ sessionCount
 abbrev μ-loop : tie.MeasureT-loop
 μ-loop nums hint₀ i₀ hint i = sessionCount - i
 
--- src/lib.rt:157:5
 loop-holds : tie.Need-loop-holds Inv-loop μ-loop
 loop-holds c = search needs
 
--- src/lib.rt:158:22
 mul-slot : tie.Need-mul-slot Inv-loop μ-loop
 mul-slot c = search needs
 
--- src/lib.rt:158:22
 element-copy-out-slot : tie.Need-element-copy-out-slot Inv-loop μ-loop
 element-copy-out-slot c = search needs
 
--- src/lib.rt:158:13
 slot-requires : tie.Need-slot-requires Inv-loop μ-loop
 slot-requires c κs = search needs
 
--- src/lib.rt:159:19
 cast-hint : tie.Need-cast-hint Inv-loop μ-loop
 cast-hint c = search needs
 
--- src/lib.rt:159:9
 element-write-hint : tie.Need-element-write-hint Inv-loop μ-loop
 element-write-hint c = search needs
 
--- src/lib.rt:157:9
 add-i : tie.Need-add-i Inv-loop μ-loop
 add-i c = search needs
 
--- src/lib.rt:157:5
 loop-less : tie.Need-loop-less Inv-loop μ-loop
 loop-less c = search needs
 
--- src/lib.rt:157:5
 loop-again : tie.Need-loop-again Inv-loop μ-loop
 loop-again c = search needs
 
--- src/lib.rt:156:1
 returns : tie.Need-returns Inv-loop μ-loop
 returns c = search needs
 

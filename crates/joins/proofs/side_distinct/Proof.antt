@@ -11,9 +11,6 @@ use Rattle.joins.specs.Joins.{item, Marked}
 use Rattle.joins.proofs.Numbers.{marked-none}
 use Rattle.joins.proofs.side_distinct.Statement.{statement}
 use Rattle.joins.proofs.side_distinct.Tie as tie
-use Rattle.joins.proofs.side_distinct.Reads as reads
-use Rattle.joins.proofs.side_distinct.Lts as lts
-use Rattle.joins.proofs.is_new.Reads as is-new-reads
 
 abbrev Inv-loop : tie.InvT-loop
 Inv-loop nums m mark₀ i₀ mark i = (i ≤ m) × ((every (newAt (item nums)) i ≡ true) × Marked (item nums) i mark)
@@ -21,33 +18,26 @@ Inv-loop nums m mark₀ i₀ mark i = (i ≤ m) × ((every (newAt (item nums)) i
 abbrev μ-loop : tie.MeasureT-loop
 μ-loop nums m mark₀ i₀ mark i = m - i
 
--- src/lib.rt:102:5
 loop-holds : tie.Need-loop-holds Inv-loop μ-loop
 unfolding every
 loop-holds c = (search needs, (refl, marked-none _))
 
--- src/lib.rt:103:13
 is-new-requires : tie.Need-is-new-requires Inv-loop μ-loop
 is-new-requires c κs = (search needs, c .before .before .loop .inv .1 .1)
 
--- src/lib.rt:104:13
 returns : tie.Need-returns Inv-loop μ-loop
 unfolding distinct
 returns c = sym (every-fails _ _ (c .before .before .before .before .loop .i) (search needs) (sym (c .before .is-new .ensures .0) ∙ not-true _ (c .if1 .taken)))
 
--- src/lib.rt:102:9
 add-i : tie.Need-add-i Inv-loop μ-loop
 add-i c = search needs
 
--- src/lib.rt:102:5
 loop-less : tie.Need-loop-less Inv-loop μ-loop
 loop-less c = search needs
 
--- src/lib.rt:102:5
 loop-again : tie.Need-loop-again Inv-loop μ-loop
 loop-again c = (search needs, (every-more _ _ (c .before .before .before .before .loop .inv .1 .0) (sym (c .before .is-new .ensures .0) ∙ not-false _ (c .if1 .left)), c .before .is-new .ensures .1))
 
--- src/lib.rt:97:1
 returns-2 : tie.Need-returns-2 Inv-loop μ-loop
 unfolding distinct
 returns-2 c = let e : c .before .loop .i ≡ c .before .before .args .m = omega arith in sym (rw e at (c .before .loop .inv .1 .0))

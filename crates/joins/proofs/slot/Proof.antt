@@ -3,14 +3,10 @@ use Rattle.joins.specs.Joins.{slotOf}
 use borrow.Author.Needs.{needs}
 use Rattle.joins.proofs.slot.Statement.{statement}
 use Rattle.joins.proofs.slot.Tie as tie
-use Rattle.joins.proofs.slot.Reads as reads
-use Rattle.joins.proofs.slot.Lts as lts
 
--- src/lib.rt:53:6
 mul-result : tie.Need-mul-result
 mul-result c = search needs
 
--- src/lib.rt:50:1
 returns : tie.Need-returns
 unfolding slotOf
 returns c = search needs
