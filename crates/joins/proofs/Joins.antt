@@ -16,8 +16,8 @@ use Rattle.lent.specs.Bytes.{le32}
 use Rattle.lent.specs.Tables.{if_then_else_, every}
 use Rattle.lent.proofs.Choices.{and-yes, clash}
 use Rattle.lent.proofs.Walks.{all-every, every-all, every-fails}
-use Rattle.machine.specs.Sizes.{keyCount, keysFrom, keyWidth, sessionCount, sessionsFrom, sessionWidth}
-use Rattle.joins.specs.Joins.{numbers, rowSession, rowKey, rowKind, isLive, pairOk, joinOk, item, Gathered, placeOf, mayShare, On, Seen, Joined}
+use Rattle.machine.specs.Sizes.{keyCount, keysFrom, keyWidth, sessionCount}
+use Rattle.joins.specs.Joins.{rowSession, rowKey, rowKind, isLive, pairOk, joinOk, item, placeOf, pairBit, Noted, mayShare, On, Seen, Ready, Joined}
 use Rattle.joins.proofs.Lookup.{Stands, place-dead, place-live}
 use Rattle.joins.proofs.Numbers.{last-or, same-or, item-zeros}
 
@@ -79,13 +79,17 @@ seen-none s place bit f = record {
   left = λ k q e. clash (bit k q) e (f k q);
 }
 
-module _ (s nums hint : List ℕ) (g : Gathered (numbers s sessionsFrom sessionWidth) sessionCount nums) (i : ℕ) (seen : List ℕ) (bit : ℕ → ℕ → Bool) (h : Seen s (placeOf nums hint) i seen bit) where
+module _ {s nums hint seen near far : List ℕ} {i : ℕ} (y : Ready s i nums hint seen near far) where
   abbrev P : ℕ → ℕ
   P = placeOf nums hint
+
+  abbrev bit : ℕ → ℕ → Bool
+  bit = pairBit near far
 
   -- a free row
   seen-skip : rowSession s i ≡ 0 → Seen s P (i + 1) seen bit
   seen-skip e =
+      let h = y .rows in
       let past : (k j : ℕ) → On s (i + 1) k j → On s i k j = λ k j o. ⊎-elim (λ q. absurd (o .used (ap (rowSession s) q ∙ e))) (λ b. b) (on-last o) in
       record {
         wide = h .wide;
@@ -96,125 +100,127 @@ module _ (s nums hint : List ℕ) (g : Gathered (numbers s sessionsFrom sessionW
         left = λ k q u. let w = h .left k q u in (w .0, on-more (w .1), w .2);
       }
 
-  pub join-free : rowSession s i ≡ 0 → Joined s P i true seen bit
+  pub join-free : rowSession s i ≡ 0 → Joined s i true nums hint seen near far
   unfolding joinOk
-  join-free e = record { is = rw (eq-eqb (rowSession s i) 0 e); next = λ r. seen-skip e }
+  join-free e = record {
+    is = rw (eq-eqb (rowSession s i) 0 e);
+    next = λ r. record { gathered = y .gathered; sized = y .sized; rows = seen-skip e };
+  }
 
-  -- a row that is refused
-  pub refused : joinOk s i ≡ false → Joined s P i false seen bit
-  refused e = record { is = sym e; next = λ r. clash false r refl }
-
-  -- row i of session n on key k, of kind d - 1, its session's place p - 1
-  module _ (n k d p : ℕ) (isn : n ≡ rowSession s i) (isk : k ≡ rowKey s i) (isd : d ≡ rowKind s i + 1) (isp : p ≡ P n) (used : n ≡ 0 → ⊥) where
-    abbrev pairs : ℕ → Bool
-    pairs = pairOk s n k (rowKind s i)
-
-    -- a row before it on the key, and not both of kind 1
-    not-both : (item seen k ≡ 0 → ⊥) → (item seen k ≡ 2 → d ≡ 2 → ⊥) → every pairs i ≡ false
-    not-both z x =
-        let w = h .found k z in
-        let j : ℕ = w .0 in
-        let kd : item seen k ≡ rowKind s j + 1 = h .kinds k j (w .1) in
-        let no : eqb (rowKind s j) 1 && eqb (rowKind s i) 1 ≡ false = ⊎-elim
-        (λ a. rw (eq-eqb (rowKind s j) 1 a) (ne-eqb (rowKind s i) 1 (λ b. x (omega (arith, kd, a)) (omega (arith, isd, b)))))
-        (λ a. rw (ne-eqb (rowKind s j) 1 a))
-        (same-or (rowKind s j) 1) in
-        every-fails pairs i j (w .1 .before) (pair-on s n k (rowKind s i) j i (w .1) ∙ rw no (and-false (not (eqb (rowSession s j) n))))
-
-    module _ (live : p ≡ 0 → ⊥) where
-      stands : Stands s nums n p
-      stands = rw isp (place-live s nums hint g n used (λ e. live (isp ∙ e)))
-
-      pub place-low : p - 1 < sessionCount
-      place-low = stands .low
-
-      -- the mark is that of a row of the session on the key
-      twice : bit k (p - 1) ≡ true → every pairs i ≡ false
-      twice e =
-          let w = h .left k (p - 1) e in
-          let j : ℕ = w .0 in
-          let y = place-live s nums hint g (rowSession s j) (w .1 .used) (h .placed k j (w .1)) .here in
-          let o : rowSession s j ≡ n = sym y ∙ (ap (item nums) (w .2) ∙ stands .here) in
-          every-fails pairs i j (w .1 .before) (pair-on s n k (rowKind s i) j i (w .1) ∙ rw (eq-eqb (rowSession s j) n o))
-
-      new : bit k (p - 1) ≡ false → (j : ℕ) → On s i k j → rowSession s j ≡ n → ⊥
-      new z j o e =
-          let pq : P (rowSession s j) ≡ p = ap P e ∙ sym isp in
-          clash (bit k (p - 1)) (rw pq at (h .marks k j o)) z
-
-      -- all rows on the key are of kind 1
-      all-read : (t : Bool) → bit k (p - 1) ≡ t → item seen k ≡ 2 → d ≡ 2 → not t ≡ every pairs i
-      all-read true m e x = sym (twice m)
-      all-read false m e x = sym (all-every pairs i (λ j l. pair-if s n k (rowKind s i) j i l (λ o. (new m j o, omega (arith, e, h .kinds k j o), omega (arith, isd, x)))))
-
-      told-is : mayShare (item seen k) d (bit k (p - 1)) ≡ every pairs i
-      told-is =
-          ⊎-elim
-          (λ e. rw (eq-eqb (item seen k) 0 e) (sym (all-every pairs i (λ j l. pair-if s n k (rowKind s i) j i l (λ o. absurd (omega (arith, e, h .kinds k j o)))))))
-          (λ z. ⊎-elim
-          (λ e. ⊎-elim
-          (λ x. rw (ne-eqb (item seen k) 0 z, eq-eqb (item seen k) 2 e, eq-eqb d 2 x) (all-read (bit k (p - 1)) refl e x))
-          (λ x. rw (ne-eqb (item seen k) 0 z, eq-eqb (item seen k) 2 e, ne-eqb d 2 x) (sym (not-both z (λ a b. x b))))
-          (same-or d 2))
-          (λ e. rw (ne-eqb (item seen k) 0 z, ne-eqb (item seen k) 2 e) (sym (not-both z (λ a b. e a))))
-          (same-or (item seen k) 2))
-          (same-or (item seen k) 0)
-
-      module _ (bit′ : ℕ → ℕ → Bool) (marked : (a v : ℕ) → bit′ a v ≡ (bit a v || (eqb a k && eqb v (p - 1)))) where
-        here : On s (i + 1) k i
-        here = record { before = omega arith; used = λ z. used (isn ∙ z); key = sym isk }
-
-        seen-next : k < keyCount → every pairs i ≡ true → Seen s P (i + 1) (set seen k d) bit′
-        seen-next b all =
-            let c : k < length seen = omega (arith, h .wide) in
-            let same : item (set seen k d) k ≡ d = getD-set-same seen k d 0 c in
-            let mine : P (rowSession s i) ≡ p = ap P (sym isn) ∙ sym isp in
-            record {
-              wide = length-set seen k d ∙ h .wide;
-              kinds = λ y j o. ⊎-elim
-                  (λ e. let x : y ≡ k = sym (o .key) ∙ (ap (rowKey s) e ∙ sym isk) in rw (x, e) (same ∙ isd))
-                  (λ w. ⊎-elim
-                  (λ e. let z = pair-kinds s n k (rowKind s i) j i (rw e at w) (every-all pairs i j all (w .before)) in rw e (same ∙ omega (arith, isd, z .0, z .1)))
-                  (λ e. getD-set-other seen k y d 0 e ∙ h .kinds y j w)
-                  (same-or y k))
-                  (on-last o);
-              found = λ y u. ⊎-elim
-                  (λ e. (i, rw e here))
-                  (λ e. let w = h .found y (λ z. u (getD-set-other seen k y d 0 e ∙ z)) in (w .0, on-more (w .1)))
-                  (same-or y k);
-              placed = λ y j o. ⊎-elim (λ e z. live (sym mine ∙ (ap (λ (x : ℕ). P (rowSession s x)) (sym e) ∙ z))) (λ w. h .placed y j w) (on-last o);
-              marks = λ y j o. ⊎-elim
-                  (λ e. let x : y ≡ k = sym (o .key) ∙ (ap (rowKey s) e ∙ sym isk) in
-                  rw (x, e, mine) (marked k (p - 1) ∙ rw (eq-eqb k k refl, eq-eqb (p - 1) (p - 1) refl) (or-true (bit k (p - 1)))))
-                  (λ w. marked y (P (rowSession s j) - 1) ∙ rw (h .marks y j w))
-                  (on-last o);
-              left = λ y v e. ⊎-elim
-                  (λ z. let w = h .left y v z in (w .0, on-more (w .1), w .2))
-                  (λ z. let a = and-yes (eqb y k) (eqb v (p - 1)) z in
-                  (i, rw (eqb-true y k (a .0)) here, ap (λ (x : ℕ). x - 1) mine ∙ sym (eqb-true v (p - 1) (a .1))))
-                  (or-cases (bit y v) (eqb y k && eqb v (p - 1)) (sym (marked y v) ∙ e));
-            }
-
-    -- ---- by the returns of the code
-
+  -- row i of session n on key k
+  module _ {n k : ℕ} (isn : n ≡ rowSession s i) (isk : k ≡ rowKey s i) (used : n ≡ 0 → ⊥) where
     abbrev token : ℕ
     token = le32 s (keysFrom + k * keyWidth + 4)
+
+    abbrev pairs : ℕ → Bool
+    pairs = pairOk s n k (rowKind s i)
 
     join-is : joinOk s i ≡ (if eqb token 0 then if isLive s n then every pairs i else false else false)
     unfolding joinOk
     join-is = rw (isk, isn, ne-eqb (rowSession s i) 0 (λ e. used (isn ∙ e)))
 
-    pub join-leased : (token ≡ 0 → ⊥) → joinOk s i ≡ false
-    join-leased e = join-is ∙ rw (ne-eqb token 0 e)
+    refused : {seen′ near′ far′ : List ℕ} → joinOk s i ≡ false → Joined s i false nums hint seen′ near′ far′
+    refused e = record { is = sym e; next = λ r. clash false r refl }
 
-    pub join-dead : token ≡ 0 → p ≡ 0 → joinOk s i ≡ false
-    join-dead e l = join-is ∙ rw (eq-eqb token 0 e, place-dead s nums hint g n used (sym isp ∙ l))
+    pub join-leased : (token ≡ 0 → ⊥) → Joined s i false nums hint seen near far
+    join-leased e = refused (join-is ∙ rw (ne-eqb token 0 e))
 
-    pub joined : k < keyCount → token ≡ 0 → (l : p ≡ 0 → ⊥) (bit′ : ℕ → ℕ → Bool) → ((a v : ℕ) → bit′ a v ≡ (bit a v || (eqb a k && eqb v (p - 1))))
-        → (r : Bool) → r ≡ mayShare (item seen k) d (bit k (p - 1)) → Joined s P i r (set seen k d) bit′
-    joined b e l bit′ m r t =
-        let all : r ≡ every pairs i = t ∙ told-is l in
-        record {
-          is = all ∙ sym (join-is ∙ rw (eq-eqb token 0 e, stands l .live));
-          next = λ y. seen-next l bit′ m b (sym all ∙ y);
-        }
+    module _ {p : ℕ} (isp : p ≡ P n) (free : token ≡ 0) where
+      pub join-dead : p ≡ 0 → Joined s i false nums hint seen near far
+      join-dead l = refused (join-is ∙ rw (eq-eqb token 0 free, place-dead s nums hint (y .gathered) n used (sym isp ∙ l)))
+
+      module _ (live : p ≡ 0 → ⊥) where
+        stands : Stands s nums n p
+        stands = rw isp (place-live s nums hint (y .gathered) n used (λ e. live (isp ∙ e)))
+
+        pub place-low : p - 1 < sessionCount
+        place-low = stands .low
+
+        -- of kind d - 1
+        module _ {d : ℕ} (isd : d ≡ rowKind s i + 1) where
+          -- a row before it on the key, and not both of kind 1
+          not-both : (item seen k ≡ 0 → ⊥) → (item seen k ≡ 2 → d ≡ 2 → ⊥) → every pairs i ≡ false
+          not-both z x =
+              let w = y .rows .found k z in
+              let j : ℕ = w .0 in
+              let kd : item seen k ≡ rowKind s j + 1 = y .rows .kinds k j (w .1) in
+              let no : eqb (rowKind s j) 1 && eqb (rowKind s i) 1 ≡ false = ⊎-elim
+              (λ a. rw (eq-eqb (rowKind s j) 1 a) (ne-eqb (rowKind s i) 1 (λ b. x (omega (arith, kd, a)) (omega (arith, isd, b)))))
+              (λ a. rw (ne-eqb (rowKind s j) 1 a))
+              (same-or (rowKind s j) 1) in
+              every-fails pairs i j (w .1 .before) (pair-on s n k (rowKind s i) j i (w .1) ∙ rw no (and-false (not (eqb (rowSession s j) n))))
+
+          -- the mark is that of a row of the session on the key
+          twice : bit k (p - 1) ≡ true → every pairs i ≡ false
+          twice e =
+              let w = y .rows .left k (p - 1) e in
+              let j : ℕ = w .0 in
+              let v = place-live s nums hint (y .gathered) (rowSession s j) (w .1 .used) (y .rows .placed k j (w .1)) .here in
+              let o : rowSession s j ≡ n = sym v ∙ (ap (item nums) (w .2) ∙ stands .here) in
+              every-fails pairs i j (w .1 .before) (pair-on s n k (rowKind s i) j i (w .1) ∙ rw (eq-eqb (rowSession s j) n o))
+
+          new : bit k (p - 1) ≡ false → (j : ℕ) → On s i k j → rowSession s j ≡ n → ⊥
+          new z j o e =
+              let pq : P (rowSession s j) ≡ p = ap P e ∙ sym isp in
+              clash (bit k (p - 1)) (rw pq at (y .rows .marks k j o)) z
+
+          -- all rows on the key are of kind 1
+          all-read : (t : Bool) → bit k (p - 1) ≡ t → item seen k ≡ 2 → d ≡ 2 → not t ≡ every pairs i
+          all-read true m e x = sym (twice m)
+          all-read false m e x = sym (all-every pairs i (λ j l. pair-if s n k (rowKind s i) j i l (λ o. (new m j o, omega (arith, e, y .rows .kinds k j o), omega (arith, isd, x)))))
+
+          share-is : mayShare (item seen k) d (bit k (p - 1)) ≡ every pairs i
+          share-is =
+              ⊎-elim
+              (λ e. rw (eq-eqb (item seen k) 0 e) (sym (all-every pairs i (λ j l. pair-if s n k (rowKind s i) j i l (λ o. absurd (omega (arith, e, y .rows .kinds k j o)))))))
+              (λ z. ⊎-elim
+              (λ e. ⊎-elim
+              (λ x. rw (ne-eqb (item seen k) 0 z, eq-eqb (item seen k) 2 e, eq-eqb d 2 x) (all-read (bit k (p - 1)) refl e x))
+              (λ x. rw (ne-eqb (item seen k) 0 z, eq-eqb (item seen k) 2 e, ne-eqb d 2 x) (sym (not-both z (λ a b. x b))))
+              (same-or d 2))
+              (λ e. rw (ne-eqb (item seen k) 0 z, ne-eqb (item seen k) 2 e) (sym (not-both z (λ a b. e a))))
+              (same-or (item seen k) 2))
+              (same-or (item seen k) 0)
+
+          here : On s (i + 1) k i
+          here = record { before = omega arith; used = λ z. used (isn ∙ z); key = sym isk }
+
+          seen-next : k < keyCount → every pairs i ≡ true → {m : Bool} {near′ far′ : List ℕ} → Noted near far k (p - 1) m near′ far′ → Seen s P (i + 1) (set seen k d) (pairBit near′ far′)
+          seen-next b all note =
+              let h = y .rows in
+              let c : k < length seen = omega (arith, h .wide) in
+              let same : item (set seen k d) k ≡ d = getD-set-same seen k d 0 c in
+              let mine : P (rowSession s i) ≡ p = ap P (sym isn) ∙ sym isp in
+              record {
+                wide = length-set seen k d ∙ h .wide;
+                kinds = λ v j o. ⊎-elim
+                    (λ e. let x : v ≡ k = sym (o .key) ∙ (ap (rowKey s) e ∙ sym isk) in rw (x, e) (same ∙ isd))
+                    (λ w. ⊎-elim
+                    (λ e. let z = pair-kinds s n k (rowKind s i) j i (rw e at w) (every-all pairs i j all (w .before)) in rw e (same ∙ omega (arith, isd, z .0, z .1)))
+                    (λ e. getD-set-other seen k v d 0 e ∙ h .kinds v j w)
+                    (same-or v k))
+                    (on-last o);
+                found = λ v u. ⊎-elim
+                    (λ e. (i, rw e here))
+                    (λ e. let w = h .found v (λ z. u (getD-set-other seen k v d 0 e ∙ z)) in (w .0, on-more (w .1)))
+                    (same-or v k);
+                placed = λ v j o. ⊎-elim (λ e z. live (sym mine ∙ (ap (λ (x : ℕ). P (rowSession s x)) (sym e) ∙ z))) (λ w. h .placed v j w) (on-last o);
+                marks = λ v j o. ⊎-elim
+                    (λ e. let x : v ≡ k = sym (o .key) ∙ (ap (rowKey s) e ∙ sym isk) in
+                    rw (x, e, mine) (note .bits k (p - 1) ∙ rw (eq-eqb k k refl, eq-eqb (p - 1) (p - 1) refl) (or-true (bit k (p - 1)))))
+                    (λ w. note .bits v (P (rowSession s j) - 1) ∙ rw (h .marks v j w))
+                    (on-last o);
+                left = λ v q e. ⊎-elim
+                    (λ z. let w = h .left v q z in (w .0, on-more (w .1), w .2))
+                    (λ z. let a = and-yes (eqb v k) (eqb q (p - 1)) z in
+                    (i, rw (eqb-true v k (a .0)) here, ap (λ (x : ℕ). x - 1) mine ∙ sym (eqb-true q (p - 1) (a .1))))
+                    (or-cases (bit v q) (eqb v k && eqb q (p - 1)) (sym (note .bits v q) ∙ e));
+              }
+
+          pub join-shared : k < keyCount → {r m : Bool} {near′ far′ : List ℕ} → Noted near far k (p - 1) m near′ far′ → r ≡ mayShare (item seen k) d m → Joined s i r nums hint (set seen k d) near′ far′
+          join-shared b {r} note t =
+              let all : r ≡ every pairs i = t ∙ (ap (mayShare (item seen k) d) (note .is) ∙ share-is) in
+              record {
+                is = all ∙ sym (join-is ∙ rw (eq-eqb token 0 free, stands .live));
+                next = λ e. record { gathered = y .gathered; sized = note .sized; rows = seen-next b (sym all ∙ e) note };
+              }

@@ -55,6 +55,7 @@ side = 256
 abbrev pub slots : ℕ
 slots = 2048
 
+-- the number at place j
 abbrev pub item : List ℕ → ℕ → ℕ
 item nums j = getD nums j 0
 
@@ -64,13 +65,14 @@ pub record Gathered (f : ℕ → ℕ) (m : ℕ) (nums : List ℕ) : Type 0 where
   pub is : (j : ℕ) → j < m → item nums j ≡ f j
   pub rest : (j : ℕ) → m ≤ j → item nums j ≡ 0
 
+-- the 11 high bits of the 32 low ones of the product with 2^32 over the golden ratio
 unfoldable pub slotOf : ℕ → ℕ
 slotOf n = n * 2654435769 % 4294967296 / 2097152
 
 -- each number before i that is not 0 has left a mark in its slot
 pub record Marked (f : ℕ → ℕ) (i : ℕ) (mark : List ℕ) : Type 0 where
   pub long : length mark ≡ slots
-  pub left : (j : ℕ) → j < i → (f j ≡ 0 → ⊥) → getD mark (slotOf (f j)) 0 ≡ 0 → ⊥
+  pub left : (j : ℕ) → j < i → (f j ≡ 0 → ⊥) → item mark (slotOf (f j)) ≡ 0 → ⊥
 
 -- the places below m at which n stands, each plus 1, joined bit by bit
 unfoldable pub joinedPlaces : List ℕ → ℕ → ℕ → ℕ
@@ -100,7 +102,7 @@ placeOf nums hint n = if eqb (item nums (item hint (slotOf n))) n then item hint
 
 -- One pass over the rows
 
--- the mark of key k and session place q
+-- the mark of key k and session place q: bit q of the key's word in `near`, or bit q - 64 of that in `far`
 abbrev pub pairBit : List ℕ → List ℕ → ℕ → ℕ → Bool
 pairBit near far k q = if ltb q 64 then hasBit (item near k) q else hasBit (item far k) (q - 64)
 
@@ -115,9 +117,12 @@ pub record Noted (near far : List ℕ) (k q : ℕ) (r : Bool) (near′ far′ : 
   pub is : r ≡ pairBit near far k q
   pub bits : (a v : ℕ) → pairBit near′ far′ a v ≡ (pairBit near far a v || (eqb a k && eqb v q))
 
--- what is told of the rows before by the kind seen on the key, plus 1, and by the mark
+-- a row of kind d - 1 may stand on a key on which the kind `seen - 1` was seen, or none if that is 0: both are of kind 1, and the session has no mark there
 abbrev pub mayShare : ℕ → ℕ → Bool → Bool
-mayShare seen d marked = if eqb seen 0 then true else if eqb seen 2 then (if eqb d 2 then not marked else false) else false
+mayShare seen d marked =
+    if eqb seen 0 then true
+    else if eqb seen 2 then (if eqb d 2 then not marked else false)
+    else false
 
 -- row j is before row i, used, and on key k
 pub record On (s : List ℕ) (i k j : ℕ) : Type 0 where
@@ -134,6 +139,13 @@ pub record Seen (s : List ℕ) (P : ℕ → ℕ) (i : ℕ) (seen : List ℕ) (bi
   pub marks : (k j : ℕ) → On s i k j → bit k (P (rowSession s j) - 1) ≡ true
   pub left : (k q : ℕ) → bit k q ≡ true → (j : ℕ) × On s i k j × (P (rowSession s j) - 1 ≡ q)
 
-pub record Joined (s : List ℕ) (P : ℕ → ℕ) (i : ℕ) (r : Bool) (seen : List ℕ) (bit : ℕ → ℕ → Bool) : Type 0 where
+-- all that the pass knows at row i
+pub record Ready (s : List ℕ) (i : ℕ) (nums hint seen near far : List ℕ) : Type 0 where
+  pub gathered : Gathered (numbers s sessionsFrom sessionWidth) sessionCount nums
+  pub sized : Sized near far
+  pub rows : Seen s (placeOf nums hint) i seen (pairBit near far)
+
+-- r says of row i what is to be said, and if it is true the pass goes on
+pub record Joined (s : List ℕ) (i : ℕ) (r : Bool) (nums hint seen near far : List ℕ) : Type 0 where
   pub is : r ≡ joinOk s i
-  pub next : r ≡ true → Seen s P (i + 1) seen bit
+  pub next : r ≡ true → Ready s (i + 1) nums hint seen near far
