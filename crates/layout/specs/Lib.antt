@@ -1,2 +1,5 @@
 pub mod Layout
 pub mod WellFormed
+pub mod Fields
+pub mod Holds
+pub mod Search

@@ -1,7 +1,7 @@
 pub mod Bits
 pub mod Choices
+pub mod Equal
 pub mod Numbers
-pub mod Same
 pub mod Splice
 pub mod Stores
 pub mod Tables

@@ -1,17 +1,20 @@
 -- Numbers in bytes: the bytes of a number say it, and bytes are those of the number that they say. Both hold for any number of bytes by
 -- induction, with `digits` and `number`; the widths of `specs/` are two and four digits, and two halves of four.
 -- Assumes nothing.
-use mathlib.Core.Path.{_≡_, refl, sym, ap, ap₂, _∙_}
+use mathlib.Core.Path.{_≡_, refl, sym, ap₂, _∙_}
+use mathlib.Core.Bool.{_&&_}
 use mathlib.Core.List.{List, [], _∷_, _++_}
 use Prim.Native.Nat.{ℕ, zero, suc, _+_, _*_, _/_, _%_, _^_, _≤_, _<_}
-use native.Mathlib.Nat.{add-assoc, div-add-mod', div-div-eq-div-mul, div-lt-iff-lt-mul, pow-suc}
-use native.Mathlib.Numerals.{add-one}
+use native.Mathlib.Nat.{add-assoc, div-add-mod', div-div-eq-div-mul, div-lt-iff-lt-mul, pow-suc, suc-add, suc-mul}
 use native.Mathlib.Omega.{arith}
 use lib.Arith.{digits-div, digits-mod}
-use lib.ListN.{length, getD, drop}
-use lib.Seq.{drop-cons}
+use lib.Dec.{eqb, eqb·suc-zero}
+use lib.ListN.{length, getD}
+use borrow.Author.Tests.{eq-eqb, ne-eqb}
 use Rattle.lent.specs.Bytes.{Bytes, le16, bytes16, le32, bytes32, le64, bytes64, win}
+use Rattle.lent.specs.Tables.{allZero}
 use Rattle.lent.proofs.Splice.{bytes-win, getD-win, length-win, win-add, win-cons, win-none}
+use Rattle.lent.proofs.Zeros.{zero-append}
 
 -- the n low bytes of v, and the number that bytes say
 abbrev digits : ℕ → ℕ → List ℕ
@@ -62,6 +65,19 @@ le32-win s a n i h =
 pub le64-win : (s : List ℕ) (a n i : ℕ) → i + 8 ≤ n → le64 (win s a n) i ≡ le64 s (a + i)
 le64-win s a n i h = rw (le32-win s a n i (omega arith), le32-win s a n (i + 4) (omega arith)) (simp add-assoc)
 
+-- ---- the number that a window says
+
+number-win : (s : List ℕ) (n a : ℕ) → a < length s → number (win s a (suc n)) ≡ getD s a 0 + number (win s (a + 1) n) * 256
+number-win s n a h = rw (win-cons s a n h)
+
+number-le16 : (s : List ℕ) (a : ℕ) → a + 2 ≤ length s → number (win s a 2) ≡ le16 s a
+number-le16 s a h = rw (number-win s 1 a (omega arith), number-win s 0 (a + 1) (omega arith), win-none) (omega arith)
+
+number-le32 : (s : List ℕ) (a : ℕ) → a + 4 ≤ length s → number (win s a 4) ≡ le32 s a
+number-le32 s a h =
+    rw (number-win s 3 a (omega arith), number-win s 2 (a + 1) (omega arith), number-win s 1 (a + 1 + 1) (omega arith), number-win s 0 (a + 1 + 1 + 1) (omega arith), win-none)
+    (simp add-assoc (omega arith))
+
 -- ---- bytes are those of the number that they say
 
 module _ (s : List ℕ) (f : Bytes s) where
@@ -74,22 +90,14 @@ module _ (s : List ℕ) (f : Bytes s) where
   pub le64-small : (a : ℕ) → le64 s a < 18446744073709551616
   le64-small a = omega (arith, le32-small a, le32-small (a + 4))
 
-  number-win : (n a : ℕ) → a < length s → number (win s a (suc n)) ≡ getD s a 0 + number (win s (a + 1) n) * 256
-  number-win n a h = rw (win-cons s a n h)
-
   bytes-le : (n a v : ℕ) → a + n ≤ length s → number (win s a n) ≡ v → digits n v ≡ win s a n
   bytes-le n a v h e = rw (length-win s a n h, e) at (digits-number (win s a n) (bytes-win s a n h f))
 
   pub bytes-le16 : (a : ℕ) → a + 2 ≤ length s → bytes16 (le16 s a) ≡ win s a 2
-  bytes-le16 a h =
-      bytes-le 2 a (le16 s a) h (rw (number-win 1 a (omega arith), number-win 0 (a + 1) (omega arith), win-none) (omega arith))
+  bytes-le16 a h = bytes-le 2 a (le16 s a) h (number-le16 s a h)
 
   pub bytes-le32 : (a : ℕ) → a + 4 ≤ length s → bytes32 (le32 s a) ≡ win s a 4
-  bytes-le32 a h =
-      bytes32-digits (le32 s a)
-      ∙ bytes-le 4 a (le32 s a) h
-      (rw (number-win 3 a (omega arith), number-win 2 (a + 1) (omega arith), number-win 1 (a + 1 + 1) (omega arith), number-win 0 (a + 1 + 1 + 1) (omega arith), win-none)
-      (simp add-assoc (omega arith)))
+  bytes-le32 a h = bytes32-digits (le32 s a) ∙ bytes-le 4 a (le32 s a) h (number-le32 s a h)
 
   pub bytes-le64 : (a : ℕ) → a + 8 ≤ length s → bytes64 (le64 s a) ≡ win s a 8
   bytes-le64 a h =
@@ -98,3 +106,26 @@ module _ (s : List ℕ) (f : Bytes s) where
       let high : le64 s a / 4294967296 ≡ le32 s (a + 4) = rw e (digits-div (le32 s (a + 4)) (le32-small a)) in
       ap₂ (λ (u v : ℕ). bytes32 u ++ bytes32 v) low high
       ∙ rw (win-add s a 4 4) (ap₂ _++_ (bytes-le32 a (omega arith)) (bytes-le32 (a + 4) (omega arith)))
+
+-- ---- bytes that say 0 are 0
+
+eqb-sum : (a m k : ℕ) → 0 < k → eqb (a + m * k) 0 ≡ eqb a 0 && eqb m 0
+eqb-sum zero zero k h = eq-eqb (0 + 0 * k) 0 (omega arith)
+eqb-sum zero (suc m) k h = ne-eqb (0 + suc m * k) 0 (λ e. omega (arith, suc-mul m k)) ∙ sym (eqb·suc-zero m)
+eqb-sum (suc a) m k h = rw (suc-add, eqb·suc-zero, eqb·suc-zero)
+
+zero-number : (l : List ℕ) → allZero l ≡ eqb (number l) 0
+unfolding allZero
+zero-number [] = refl
+zero-number (b ∷ l) = rw (zero-number l) (sym (eqb-sum b (number l) 256 (omega arith)))
+
+pub zero-le16 : (s : List ℕ) (a : ℕ) → a + 2 ≤ length s → allZero (win s a 2) ≡ eqb (le16 s a) 0
+zero-le16 s a h = zero-number (win s a 2) ∙ rw (number-le16 s a h)
+
+pub zero-le32 : (s : List ℕ) (a : ℕ) → a + 4 ≤ length s → allZero (win s a 4) ≡ eqb (le32 s a) 0
+zero-le32 s a h = zero-number (win s a 4) ∙ rw (number-le32 s a h)
+
+pub zero-le64 : (s : List ℕ) (a : ℕ) → a + 8 ≤ length s → allZero (win s a 8) ≡ eqb (le64 s a) 0
+zero-le64 s a h =
+    rw (win-add s a 4 4, zero-append, zero-le32 s a (omega arith), zero-le32 s (a + 4) (omega arith))
+    (sym (eqb-sum (le32 s a) (le32 s (a + 4)) 4294967296 (omega arith)))

@@ -2,22 +2,26 @@
 -- by the first record, behind which the rest of the table lies w bytes further.
 -- Assumes nothing.
 use mathlib.Core.Path.{_≡_, refl, sym, ap, _∙_}
-use mathlib.Core.Bool.{Bool, true, false, _&&_, and-assoc}
+use mathlib.Core.Bool.{Bool, _&&_, and-assoc}
 use mathlib.Core.List.{List, [], _∷_, _++_, append-assoc}
 use Prim.Native.Nat.{ℕ, zero, suc, _+_, _*_, _≤_, _<_}
 use native.Mathlib.Nat.{le-of-suc-le-suc, mul-le-mul-right, not-suc-le-zero, suc-mul, zero-add, zero-mul}
 use native.Mathlib.Omega.{arith}
-use lib.ListN.{length, getD, set, take, drop, length-append, length-drop, take-append-drop}
+use lib.ListN.{length, getD, set, take, drop, replicate, length-append, length-drop, replicate-append-replicate, take-append-drop}
 use lib.Seq.{drop-at, drop-drop, length-take-le, take-at}
-use Rattle.lent.specs.Bytes.{splice, win}
+use Rattle.lent.specs.Bytes.{splice, win, zeros}
 use Rattle.lent.specs.Tables.{Each, every, readTab, same, tabOf}
-use Rattle.lent.proofs.Same.{same-split}
-use Rattle.lent.proofs.Splice.{splice-append, win-append}
-use Rattle.lent.proofs.Walks.{every-front}
+use Rattle.lent.proofs.Equal.{same-split}
+use Rattle.lent.proofs.Splice.{splice-append, win-append, win-drop}
+use Rattle.lent.proofs.Walks.{every-cong, every-front, every-none}
 
 -- record i of n lies within the table
 pub place-fits : (i n w : ℕ) → i < n → i * w + w ≤ n * w
 place-fits i n w h = let p : suc i * w ≤ n * w = mul-le-mul-right w h in omega (arith, suc-mul i w)
+
+-- record i + 1 lies w bytes behind record i
+place-next : (i w : ℕ) → suc i * w ≡ w + i * w
+place-next i w = omega arith
 
 -- ---- a fact of each record
 
@@ -44,6 +48,11 @@ module _ {A : Type 0} (P : A → Type 0) where
   each-map Q [] f e = tt
   each-map Q (x ∷ xs) f e = (f x (e .0), each-map Q xs f (e .1))
 
+  pub each-same : (n : ℕ) (x : A) → P x → Each P (replicate n x)
+  unfolding Each
+  each-same zero x p = tt
+  each-same (suc n) x p = (p, each-same n x p)
+
 -- ---- records to bytes
 
 module _ {A : Type 0} (enc : A → List ℕ) (w : ℕ) where
@@ -61,16 +70,25 @@ module _ {A : Type 0} (enc : A → List ℕ) (w : ℕ) where
   win-tab [] q d i e h = absurd (not-suc-le-zero h)
   win-tab (x ∷ xs) q d zero e h = rw (zero-mul, append-assoc, take-at (enc x) _ w (e .0))
   win-tab (x ∷ xs) q d (suc i) e h =
-      let p : suc i * w ≡ w + i * w = omega arith in
-      rw (append-assoc, p) (win-append (enc x) (tabOf enc xs ++ q) w (i * w) w (e .0) ∙ win-tab xs q d i (e .1) (le-of-suc-le-suc h))
+      rw (append-assoc, place-next i w) (win-append (enc x) (tabOf enc xs ++ q) w (i * w) w (e .0) ∙ win-tab xs q d i (e .1) (le-of-suc-le-suc h))
 
   pub put-tab : (xs : List A) (q : List ℕ) (y : A) (i : ℕ) → Wide xs → length (enc y) ≡ w → i < length xs → splice (tabOf enc xs ++ q) (i * w) (enc y) ≡ tabOf enc (set xs i y) ++ q
   unfolding tabOf Each splice
   put-tab [] q y i e l h = absurd (not-suc-le-zero h)
   put-tab (x ∷ xs) q y zero e l h = rw (zero-mul, l, zero-add, append-assoc, drop-at (enc x) _ w (e .0), append-assoc)
   put-tab (x ∷ xs) q y (suc i) e l h =
-      let p : suc i * w ≡ w + i * w = omega arith in
-      rw (append-assoc, p, append-assoc) (splice-append (enc x) (tabOf enc xs ++ q) (enc y) w (i * w) (e .0) ∙ ap (λ (r : List ℕ). enc x ++ r) (put-tab xs q y i (e .1) l (le-of-suc-le-suc h)))
+      rw (append-assoc, place-next i w, append-assoc) (splice-append (enc x) (tabOf enc xs ++ q) (enc y) w (i * w) (e .0) ∙ ap (λ (r : List ℕ). enc x ++ r) (put-tab xs q y i (e .1) l (le-of-suc-le-suc h)))
+
+  pub tab-append : (xs ys : List A) → tabOf enc (xs ++ ys) ≡ tabOf enc xs ++ tabOf enc ys
+  unfolding tabOf
+  tab-append [] ys = refl
+  tab-append (x ∷ xs) ys = rw (tab-append xs ys, append-assoc)
+
+  -- records that are all zeros
+  pub tab-zeros : (n : ℕ) (x : A) → enc x ≡ zeros w → tabOf enc (replicate n x) ≡ zeros (n * w)
+  unfolding tabOf
+  tab-zeros zero x e = rw zero-mul
+  tab-zeros (suc n) x e = rw (e, tab-zeros n x e, replicate-append-replicate, place-next n w)
 
   -- behind a front p of n bytes
   module _ (p : List ℕ) (n : ℕ) (f : length p ≡ n) (xs : List A) (q : List ℕ) (e : Wide xs) where
@@ -92,28 +110,49 @@ module _ {A : Type 0} (dec : List ℕ → A) (w : ℕ) where
   unfolding readTab win
   read-at zero l d i h = absurd (not-suc-le-zero h)
   read-at (suc n) l d zero h = rw zero-mul
-  read-at (suc n) l d (suc i) h =
-      let q : w + i * w ≡ suc i * w = omega arith in
-      read-at n (drop w l) d i (le-of-suc-le-suc h) ∙ rw (drop-drop (i * w) w l, q)
+  read-at (suc n) l d (suc i) h = read-at n (drop w l) d i (le-of-suc-le-suc h) ∙ rw (drop-drop (i * w) w l, place-next i w)
+
+  -- behind the first a bytes
+  pub read-tab-at : (n : ℕ) (s : List ℕ) (a : ℕ) (d : A) (i : ℕ) → i < n → getD (readTab dec w n (drop a s)) i d ≡ dec (win s (a + i * w) w)
+  read-tab-at n s a d i h = read-at n (drop a s) d i h ∙ rw (win-drop s a (i * w) w)
+
+-- ---- there and back
 
 module _ {A : Type 0} (enc : A → List ℕ) (dec : List ℕ → A) (w : ℕ) where
-  pub read-tab : (xs : List A) (q : List ℕ) → Wide enc w xs → Each (λ x. dec (enc x) ≡ x) xs → readTab dec w (length xs) (tabOf enc xs ++ q) ≡ xs
+  -- records that are written and read
+  pub read-tab : (xs : List A) (q : List ℕ) (n : ℕ) → length xs ≡ n → Wide enc w xs → Each (λ x. dec (enc x) ≡ x) xs → readTab dec w n (tabOf enc xs ++ q) ≡ xs
   unfolding tabOf readTab Each
-  read-tab [] q e r = refl
-  read-tab (x ∷ xs) q e r = rw (append-assoc, take-at (enc x) _ w (e .0), drop-at (enc x) _ w (e .0), r .0, read-tab xs q (e .1) (r .1))
+  read-tab [] q n l e r = rw (← l)
+  read-tab (x ∷ xs) q n l e r =
+      rw (← l, append-assoc, take-at (enc x) _ w (e .0), drop-at (enc x) _ w (e .0), r .0, read-tab xs q (length xs) refl (e .1) (r .1))
 
-  -- a table of what is read is compared record by record
-  pub same-tab : (n : ℕ) (l q : List ℕ) → ((x : List ℕ) → length x ≡ w → length (enc (dec x)) ≡ w) → n * w ≤ length l
-      → same l (tabOf enc (readTab dec w n l) ++ q) ≡ every (λ i. same (win l (i * w) w) (enc (dec (win l (i * w) w)))) n && same (drop (n * w) l) q
-  unfolding tabOf readTab every win
-  same-tab zero l q wide h = rw zero-mul
-  same-tab (suc n) l q wide h =
-      let lw : length (take w l) ≡ w = length-take-le w l (omega arith) in
-      let ih = same-tab n (drop w l) q wide (simp length-drop (omega arith)) in
-      let sh : (i : ℕ) → w + i * w ≡ suc i * w = λ i. omega arith in
-      let ev : every (λ i. same (take w (drop (i * w) (drop w l))) (enc (dec (take w (drop (i * w) (drop w l)))))) n ≡ every (λ i. same (take w (drop (suc i * w) l)) (enc (dec (take w (drop (suc i * w) l))))) n = simp (drop-drop, sh) in
-      let P : ℕ → Bool = λ i. same (take w (drop (i * w) l)) (enc (dec (take w (drop (i * w) l)))) in
-      let z : P 0 ≡ same (take w l) (enc (dec (take w l))) = rw zero-mul in
-      let fr : same (take w l) (enc (dec (take w l))) && every (λ i. P (suc i)) n ≡ every P (suc n) = rw (← z) (sym (every-front P n)) in
-      rw (append-assoc, same-split l (enc (dec (take w l))) (tabOf enc (readTab dec w n (drop w l)) ++ q) w (wide (take w l) lw) (omega arith), ih, drop-drop (n * w) w l, sh n, ev)
-      (sym (and-assoc (same (take w l) (enc (dec (take w l)))) (every (λ i. P (suc i)) n) (same (drop (suc n * w) l) q)) ∙ ap (λ (t : Bool). t && same (drop (suc n * w) l) q) fr)
+  -- bytes that are read and written
+  pub tab-read : (n : ℕ) (l : List ℕ) → n * w ≤ length l → ((i : ℕ) → i < n → enc (dec (win l (i * w) w)) ≡ win l (i * w) w) → tabOf enc (readTab dec w n l) ++ drop (n * w) l ≡ l
+  unfolding tabOf readTab win
+  tab-read zero l h e = rw zero-mul
+  tab-read (suc n) l h e =
+      let first : enc (dec (take w l)) ≡ take w l = rw zero-mul at (e 0 (omega arith)) in
+      let rest = tab-read n (drop w l) (simp length-drop (omega arith)) (λ i k. rw (drop-drop (i * w) w l, ← place-next i w) (e (suc i) (omega arith))) in
+      rw (first, append-assoc, place-next n w, ← drop-drop (n * w) w l, rest, take-append-drop)
+
+  -- bytes compared with what is read and written again: record by record. A record that is read is written in w bytes
+  module _ (wide : (x : List ℕ) → length x ≡ w → length (enc (dec x)) ≡ w) where
+    abbrev again : List ℕ → ℕ → Bool
+    again l i = same (win l (i * w) w) (enc (dec (win l (i * w) w)))
+
+    pub same-tab : (n : ℕ) (l q : List ℕ) → n * w ≤ length l
+        → same l (tabOf enc (readTab dec w n l) ++ q) ≡ every (λ i. same (win l (i * w) w) (enc (dec (win l (i * w) w)))) n && same (drop (n * w) l) q
+    unfolding tabOf readTab win
+    same-tab zero l q h = rw (zero-mul, every-none)
+    same-tab (suc n) l q h =
+        let x : List ℕ = take w l in
+        let y : List ℕ = drop w l in
+        let z : again l 0 ≡ same x (enc (dec x)) = rw zero-mul in
+        let e : every (again y) n ≡ every (λ i. again l (suc i)) n = every-cong (again y) (λ i. again l (suc i)) n (λ i k. rw (drop-drop (i * w) w l, place-next i w)) in
+        rw (append-assoc, same-split l (enc (dec x)) (tabOf enc (readTab dec w n y) ++ q) w (wide x (length-take-le w l (omega arith))) (omega arith), same-tab n y q (simp length-drop (omega arith)), e, drop-drop (n * w) w l, place-next n w, every-front (again l) n, z)
+        (sym (and-assoc (same x (enc (dec x))) (every (λ i. again l (suc i)) n) (same (drop (w + n * w) l) q)))
+
+    -- behind the first a bytes
+    pub same-tab-at : (n : ℕ) (s : List ℕ) (a : ℕ) (q : List ℕ) → a + n * w ≤ length s
+        → same (drop a s) (tabOf enc (readTab dec w n (drop a s)) ++ q) ≡ every (λ i. same (win s (a + i * w) w) (enc (dec (win s (a + i * w) w)))) n && same (drop (a + n * w) s) q
+    same-tab-at n s a q h = simp (win-drop, drop-drop) at (same-tab n (drop a s) q (simp length-drop (omega arith)))

@@ -1,16 +1,17 @@
 -- Bytes that are all 0: their `|` is 0, and they are the list of zeros.
 -- Assumes nothing.
-use mathlib.Core.Path.{_≡_, refl, sym, ap, _∙_}
-use mathlib.Core.Bool.{Bool, true, false, _&&_, and-true, and-assoc}
+use mathlib.Core.Path.{_≡_, refl, sym, _∙_}
+use mathlib.Core.Bool.{true, _&&_, and-true, and-assoc}
 use mathlib.Core.List.{List, [], _∷_, _++_}
-use Prim.Native.Nat.{ℕ, zero, suc, _+_, _≤_, _<_}
+use Prim.Native.Nat.{ℕ, zero, suc, _+_, _<_}
 use native.Mathlib.Omega.{arith}
 use lib.Dec.{eqb, eqb·suc-zero}
-use lib.Bits.{bitOr, bitAnd, or-zero-l, or-add-and, and-le-r}
+use lib.Bits.{bitOr, or-zero-l, or-add-and, and-le-r}
 use lib.ListN.{getD, length}
-use borrow.Author.Tests.{ne-eqb}
+use borrow.Author.Tests.{eqb-true, ne-eqb}
 use Rattle.lent.specs.Bytes.{win, zeros}
 use Rattle.lent.specs.Tables.{allZero}
+use Rattle.lent.proofs.Choices.{and-yes}
 use Rattle.lent.proofs.Splice.{win-more}
 
 pub zero-append : (p q : List ℕ) → allZero (p ++ q) ≡ allZero p && allZero q
@@ -18,11 +19,33 @@ unfolding allZero
 zero-append [] q = refl
 zero-append (x ∷ p) q = rw (zero-append p q) (sym (and-assoc (eqb x 0) (allZero p) (allZero q)))
 
+-- ---- zeros
+
+pub zero-zeros : (n : ℕ) → allZero (zeros n) ≡ true
+unfolding allZero
+zero-zeros zero = refl
+zero-zeros (suc n) = zero-zeros n
+
+pub zero-is : (l : List ℕ) (n : ℕ) → length l ≡ n → allZero l ≡ true → l ≡ zeros n
+unfolding allZero
+zero-is [] n h e = rw (← h)
+zero-is (x ∷ l) n h e =
+    let b = and-yes (eqb x 0) (allZero l) e in
+    rw (← h, eqb-true x 0 (b .0), ← zero-is l (length l) refl (b .1))
+
+pub zero-at : (l : List ℕ) (i : ℕ) → allZero l ≡ true → getD l i 0 ≡ 0
+unfolding allZero
+zero-at [] i e = refl
+zero-at (x ∷ l) zero e = eqb-true x 0 (and-yes (eqb x 0) (allZero l) e .0)
+zero-at (x ∷ l) (suc i) e = zero-at l i (and-yes (eqb x 0) (allZero l) e .1)
+
+-- ---- a loop that joins the bytes by `|`
+
+-- a test of two bytes at once
 pub eqb-or : (a b : ℕ) → eqb (bitOr a b) 0 ≡ eqb a 0 && eqb b 0
 eqb-or zero b = rw (or-zero-l b)
 eqb-or (suc a) b = ne-eqb (bitOr (suc a) b) 0 (λ e. omega (arith, or-add-and (suc a) b, and-le-r (suc a) b)) ∙ rw (eqb·suc-zero a)
 
--- a turn of a loop that joins the bytes by `|`
 pub or-turn : (s : List ℕ) (a i m : ℕ) → a + i < length s → eqb m 0 ≡ allZero (win s a i) → eqb (bitOr m (getD s (a + i) 0)) 0 ≡ allZero (win s a (i + 1))
 unfolding allZero
 or-turn s a i m h e = eqb-or m (getD s (a + i) 0) ∙ rw (win-more s a i h, zero-append, e, and-true)

@@ -70,10 +70,10 @@ stagedSound d nothing = true
 stagedSound d (staged v) = leb 2 d && valueSound v
 stagedSound d DROP = eqb d 3
 
--- a key below 256, a kind 1 to 3
+-- a session number that is not 0, a key below 256, a kind 1 to 3
 unfoldable pub rowSound : Row → Bool
 rowSound noRow = true
-rowSound (row n k d u) = ltb k keyCount && (isKind d && stagedSound d u)
+rowSound (row n k d u) = leb 1 n && (ltb k keyCount && (isKind d && stagedSound d u))
 
 -- What joins records
 

@@ -1,17 +1,15 @@
-use Prim.Native.Nat.{ℕ, _+_, _-_, _≤_, _<_}
-use mathlib.Core.Path.{_≡_, refl, sym, ap, _∙_}
-use mathlib.Core.List.{List, [], _∷_, _++_}
+-- `clear` writes zeros: after i turns the first i bytes of the stretch are 0 and nothing else has changed.
+-- Assumes nothing.
+use Prim.Native.Nat.{_-_, _≤_}
+use mathlib.Core.Path.{_≡_, refl, sym}
 use native.Mathlib.Omega.{arith}
-use native.Mathlib.Nat.{le-antisymm}
-use lib.ListN.{length, length-set, length-replicate, replicate, replicate-append-replicate}
+use lib.ListN.{length, length-set}
 use borrow.Author.Needs.{needs}
-use Rattle.lent.specs.Bytes.{splice, win, zeros}
+use Rattle.lent.specs.Bytes.{splice, zeros}
 use Rattle.lent.proofs.Splice.{splice-none}
 use Rattle.lent.proofs.Stores.{clear-turn}
 use Rattle.lent.proofs.clear.Statement.{statement}
 use Rattle.lent.proofs.clear.Tie as tie
-use Rattle.lent.proofs.clear.Reads as reads
-use Rattle.lent.proofs.clear.Lts as lts
 
 abbrev Inv-loop : tie.InvT-loop
 Inv-loop s₀ at n i₀ s i = (i ≤ n) × ((length s ≡ length s₀) × (s ≡ splice s₀ at (zeros i)))

@@ -1,15 +1,15 @@
-use borrow.Author.Needs.{needs}
-use Prim.Native.Nat.{ℕ, _+_, _-_, _≤_, _<_}
+-- `is_zero` joins the bytes by `|`: after i turns that is 0 if the first i bytes are.
+-- Assumes nothing.
+use Prim.Native.Nat.{_-_, _≤_}
 use mathlib.Core.Path.{_≡_, refl}
 use native.Mathlib.Omega.{arith}
 use lib.Dec.{eqb}
+use borrow.Author.Needs.{needs}
 use Rattle.lent.specs.Bytes.{win}
 use Rattle.lent.specs.Tables.{allZero}
 use Rattle.lent.proofs.Zeros.{or-turn}
 use Rattle.lent.proofs.is_zero.Statement.{statement}
 use Rattle.lent.proofs.is_zero.Tie as tie
-use Rattle.lent.proofs.is_zero.Reads as reads
-use Rattle.lent.proofs.is_zero.Lts as lts
 
 abbrev Inv-loop : tie.InvT-loop
 Inv-loop s from n seen₀ i₀ seen i = (i ≤ n) × (eqb seen 0 ≡ allZero (win s from i))

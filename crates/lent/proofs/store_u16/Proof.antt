@@ -1,11 +1,11 @@
+-- `store_u16` is two stores in a row.
+-- Assumes nothing.
 use native.Mathlib.Omega.{arith}
 use lib.ListN.{length-set}
-use Rattle.lent.proofs.Stores.{stores2}
 use borrow.Author.Needs.{needs}
+use Rattle.lent.proofs.Stores.{stores2}
 use Rattle.lent.proofs.store_u16.Statement.{statement}
 use Rattle.lent.proofs.store_u16.Tie as tie
-use Rattle.lent.proofs.store_u16.Reads as reads
-use Rattle.lent.proofs.store_u16.Lts as lts
 
 cast-s : tie.Need-cast-s
 cast-s c = search needs

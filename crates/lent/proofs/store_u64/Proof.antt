@@ -1,14 +1,12 @@
-use mathlib.Core.Path.{refl}
+-- `store_u64` is two writes, one behind the other.
+-- Assumes nothing.
 use Prim.Native.Nat.{_%_, _/_}
-use Rattle.lent.specs.Bytes.{bytes32}
-use mathlib.Core.Path.{_≡_, sym, ap, _∙_}
-use Rattle.lent.proofs.Splice.{splice-next}
+use mathlib.Core.Path.{refl}
 use borrow.Author.Needs.{needs}
+use Rattle.lent.specs.Bytes.{bytes32}
+use Rattle.lent.proofs.Splice.{splice-then}
 use Rattle.lent.proofs.store_u64.Statement.{statement}
 use Rattle.lent.proofs.store_u64.Tie as tie
-use Rattle.lent.proofs.store_u64.Reads as reads
-use Rattle.lent.proofs.store_u64.Lts as lts
-use Rattle.lent.proofs.store_u32.Reads as store-u32-reads
 
 cast-store-u32 : tie.Need-cast-store-u32
 cast-store-u32 c = search needs
@@ -29,9 +27,8 @@ same-length : tie.Need-same-length
 same-length c = search needs
 
 returns : tie.Need-returns
-returns c = let d = c .before .before .before .before .before .before in
-    let a = d .before .before .before .args in
-    c .before .before .store-u322 .ensures ∙ rw (d .store-u32 .ensures) (splice-next (a .s .now) (bytes32 (a .v % 4294967296)) (bytes32 (a .v / 4294967296)) (a .at) 4 refl (search needs))
+returns c = let a = c .before .before .before .before .before .before .before .before .before .args in
+    splice-then (a .s .now) _ _ (bytes32 (a .v % 4294967296)) (bytes32 (a .v / 4294967296)) (a .at) 4 (c .before .before .before .before .before .before .store-u32 .ensures) (c .before .before .store-u322 .ensures) refl (search needs)
 
 pub store-u64-spec : {M : Type 1} → statement M
 store-u64-spec =

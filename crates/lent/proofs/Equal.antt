@@ -1,18 +1,21 @@
 -- Lists with the same elements: `same` is equality, and it goes part by part, so that a record is compared window by window.
 -- Assumes nothing.
-use mathlib.Core.Path.{_≡_, refl, sym, ap, ap₂, _∙_}
+use mathlib.Core.Path.{_≡_, refl, sym, ap, _∙_}
 use mathlib.Core.Bool.{Bool, true, false, _&&_, and-true, and-assoc}
 use mathlib.Core.List.{List, [], _∷_, _++_}
-use Prim.Native.Nat.{ℕ, zero, suc, _+_, _≤_, _<_}
+use Prim.Native.Nat.{ℕ, _+_, _-_, _≤_, _<_}
+use native.Mathlib.Numerals.{add-one}
 use native.Mathlib.Omega.{arith}
 use lib.ListN.{length, getD, take, drop, length-append}
-use lib.Seq.{take-at, drop-at}
+use lib.Seq.{drop-at, length-take-le, take-at, take-suc}
+use lib.Bits.{bitOr, bitXor, and-le-l, and-le-r, xor-add-and, xor-self}
 use lib.Dec.{eqb}
-use borrow.Author.Tests.{eq-eqb, eqb-true}
+use borrow.Author.Tests.{eq-eqb, eqb-false, eqb-true, ne-eqb}
 use Rattle.lent.specs.Bytes.{win, zeros}
 use Rattle.lent.specs.Tables.{allZero, same}
 use Rattle.lent.proofs.Choices.{and-yes, clash}
 use Rattle.lent.proofs.Splice.{length-win, win-add, win-one}
+use Rattle.lent.proofs.Zeros.{eqb-or}
 
 -- ---- same and equal
 
@@ -64,3 +67,41 @@ module _ (s : List ℕ) (a m n : ℕ) (p q : List ℕ) (e : length p ≡ m) (h :
 pub same-one : (s : List ℕ) (a v : ℕ) → a < length s → same (win s a 1) (v ∷ []) ≡ eqb (getD s a 0) v
 unfolding same
 same-one s a v h = rw (win-one s a h) (and-true (eqb (getD s a 0) v))
+
+-- a value of l bytes, with zeros behind it to n
+pub same-padded : (s : List ℕ) (a l n : ℕ) → l ≤ n → a + n ≤ length s → same (win s a n) (win s a l ++ zeros (n - l)) ≡ allZero (win s (a + l) (n - l))
+same-padded s a l n k h =
+    let q : l + (n - l) ≡ n = omega arith in
+    let w = same-skip s a l (n - l) (win s a l) (zeros (n - l)) (length-win s a l (omega arith)) (omega arith) refl in
+    rw q at w ∙ same-zeros (win s (a + l) (n - l)) (n - l) (length-win s (a + l) (n - l) (omega arith))
+
+-- ---- a turn of a loop that compares
+
+eqb-xor : (a b : ℕ) → eqb (bitXor a b) 0 ≡ eqb a b
+eqb-xor a b = go (eqb a b) refl
+  where
+    go : (t : Bool) → eqb a b ≡ t → eqb (bitXor a b) 0 ≡ t
+    go true e = rw (eqb-true a b e, xor-self)
+    go false e = ne-eqb (bitXor a b) 0 (λ z. eqb-false a b e (omega (arith, xor-add-and a b, and-le-l a b, and-le-r a b)))
+
+pub same-turn : (a b : List ℕ) (i m : ℕ) → i < length a → length a ≡ length b → eqb m 0 ≡ same (take i a) (take i b)
+    → eqb (bitOr m (bitXor (getD a i 0) (getD b i 0))) 0 ≡ same (take (i + 1) a) (take (i + 1) b)
+unfolding same
+same-turn a b i m h l e =
+    rw (
+      eqb-or,
+      eqb-xor,
+      e,
+      add-one,
+      take-suc a i 0 h,
+      take-suc b i 0 (omega arith),
+      same-append (take i a) (getD a i 0 ∷ []) (take i b) (getD b i 0 ∷ []) i (length-take-le i a (omega arith)) (length-take-le i b (omega arith)),
+      and-true,
+    )
+
+pub same-lengths : (k l : List ℕ) → (length k ≡ length l → ⊥) → same k l ≡ false
+same-lengths k l n = go (same k l) refl
+  where
+    go : (t : Bool) → same k l ≡ t → t ≡ false
+    go true e = absurd (n (ap length (same-eq k l e)))
+    go false e = refl

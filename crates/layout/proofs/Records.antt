@@ -1,0 +1,179 @@
+-- Each record is read from its bytes as it was written: field by field, where the bytes of a number say it and a value is as long as its
+-- length byte says; so the whole record.
+-- Assumes nothing.
+use mathlib.Core.Path.{_≡_, refl, sym, ap, ap₂, _∙_}
+use mathlib.Core.Bool.{Bool, true, false, not}
+use mathlib.Core.List.{List, [], _∷_, _++_}
+use mathlib.Core.Option.{Option, none, some}
+use Prim.Native.Nat.{ℕ, _≤_, _<_, _^_}
+use native.Mathlib.Omega.{arith}
+use lib.Dec.{eqb}
+use lib.ListN.{length, getD}
+use lib.Seq.{take-at}
+use borrow.Author.Tests.{ne-eqb}
+use Rattle.lent.specs.Bytes.{le16, le32, le64, win, zeros}
+use Rattle.lent.specs.Tables.{if_then_else_}
+use Rattle.lent.proofs.Numbers.{le16-bytes, le32-bytes, le64-bytes}
+use Rattle.machine.specs.Sizes.{valueMax}
+use Rattle.machine.specs.Tables.{isNone}
+use Rattle.machine.specs.State.{Value, Head, Lease, Key, Slot, noSession, session, Staged, nothing, staged, DROP, Row, noRow, row, kindOf, stagedIn}
+use Rattle.machine.specs.Sound.{tokenIn, numberIn}
+use Rattle.machine.specs.declared.Life.{Life}
+use Rattle.machine.specs.declared.Session.{Session}
+use Rattle.layout.specs.Layout.{encHead, decHead, valueMark, valueBytes, leaseBytes, encKey, decValue, decLease, decKey, encRow, decStaged, decRow, lifeTime, encSession, decLife, sessionFrom, decSession}
+use Rattle.layout.specs.Fields.{valueLength, leaseUntil, rowSession, rowKey, stagedMark, stagedLength, sessionIn}
+use Rattle.layout.specs.Holds.{HeadFits, LeaseFits, KeyFits, Live, SlotFits, StagedFits, RowFits}
+
+-- a number that is not 0 is told from 0
+given-not-zero : (n : ℕ) → 1 ≤ n → eqb n 0 ≡ false
+given-not-zero n h = ne-eqb n 0 (λ e. omega arith)
+
+-- ---- the header
+
+pub head-read : (h : Head) → HeadFits h → decHead (encHead h) ≡ h
+unfolding encHead decHead
+head-read h f =
+    rw (le64-bytes (h .clock) (f .clock), le32-bytes (h .readLife) (f .readLife), le32-bytes (h .writeLife) (f .writeLife), le32-bytes (h .nextSession) (f .nextSession), le32-bytes (h .nextToken) (f .nextToken))
+
+-- ---- a key
+
+abbrev keyBytes : Option Value → Option Lease → List ℕ
+keyBytes o l = valueMark o ++ (leaseBytes l ++ valueBytes o)
+
+value-there : (o : Option Value) (l : Option Lease) → eqb (getD (keyBytes o l) 0 0) 1 ≡ not (isNone o)
+value-there none l = refl
+value-there (some v) l = refl
+
+value-long : (o : Option Value) (l : Option Lease) → getD (keyBytes o l) 1 0 ≡ valueLength o
+value-long none l = refl
+value-long (some v) l = refl
+
+value-bytes : (v : Value) (l : Option Lease) → win (keyBytes (some v) l) 16 (length v) ≡ v
+unfolding win
+value-bytes v none = take-at v _ (length v) refl
+value-bytes v (some l) = take-at v _ (length v) refl
+
+lease-token : (o : Option Value) (l : Option Lease) → LeaseFits l → le32 (keyBytes o l) 4 ≡ tokenIn l
+lease-token none none f = refl
+lease-token none (some l) f = le32-bytes (l .token) (f .token)
+lease-token (some v) none f = refl
+lease-token (some v) (some l) f = le32-bytes (l .token) (f .token)
+
+lease-until : (o : Option Value) (l : Option Lease) → LeaseFits l → le64 (keyBytes o l) 8 ≡ leaseUntil l
+lease-until none none f = refl
+lease-until none (some l) f = le64-bytes (l .until) (f .until)
+lease-until (some v) none f = refl
+lease-until (some v) (some l) f = le64-bytes (l .until) (f .until)
+
+value-read : (o : Option Value) (l : Option Lease) → decValue (keyBytes o l) ≡ o
+value-read none l = refl
+value-read (some v) l = ap some (value-bytes v l)
+
+lease-read : (o : Option Value) (l : Option Lease) → LeaseFits l → decLease (keyBytes o l) ≡ l
+lease-read o l f = rw (lease-token o l f, lease-until o l f) (go l f)
+  where
+    go : (l : Option Lease) → LeaseFits l → (if eqb (tokenIn l) 0 then none else some (record { token = tokenIn l; until = leaseUntil l })) ≡ l
+    go none f = refl
+    go (some l) f = rw (given-not-zero (l .token) (f .given))
+
+module _ (k : Key) where
+  pub key-there : eqb (getD (encKey k) 0 0) 1 ≡ not (isNone (k .value))
+  unfolding encKey
+  key-there = value-there (k .value) (k .lease)
+
+  pub key-length : getD (encKey k) 1 0 ≡ valueLength (k .value)
+  unfolding encKey
+  key-length = value-long (k .value) (k .lease)
+
+  pub key-value : (v : Value) → k .value ≡ some v → win (encKey k) 16 (length v) ≡ v
+  unfolding encKey
+  key-value v e = rw e (value-bytes v (k .lease))
+
+  pub key-token : KeyFits k → le32 (encKey k) 4 ≡ tokenIn (k .lease)
+  unfolding encKey
+  key-token f = lease-token (k .value) (k .lease) (f .lease)
+
+  pub key-until : KeyFits k → le64 (encKey k) 8 ≡ leaseUntil (k .lease)
+  unfolding encKey
+  key-until f = lease-until (k .value) (k .lease) (f .lease)
+
+  pub key-read : KeyFits k → decKey (encKey k) ≡ k
+  unfolding encKey decKey
+  key-read f = rw (value-read (k .value) (k .lease), lease-read (k .value) (k .lease) (f .lease))
+
+-- ---- a row
+
+pub row-session : (r : Row) → RowFits r → le32 (encRow r) 0 ≡ rowSession r
+unfolding encRow
+row-session noRow f = refl
+row-session (row n k d u) f = le32-bytes n (f .session)
+
+pub row-key : (r : Row) → getD (encRow r) 4 0 ≡ rowKey r
+unfolding encRow
+row-key noRow = refl
+row-key (row n k d u) = refl
+
+pub row-kind : (r : Row) → getD (encRow r) 5 0 ≡ kindOf r
+unfolding encRow
+row-kind noRow = refl
+row-kind (row n k d u) = refl
+
+pub row-mark : (r : Row) → getD (encRow r) 6 0 ≡ stagedMark (stagedIn r)
+unfolding encRow
+row-mark noRow = refl
+row-mark (row n k d nothing) = refl
+row-mark (row n k d (staged v)) = refl
+row-mark (row n k d DROP) = refl
+
+pub row-length : (r : Row) → getD (encRow r) 7 0 ≡ stagedLength (stagedIn r)
+unfolding encRow
+row-length noRow = refl
+row-length (row n k d nothing) = refl
+row-length (row n k d (staged v)) = refl
+row-length (row n k d DROP) = refl
+
+staged-bytes : (n k d : ℕ) (v : Value) → win (encRow (row n k d (staged v))) 8 (length v) ≡ v
+unfolding encRow win
+staged-bytes n k d v = take-at v _ (length v) refl
+
+pub row-value : (r : Row) (v : Value) → stagedIn r ≡ staged v → win (encRow r) 8 (length v) ≡ v
+row-value noRow v e = absurd (let z : _≡_ {A = ℕ} 0 1 = cc in omega arith)
+row-value (row n k d u) v e = rw e (staged-bytes n k d v)
+
+staged-read : (n k d : ℕ) (u : Staged) → decStaged (encRow (row n k d u)) ≡ u
+unfolding encRow
+staged-read n k d nothing = refl
+staged-read n k d (staged v) = ap staged (staged-bytes n k d v)
+staged-read n k d DROP = refl
+
+pub row-read : (r : Row) → RowFits r → decRow (encRow r) ≡ r
+unfolding decRow encRow
+row-read noRow f = refl
+row-read (row n k d u) f =
+    rw (row-session (row n k d u) f, given-not-zero n (f .given), row-key (row n k d u), row-kind (row n k d u), staged-read n k d u)
+
+-- ---- a session
+
+pub session-number : (e : Slot) → SlotFits e → le32 (encSession e) 0 ≡ numberIn e
+unfolding encSession
+session-number noSession f = refl
+session-number (session x) f = le32-bytes (x .number) (f .number)
+
+life-read : (n c : ℕ) (l : Life) → lifeTime l < 2 ^ 64 → decLife (encSession (session (record { number = n; life = l; count = c }))) ≡ l
+unfolding encSession
+life-read n c (Life.Open t) f = ap Life.Open (le64-bytes t f)
+life-read n c Life.Sealed f = refl
+
+-- also of a free place
+pub session-from : (e : Slot) → SlotFits e → sessionFrom (encSession e) ≡ sessionIn e
+unfolding encSession
+session-from noSession f = refl
+session-from (session x) f =
+    rw (session-number (session x) f, life-read (x .number) (x .count) (x .life) (f .until), le16-bytes (x .count) (f .count))
+
+pub session-read : (e : Slot) → SlotFits e → decSession (encSession e) ≡ e
+unfolding decSession encSession
+session-read noSession f = refl
+session-read (session x) f =
+    let e : eqb (le32 (encSession (session x)) 0) 0 ≡ false = rw (session-number (session x) f) (given-not-zero (x .number) (f .given)) in
+    rw e (ap session (session-from (session x) f))

@@ -1,0 +1,80 @@
+-- How many bytes each record takes, and all of them: a value is padded to its 64, and every other part has a fixed width.
+-- Assumes nothing.
+use mathlib.Core.Path.{_≡_, refl, sym, ap, _∙_}
+use mathlib.Core.List.{List, [], _∷_, _++_}
+use mathlib.Core.Option.{Option, none, some}
+use Prim.Native.Nat.{ℕ, _+_, _-_, _*_, _≤_, _<_}
+use native.Mathlib.Omega.{arith}
+use lib.ListN.{length, length-append, length-replicate}
+use Rattle.lent.specs.Bytes.{zeros}
+use Rattle.lent.specs.Tables.{Each, tabOf}
+use Rattle.lent.proofs.Tables.{each-map, length-tab}
+use Rattle.machine.specs.Sizes.{keyCount, sessionCount, rowCount, valueMax, stateSize, headSize, keyWidth, rowWidth, sessionWidth, restSize}
+use Rattle.machine.specs.State.{Value, Head, Lease, Key, Slot, noSession, session, Staged, nothing, staged, DROP, Row, noRow, row, State}
+use Rattle.layout.specs.Layout.{padded, encHead, valueMark, valueBytes, leaseBytes, encKey, stagedBytes, encRow, encSession, encode}
+use Rattle.layout.specs.Holds.{ValueFits, KeyFits, SlotFits, StagedFits, RowFits, Fits}
+
+pub length-padded : (v : Value) → length v ≤ valueMax → length (padded v) ≡ valueMax
+length-padded v h = simp (length-append, length-replicate) (omega arith)
+
+pub length-head : (h : Head) → length (encHead h) ≡ headSize
+unfolding encHead
+length-head h = refl
+
+pub length-mark : (o : Option Value) → length (valueMark o) ≡ 4
+length-mark none = refl
+length-mark (some v) = refl
+
+pub length-lease : (o : Option Lease) → length (leaseBytes o) ≡ 12
+length-lease none = refl
+length-lease (some l) = refl
+
+pub length-value : (o : Option Value) → ValueFits o → length (valueBytes o) ≡ valueMax
+length-value none f = refl
+length-value (some v) f = length-padded v f
+
+pub length-key : (k : Key) → KeyFits k → length (encKey k) ≡ keyWidth
+unfolding encKey
+length-key k f =
+    simp (length-append, length-mark (k .value), length-lease (k .lease), length-value (k .value) (f .value))
+
+pub length-staged : (u : Staged) → StagedFits u → length (stagedBytes u) ≡ 66
+length-staged nothing f = refl
+length-staged (staged v) f = rw (length-padded v f)
+length-staged DROP f = refl
+
+pub length-row : (r : Row) → RowFits r → length (encRow r) ≡ rowWidth
+unfolding encRow
+length-row noRow f = refl
+length-row (row n k d u) f = rw (length-staged u (f .staged))
+
+pub length-session : (e : Slot) → length (encSession e) ≡ sessionWidth
+unfolding encSession
+length-session noSession = refl
+length-session (session x) = refl
+
+-- ---- the tables, and the state
+
+module _ (s : State) (f : Fits s) where
+  pub keys-wide : Each (λ k. length (encKey k) ≡ keyWidth) (s .keys)
+  keys-wide = each-map KeyFits (λ k. length (encKey k) ≡ keyWidth) (s .keys) length-key (f .eachKey)
+
+  pub rows-wide : Each (λ r. length (encRow r) ≡ rowWidth) (s .rows)
+  rows-wide = each-map RowFits (λ r. length (encRow r) ≡ rowWidth) (s .rows) length-row (f .eachRow)
+
+  pub sessions-wide : Each (λ e. length (encSession e) ≡ sessionWidth) (s .sessions)
+  sessions-wide = each-map SlotFits (λ e. length (encSession e) ≡ sessionWidth) (s .sessions) (λ e p. length-session e) (f .eachSession)
+
+  pub length-keys : length (tabOf encKey (s .keys)) ≡ keyCount * keyWidth
+  length-keys = length-tab encKey keyWidth (s .keys) keys-wide ∙ ap (λ (n : ℕ). n * keyWidth) (f .keys)
+
+  pub length-rows : length (tabOf encRow (s .rows)) ≡ rowCount * rowWidth
+  length-rows = length-tab encRow rowWidth (s .rows) rows-wide ∙ ap (λ (n : ℕ). n * rowWidth) (f .rows)
+
+  pub length-sessions : length (tabOf encSession (s .sessions)) ≡ sessionCount * sessionWidth
+  length-sessions = length-tab encSession sessionWidth (s .sessions) sessions-wide ∙ ap (λ (n : ℕ). n * sessionWidth) (f .sessions)
+
+  pub length-encode : length (encode s) ≡ stateSize
+  unfolding encode
+  length-encode =
+      simp (length-append, length-head (s .head), length-keys, length-rows, length-sessions, length-replicate)

@@ -1,0 +1,42 @@
+-- What START answers, and the bytes after it, case by case: each test of the definition's list decided, in its order.
+-- Assumes nothing.
+use mathlib.Core.Path.{_≡_, refl}
+use mathlib.Core.Bool.{Bool, true, false, not, _||_, or-true}
+use mathlib.Core.List.{List}
+use Prim.Native.Nat.{ℕ, _≤_, _<_, _^_}
+use native.Mathlib.Omega.{arith}
+use lib.Dec.{eqb, leb}
+use lib.ListN.{length}
+use borrow.Author.Tests.{eq-eqb, leb-true, ne-eqb}
+use Rattle.lent.proofs.Choices.{and-yes}
+use Rattle.machine.specs.Sizes.{stateSize, lifeMax}
+use Rattle.machine.specs.State.{fresh}
+use Rattle.machine.specs.Sound.{lifetime}
+use Rattle.machine.specs.Step.{start}
+use Rattle.machine.specs.declared.Answer.{Answer}
+use Rattle.layout.specs.Layout.{encode}
+use Rattle.startup.specs.Start.{Reply, startRefusal, startOf}
+
+abbrev refusing : ℕ → List ℕ → Reply
+refusing n b = record { answer = Answer.Refused n; bytes = b }
+
+pub lifetime-small : (n : ℕ) → lifetime n ≡ true → n < 2 ^ 32
+lifetime-small n e = let h : n ≤ lifeMax = leb-true n lifeMax (and-yes (leb 1 n) (leb n lifeMax) e .1) in omega arith
+
+module _ (b : List ℕ) (readLife writeLife : ℕ) where
+  pub started-size : (length b ≡ stateSize → ⊥) → startOf b readLife writeLife ≡ refusing 1 b
+  unfolding startOf startRefusal
+  started-size n = rw (ne-eqb (length b) stateSize n)
+
+  pub started-read : length b ≡ stateSize → lifetime readLife ≡ false → startOf b readLife writeLife ≡ refusing 3 b
+  unfolding startOf startRefusal
+  started-read e p = rw (eq-eqb (length b) stateSize e, p)
+
+  pub started-write : length b ≡ stateSize → lifetime writeLife ≡ false → startOf b readLife writeLife ≡ refusing 3 b
+  unfolding startOf startRefusal
+  started-write e p = rw (eq-eqb (length b) stateSize e, p, or-true)
+
+  pub started-ready : length b ≡ stateSize → lifetime readLife ≡ true → lifetime writeLife ≡ true
+      → startOf b readLife writeLife ≡ record { answer = Answer.Ready; bytes = encode (fresh readLife writeLife) }
+  unfolding startOf startRefusal start
+  started-ready e p q = rw (eq-eqb (length b) stateSize e, p, q)

@@ -1,0 +1,54 @@
+-- Each test that refuses, in its order, then the fresh state.
+use native.Mathlib.Omega.{arith}
+use mathlib.Core.Path.{refl, sym, _∙_}
+use borrow.Author.Tests.{not-true, not-false}
+use Rattle.startup.proofs.Started.{started-size, started-read, started-write, started-ready, lifetime-small}
+use borrow.Author.Needs.{needs}
+use Rattle.startup.proofs.start.Statement.{statement}
+use Rattle.startup.proofs.start.Tie as tie
+
+returns : tie.Need-returns
+returns c = rw (started-size (c .before .before .args .s .now) (c .before .before .args .read) (c .before .before .args .write) (c .if1 .taken)) (refl, refl)
+
+is-lifetime-requires : tie.Need-is-lifetime-requires
+is-lifetime-requires c κs = search needs
+
+returns-2 : tie.Need-returns-2
+returns-2 c = rw (started-read (c .before .before .before .before .args .s .now) (c .before .before .before .before .args .read) (c .before .before .before .before .args .write) (omega arith) (sym (c .before .is-lifetime .ensures) ∙ not-true _ (c .if2 .taken))) (refl, refl)
+
+is-lifetime-requires-2 : tie.Need-is-lifetime-requires-2
+is-lifetime-requires-2 c κs = search needs
+
+returns-3 : tie.Need-returns-3
+returns-3 c = rw (started-write (c .before .before .before .before .before .before .args .s .now) (c .before .before .before .before .before .before .args .read) (c .before .before .before .before .before .before .args .write) (omega arith) (sym (c .before .is-lifetime2 .ensures) ∙ not-true _ (c .if3 .taken))) (refl, refl)
+
+cast-write-fresh : tie.Need-cast-write-fresh
+cast-write-fresh c = omega (arith, lifetime-small (c .before .before .before .before .before .before .before .args .read) (sym (c .before .before .before .before .is-lifetime .ensures) ∙ not-false _ (c .before .before .before .if2 .left)))
+
+cast-write-fresh-2 : tie.Need-cast-write-fresh-2
+cast-write-fresh-2 c = omega (arith, lifetime-small (c .before .before .before .before .before .before .before .args .write) (sym (c .before .before .is-lifetime2 .ensures) ∙ not-false _ (c .before .if3 .left)))
+
+write-fresh-requires : tie.Need-write-fresh-requires
+write-fresh-requires c κs = search needs
+
+same-length : tie.Need-same-length
+same-length c = search needs
+
+returns-4 : tie.Need-returns-4
+returns-4 c = rw (started-ready (c .before .before .before .before .before .before .before .before .before .before .args .s .now) (c .before .before .before .before .before .before .before .before .before .before .args .read) (c .before .before .before .before .before .before .before .before .before .before .args .write) (omega arith) (sym (c .before .before .before .before .before .before .before .is-lifetime .ensures) ∙ not-false _ (c .before .before .before .before .before .before .if2 .left)) (sym (c .before .before .before .before .before .is-lifetime2 .ensures) ∙ not-false _ (c .before .before .before .before .if3 .left)))
+    (refl, c .before .before .write-fresh .ensures)
+
+pub start-spec : {M : Type 1} → statement M
+start-spec =
+    tie.close
+    (tie.spec
+    returns
+    is-lifetime-requires
+    returns-2
+    is-lifetime-requires-2
+    returns-3
+    cast-write-fresh
+    cast-write-fresh-2
+    write-fresh-requires
+    same-length
+    returns-4)
