@@ -2,16 +2,15 @@
 -- its one place, and that is tested too; else it is searched for. So whatever is chosen is a place of the number, or it has none.
 -- Assumes nothing.
 use mathlib.Core.Path.{_≡_, refl, sym, ap, _∙_}
-use mathlib.Core.Bool.{Bool, true, false, not, _&&_}
-use mathlib.Core.Logic.{_⊎_, ⊎-elim, inl, inr}
+use mathlib.Core.Bool.{Bool, true, false, not}
 use mathlib.Core.List.{List}
-use Prim.Native.Nat.{ℕ, zero, suc, _+_, _*_, _-_, _≤_, _<_}
+use Prim.Native.Nat.{ℕ, zero, suc, _+_, _-_, _<_}
 use native.Mathlib.Numerals.{add-one}
 use native.Mathlib.Omega.{arith}
 use lib.Bits.{bitOr}
 use lib.Dec.{eqb, leb, ltb, eqb·suc-zero}
 use borrow.Author.Tests.{eq-eqb, ne-eqb, eqb-true, eqb-false, leb-true, leb-false, ltb-false, not-true}
-use Rattle.lent.specs.Tables.{if_then_else_, every, some, first}
+use Rattle.lent.specs.Tables.{if_then_else_, every}
 use Rattle.lent.proofs.Walks.{every-all, some-at, none-some, Search, found, nowhere, first-search}
 use Rattle.lent.proofs.Zeros.{eqb-or}
 use Rattle.machine.specs.Sizes.{sessionCount, sessionsFrom, sessionWidth}

@@ -2,17 +2,17 @@
 -- that finds a mark is compared with those before it.
 -- Assumes nothing.
 use mathlib.Core.Path.{_≡_, refl, sym, ap, _∙_}
-use mathlib.Core.Bool.{Bool, true, false, not, _&&_}
+use mathlib.Core.Bool.{Bool, true, false, not}
 use mathlib.Core.Logic.{_⊎_, ⊎-elim, inl, inr}
 use mathlib.Core.List.{List}
-use Prim.Native.Nat.{ℕ, zero, suc, _+_, _*_, _≤_, _<_}
+use Prim.Native.Nat.{ℕ, zero, suc, _+_, _≤_, _<_}
 use native.Mathlib.Nat.{eq-or-lt-of-le}
 use native.Mathlib.Omega.{arith}
-use lib.ListN.{length, getD, set, length-set, length-replicate, replicate}
+use lib.ListN.{length, set, length-set, length-replicate, replicate}
 use lib.Seq.{getD-set-same, getD-set-other}
 use lib.Dec.{eqb}
 use borrow.Author.Tests.{eq-eqb, ne-eqb, eqb-true, eqb-false}
-use Rattle.lent.specs.Tables.{if_then_else_, every}
+use Rattle.lent.specs.Tables.{every}
 use Rattle.lent.proofs.Choices.{clash}
 use Rattle.lent.proofs.Walks.{all-every, every-all, every-cong}
 use Rattle.machine.specs.Sound.{newAt, distinct}

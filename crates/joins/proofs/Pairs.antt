@@ -1,11 +1,10 @@
 -- The marks of keys and session places: a mark is a bit of the key's word in one of two arrays, by the place, and setting it changes no other.
 -- Assumes nothing.
-use mathlib.Core.Path.{_≡_, refl, sym, ap, _∙_}
-use mathlib.Core.Bool.{Bool, true, false, _&&_, _||_, and-false, or-true, or-false}
-use mathlib.Core.Logic.{_⊎_, ⊎-elim}
+use mathlib.Core.Path.{_≡_, refl, ap, _∙_}
+use mathlib.Core.Bool.{Bool, true, false, _&&_, _||_, and-false, or-false}
+use mathlib.Core.Logic.{⊎-elim}
 use mathlib.Core.List.{List}
-use Prim.Native.Nat.{ℕ, _+_, _-_, _^_, _≤_, _<_}
-use native.Mathlib.Nat.{zero-div}
+use Prim.Native.Nat.{ℕ, _-_, _≤_, _<_}
 use native.Mathlib.Omega.{arith}
 use lib.ListN.{length, set, replicate, length-set, length-replicate}
 use lib.Seq.{getD-set-same, getD-set-other}
@@ -13,7 +12,7 @@ use lib.Dec.{eqb, ltb}
 use borrow.Author.Tests.{eq-eqb, ne-eqb, ltb-true, ltb-false, lt-ltb, le-ltb}
 use Rattle.lent.specs.Bits.{hasBit, withBit}
 use Rattle.lent.specs.Tables.{if_then_else_}
-use Rattle.lent.proofs.Bits.{bit-with}
+use Rattle.lent.proofs.Bits.{bit-none, bit-with}
 use Rattle.machine.specs.Sizes.{keyCount}
 use Rattle.joins.specs.Joins.{item, pairBit, Sized, Noted}
 use Rattle.joins.proofs.Numbers.{same-or, item-zeros}
@@ -69,5 +68,5 @@ pub no-pairs : (k q : ℕ) → pairBit (replicate keyCount 0) (replicate keyCoun
 no-pairs k q = rw (item-zeros keyCount k) (go (ltb q 64))
   where
     go : (t : Bool) → (if t then hasBit 0 q else hasBit 0 (q - 64)) ≡ false
-    go true = rw zero-div
-    go false = rw zero-div
+    go true = bit-none q
+    go false = bit-none (q - 64)

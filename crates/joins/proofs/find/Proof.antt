@@ -1,6 +1,6 @@
-use Prim.Native.Nat.{ℕ, _-_, _≤_, _<_}
-use mathlib.Core.Path.{_≡_, refl, sym, ap, _∙_}
-use native.Mathlib.Omega.{arith}
+-- By the four returns, each the branch of `chosenPlace` that its tests choose.
+use Prim.Native.Nat.{ℕ, _-_}
+use mathlib.Core.Path.{sym, ap, _∙_}
 use borrow.Author.Tests.{eq-eqb, ne-eqb, lt-ltb, le-ltb}
 use Rattle.machine.specs.Sizes.{sessionCount}
 use Rattle.joins.specs.Joins.{item, chosenPlace, findPlace}

@@ -1,3 +1,4 @@
+-- Nothing is said of the hints, so only the bounds of the indices are shown.
 use borrow.Author.Needs.{needs}
 use Prim.Native.Nat.{_-_, _≤_}
 use Rattle.machine.specs.Sizes.{sessionCount}

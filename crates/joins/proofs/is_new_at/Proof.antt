@@ -1,6 +1,5 @@
-use mathlib.Core.Path.{_≡_, refl, sym, ap, _∙_}
-use borrow.Author.Tests.{eq-eqb, ne-eqb}
-use Rattle.machine.specs.Sound.{newAt}
+-- By the two returns: 0, and a number that is compared.
+use mathlib.Core.Path.{sym, _∙_}
 use Rattle.joins.proofs.Numbers.{new-zero, new-used}
 use borrow.Author.Needs.{needs}
 use Rattle.joins.proofs.is_new_at.Statement.{statement}

@@ -1,4 +1,4 @@
-use mathlib.Core.Path.{_≡_, refl}
+-- By the four returns, each the branch of `mayShare` that its tests choose.
 use borrow.Author.Tests.{eq-eqb, ne-eqb}
 use Rattle.joins.proofs.may_share.Statement.{statement}
 use Rattle.joins.proofs.may_share.Tie as tie

@@ -1,4 +1,5 @@
-use mathlib.Core.Path.{_≡_, refl, sym, ap, _∙_}
+-- The word read is the one that is tested and stored with its bit.
+use mathlib.Core.Path.{ap}
 use lib.ListN.{set}
 use borrow.Author.Needs.{needs}
 use Rattle.joins.proofs.note_bit.Statement.{statement}

@@ -1,4 +1,4 @@
-use mathlib.Core.Path.{_≡_, refl, sym, ap, _∙_}
+-- By the array that has the place.
 use Rattle.joins.proofs.Pairs.{noted-near, noted-far}
 use borrow.Author.Needs.{needs}
 use Rattle.joins.proofs.note_pair.Statement.{statement}

@@ -1,6 +1,7 @@
+-- The invariant: each row passed joins, and all is known at row i that `join` asks.
 use borrow.Author.Needs.{needs}
-use Prim.Native.Nat.{ℕ, _-_, _≤_}
-use mathlib.Core.Path.{_≡_, refl, sym, ap, _∙_}
+use Prim.Native.Nat.{_-_, _≤_}
+use mathlib.Core.Path.{_≡_, refl, sym, _∙_}
 use mathlib.Core.Bool.{true}
 use native.Mathlib.Omega.{arith}
 use borrow.Author.Tests.{not-true, not-false}
@@ -13,11 +14,6 @@ use Rattle.joins.proofs.Numbers.{gathered-none}
 use Rattle.joins.proofs.Pairs.{sized-none, no-pairs}
 use Rattle.joins.proofs.rows_join.Statement.{statement}
 use Rattle.joins.proofs.rows_join.Tie as tie
-use Rattle.joins.proofs.rows_join.Reads as reads
-use Rattle.joins.proofs.rows_join.Lts as lts
-use Rattle.joins.proofs.gather.Reads as gather-reads
-use Rattle.joins.proofs.hints.Reads as hints-reads
-use Rattle.joins.proofs.join.Reads as join-reads
 
 abbrev Inv-loop : tie.InvT-loop
 Inv-loop s nums hint seen₀ near₀ far₀ i₀ seen near far i = (i ≤ rowCount) × ((every (joinOk s) i ≡ true) × Ready s i nums hint seen near far)
@@ -25,40 +21,31 @@ Inv-loop s nums hint seen₀ near₀ far₀ i₀ seen near far i = (i ≤ rowCou
 abbrev μ-loop : tie.MeasureT-loop
 μ-loop s nums hint seen₀ near₀ far₀ i₀ seen near far i = rowCount - i
 
--- src/lib.rt:305:5
 gather-requires : tie.Need-gather-requires Inv-loop μ-loop
 gather-requires c κs = (search needs, (search needs, (search needs, gathered-none _)))
 
--- src/lib.rt:307:5
 hints-requires : tie.Need-hints-requires Inv-loop μ-loop
 hints-requires c κs = search needs
 
--- src/lib.rt:311:5
 loop-holds : tie.Need-loop-holds Inv-loop μ-loop
 unfolding every
 loop-holds c = (search needs, (refl, record { gathered = c .before .before .before .gather .ensures; sized = sized-none; rows = seen-none _ _ _ no-pairs }))
 
--- src/lib.rt:312:13
 join-requires : tie.Need-join-requires Inv-loop μ-loop
 join-requires c κs = (search needs, (search needs, c .before .before .before .before .before .before .loop .inv .1 .1))
 
--- src/lib.rt:313:13
 returns : tie.Need-returns Inv-loop μ-loop
 returns c = sym (every-fails _ rowCount (c .before .before .before .before .before .before .before .before .loop .i) (search needs) (sym (c .before .join .ensures .is) ∙ not-true _ (c .if1 .taken)))
 
--- src/lib.rt:311:9
 add-i : tie.Need-add-i Inv-loop μ-loop
 add-i c = search needs
 
--- src/lib.rt:311:5
 loop-less : tie.Need-loop-less Inv-loop μ-loop
 loop-less c = search needs
 
--- src/lib.rt:311:5
 loop-again : tie.Need-loop-again Inv-loop μ-loop
 loop-again c = (search needs, (every-more _ _ (c .before .before .before .before .before .before .before .before .loop .inv .1 .0) (sym (c .before .join .ensures .is) ∙ not-false _ (c .if1 .left)), c .before .join .ensures .next (not-false _ (c .if1 .left))))
 
--- src/lib.rt:300:1
 returns-2 : tie.Need-returns-2 Inv-loop μ-loop
 returns-2 c = let e : c .before .loop .i ≡ rowCount = omega arith in sym (rw e at (c .before .loop .inv .1 .0))
 

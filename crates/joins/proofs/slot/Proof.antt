@@ -1,4 +1,4 @@
-use mathlib.Core.Path.{_≡_, refl}
+-- The product is below 2^64, and 32 bits less 21 are 11.
 use Rattle.joins.specs.Joins.{slotOf}
 use borrow.Author.Needs.{needs}
 use Rattle.joins.proofs.slot.Statement.{statement}
