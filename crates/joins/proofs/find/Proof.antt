@@ -11,8 +11,8 @@ use Rattle.joins.proofs.find.Tie as tie
 places-requires : tie.Need-places-requires
 places-requires c κs = search needs
 
-cast-p : tie.Need-cast-p
-cast-p c = search needs
+cast-r : tie.Need-cast-r
+cast-r c = search needs
 
 returns : tie.Need-returns
 unfolding findPlace
@@ -54,7 +54,7 @@ find-spec =
     tie.close
     (tie.spec
     places-requires
-    cast-p
+    cast-r
     returns
     first-requires
     returns-2
