@@ -1,2 +1,4 @@
 pub mod Joins
-pub mod Marks
+pub mod Lookup
+pub mod Numbers
+pub mod Pairs

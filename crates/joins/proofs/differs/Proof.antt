@@ -1,60 +1,49 @@
+-- The invariant: no number passed is n.
 use borrow.Author.Needs.{needs}
 use borrow.Author.Tests.{eq-eqb, ne-eqb}
 use mathlib.Core.Path.{_≡_, refl, sym, ap, _∙_}
-use mathlib.Core.Bool.{Bool, true, false, not}
-use Prim.Native.Nat.{ℕ, _+_, _-_, _*_, _≤_, _<_}
+use mathlib.Core.Bool.{true, not}
+use Prim.Native.Nat.{_-_, _≤_}
 use native.Mathlib.Omega.{arith}
 use lib.Dec.{eqb}
-use Rattle.lent.specs.Bytes.{le32}
 use Rattle.lent.specs.Tables.{every}
-use Rattle.lent.proofs.Walks.{every-more, every-fails}
 use Rattle.lent.proofs.Tables.{place-fits}
+use Rattle.lent.proofs.Walks.{every-more, every-fails}
+use Rattle.joins.specs.Joins.{numbers}
 use Rattle.joins.proofs.differs.Statement.{statement}
 use Rattle.joins.proofs.differs.Tie as tie
-use Rattle.joins.proofs.differs.Reads as reads
-use Rattle.joins.proofs.differs.Lts as lts
-use Rattle.lent.proofs.load_u32.Reads as load-u32-reads
 
 abbrev Inv-loop : tie.InvT-loop
-Inv-loop s off w i n j₀ j = (j ≤ i) × (every (λ k. not (eqb (le32 s (off + k * w)) n)) j ≡ true)
+Inv-loop s off w i n j₀ j = (j ≤ i) × (every (λ k. not (eqb (numbers s off w k) n)) j ≡ true)
 
 abbrev μ-loop : tie.MeasureT-loop
 μ-loop s off w i n j₀ j = i - j
 
--- src/lib.rt:16:5
 loop-holds : tie.Need-loop-holds Inv-loop μ-loop
 unfolding every
 loop-holds c = (search needs, refl)
 
--- src/lib.rt:17:35
 mul-load-u32 : tie.Need-mul-load-u32 Inv-loop μ-loop
-mul-load-u32 c = let a = c .before .before .before .args in omega (arith, place-fits (c .before .loop .j) (a .i) (a .w) (omega arith))
+mul-load-u32 c = omega (arith, place-fits (c .before .loop .j) (c .before .before .before .args .i) (c .before .before .before .args .w) (omega arith))
 
--- src/lib.rt:17:29
 add-load-u32 : tie.Need-add-load-u32 Inv-loop μ-loop
-add-load-u32 c = let a = c .before .before .before .args in omega (arith, place-fits (c .before .loop .j) (a .i) (a .w) (omega arith))
+add-load-u32 c = omega (arith, place-fits (c .before .loop .j) (c .before .before .before .args .i) (c .before .before .before .args .w) (omega arith))
 
--- src/lib.rt:17:12
 load-u32-requires : tie.Need-load-u32-requires Inv-loop μ-loop
-load-u32-requires c κs = let a = c .before .before .before .args in omega (arith, place-fits (c .before .loop .j) (a .i) (a .w) (omega arith))
+load-u32-requires c κs = omega (arith, place-fits (c .before .loop .j) (c .before .before .before .args .i) (c .before .before .before .args .w) (omega arith))
 
--- src/lib.rt:18:13
 returns : tie.Need-returns Inv-loop μ-loop
 returns c = sym (every-fails _ _ (c .before .before .before .loop .j) (search needs) (ap not (eq-eqb _ _ (sym (c .before .load-u32 .ensures) ∙ c .if1 .taken))))
 
--- src/lib.rt:16:9
 add-j : tie.Need-add-j Inv-loop μ-loop
 add-j c = search needs
 
--- src/lib.rt:16:5
 loop-less : tie.Need-loop-less Inv-loop μ-loop
 loop-less c = search needs
 
--- src/lib.rt:16:5
 loop-again : tie.Need-loop-again Inv-loop μ-loop
 loop-again c = (search needs, every-more _ _ (c .before .before .before .loop .inv .1) (ap not (ne-eqb _ _ (λ e. c .if1 .left (c .before .load-u32 .ensures ∙ e)))))
 
--- src/lib.rt:12:1
 returns-2 : tie.Need-returns-2 Inv-loop μ-loop
 returns-2 c = let e : c .before .loop .j ≡ c .before .before .before .args .i = omega arith in sym (rw e at (c .before .loop .inv .1))
 
