@@ -1,21 +1,20 @@
 -- What GET comes to, case by case: each test of its list of refusals decided, in its order, then what the asker sees. A holder of a row
 -- meets no test beyond the session's; anyone else meets the test of the numbers only where a lease would be given.
 -- Assumes nothing.
-use mathlib.Core.Path.{_≡_, refl, sym, ap, _∙_}
+use mathlib.Core.Path.{_≡_, refl, sym, ap}
 use mathlib.Core.Bool.{Bool, true, false, not, _&&_}
 use mathlib.Core.List.{List, [], _∷_}
 use mathlib.Core.Option.{Option, none, some}
-use Prim.Native.Nat.{ℕ, suc, _+_, _≤_, _<_}
+use Prim.Native.Nat.{ℕ, _+_, _≤_, _<_}
 use native.Mathlib.Numerals.{add-one}
 use native.Mathlib.Omega.{arith}
 use lib.Dec.{eqb, leb}
 use lib.ListN.{length}
 use borrow.Author.Tests.{eq-eqb, ne-eqb, le-leb, lt-leb}
 use Rattle.lent.specs.Tables.{if_then_else_}
-use Rattle.lent.proofs.Choices.{clash}
 use Rattle.machine.specs.Sizes.{keyCount, sessionCount, rowCount, numberMax}
 use Rattle.machine.specs.Tables.{first}
-use Rattle.machine.specs.State.{Slot, noSession, session, Row, noRow, row, State, free, freeRow, numbered, ofOn, sessionPlace, sessionOf, sessionAt, rowPlace, rowOf, rowAt, cached}
+use Rattle.machine.specs.State.{Slot, noSession, session, Row, noRow, row, State, free, freeRow, numbered, ofOn, sessionPlace, sessionAt, rowPlace, rowOf, rowAt, cached}
 use Rattle.machine.specs.Expiry.{withKeys, withNumbers, setLease}
 use Rattle.machine.specs.Refusals.{Sight as Seen, blocked, cachedSight, sight, wouldLease, notLive, refusals}
 use Rattle.machine.specs.Effects.{Outcome, told, wait, leased, missed, looked as lookedAt, effect}

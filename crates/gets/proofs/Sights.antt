@@ -1,18 +1,18 @@
 -- What is seen on a key, by the marks in the bytes: a row's mark and kind decide between its staged value, nothing and the cached value, and
 -- a lookup decides between a row of one's own and none.
 -- Assumes nothing.
-use mathlib.Core.Path.{_≡_, refl, sym, ap, _∙_}
+use mathlib.Core.Path.{_≡_, refl, ap}
 use mathlib.Core.Bool.{true, false}
 use mathlib.Core.Option.{Option, none, some}
-use Prim.Native.Nat.{ℕ, _+_, _≤_}
+use Prim.Native.Nat.{ℕ}
 use native.Mathlib.Omega.{arith}
 use lib.ListN.{length}
 use borrow.Author.Tests.{eq-eqb, ne-eqb}
 use Rattle.lent.proofs.Choices.{clash}
 use Rattle.machine.specs.Sizes.{rowCount, valueAt, stagedAt}
 use Rattle.machine.specs.Tables.{isNone}
-use Rattle.machine.specs.State.{Value, Staged, nothing, staged, DROP, Row, noRow, row, State, ofOn, kindOf, stagedIn, rowAt, rowOf, rowPlace, cached}
-use Rattle.machine.specs.Refusals.{Sight as Seen, cachedSight, rowSight, sight}
+use Rattle.machine.specs.State.{Value, nothing, staged, DROP, Row, noRow, row, State, ofOn, kindOf, stagedIn, rowAt, rowOf, rowPlace, cached}
+use Rattle.machine.specs.Refusals.{cachedSight, rowSight, sight}
 use Rattle.layout.specs.Fields.{valueLength, stagedMark, stagedLength}
 use Rattle.layout.specs.Search.{found}
 use Rattle.layout.specs.declared.Found.{Found}

@@ -1,9 +1,9 @@
 -- What blocks a key and for how long, read from its lease and its rows. A row that is not on the key adds a deadline of 0, which changes no
 -- latest deadline, so each row adds something, and a walk from the last row to the first makes the latest one.
 -- Assumes nothing.
-use mathlib.Core.Path.{_≡_, refl, sym, ap, _∙_}
+use mathlib.Core.Path.{_≡_, refl, sym, _∙_}
 use mathlib.Core.Bool.{Bool, true, false}
-use mathlib.Core.List.{List, [], _∷_}
+use mathlib.Core.List.{List, _∷_}
 use mathlib.Core.Option.{Option, none, some}
 use Prim.Native.Nat.{ℕ, suc, _-_, _≤_, _<_, max}
 use native.Mathlib.Omega.{arith}
@@ -13,8 +13,8 @@ use lib.Seq.{drop-cons}
 use borrow.Author.Tests.{eq-eqb, ne-eqb}
 use Rattle.lent.specs.Tables.{if_then_else_}
 use Rattle.machine.specs.Sizes.{sessionCount, rowCount}
-use Rattle.machine.specs.Tables.{place, find, isNone}
-use Rattle.machine.specs.State.{Lease, Slot, noSession, session, Row, noRow, row, State, freeRow, numbered, on, kindOf, sessionPlace, sessionOf, sessionAt, rowAt, leaseOn}
+use Rattle.machine.specs.Tables.{place, isNone}
+use Rattle.machine.specs.State.{Lease, Slot, noSession, session, Row, noRow, row, State, numbered, on, kindOf, sessionPlace, sessionOf, sessionAt, rowAt, leaseOn}
 use Rattle.machine.specs.Sound.{sound, tokenIn}
 use Rattle.machine.specs.Refusals.{heldOn}
 use Rattle.machine.specs.Effects.{lifeEnd, slotEnd, later, latest, leaseEnd, lessNow, wait}

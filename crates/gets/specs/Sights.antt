@@ -1,5 +1,5 @@
 -- Where the value stands with which a GET would be answered HIT.
-use Prim.Native.Nat.{ℕ, _+_, _≤_}
+use Prim.Native.Nat.{_+_, _≤_}
 use mathlib.Core.Option.{Option, none, some}
 use lib.ListN.{length}
 use Rattle.machine.specs.Sizes.{stateSize}

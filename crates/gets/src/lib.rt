@@ -9,11 +9,13 @@ ghost use Rattle.machine.specs.Sizes.{stateSize, keyCount, rowCount, timeMax, n
 ghost use Rattle.machine.specs.State.{State, cached, rowAt};
 ghost use Rattle.machine.specs.Refusals.{cachedSight, rowSight, sight, notLive};
 ghost use Rattle.machine.specs.Effects.{leased};
+ghost use Rattle.machine.specs.Step.{show as showOf};
 ghost use Rattle.machine.specs.declared.Command.the-variants.{Get};
 ghost use Rattle.layout.specs.Holds.{Holds};
 ghost use Rattle.outcome.specs.Outcome.{tried, Gives, Does};
 ghost use Rattle.gets.specs.Sights.{placed, Inside};
 ghost use Rattle.gets.specs.Got.{asked as askedOf, absent as absentOf, others as othersOf};
+ghost use Rattle.gets.specs.Stretch.{Stretch};
 use layout::Found;
 use machine::Answer;
 
@@ -150,5 +152,44 @@ pub fn get(s: &mut [u8], time: u64, session: u64, key: u64) -> Answer
     match row {
         Found::At(i) => asked(row_sight(s, i, k)),
         Found::Nothing => others(s, time, k),
+    }
+}
+
+// The answer of SHOW: VALUE with the length, NONE, or the refusal.
+pub fn show(s: &[u8], session: u64, key: u64) -> Answer
+    requires { ⌜ length (now s) ≡ stateSize ⌝ }
+    ensures { λ r. ⌜ ((σ : State) → Holds (now (s .entry)) σ → r ≡ showOf σ session key .answer) ⌝ }
+{
+    if layout::KEY_COUNT as u64 <= key {
+        return Answer::Refused(3);
+    }
+    if is_unknown(s, session) {
+        return Answer::Refused(5);
+    }
+    let sight = look(s, session, key as usize);
+    match sight {
+        Sight::At { at: _, length } => Answer::Value(length),
+        Sight::Nothing => Answer::None,
+    }
+}
+
+// The stretch of SHOW, in the lent state itself; for NONE and on a refusal the empty one at its first byte.
+pub fn stretch(s: &[u8], session: u64, key: u64) -> &[u8]
+    requires { ⌜ length (now s) ≡ stateSize ⌝ }
+    ensures { λ r. ⌜ ((σ : State) → Holds (now (s .entry)) σ → Stretch (s .entry) r (showOf σ session key)) ⌝ }
+{
+    if layout::KEY_COUNT as u64 <= key {
+        return &s[..0];
+    }
+    if is_unknown(s, session) {
+        return &s[..0];
+    }
+    let sight = look(s, session, key as usize);
+    match sight {
+        Sight::At { at, length } => {
+            let end = at + length;
+            &s[at..end]
+        }
+        Sight::Nothing => &s[..0],
     }
 }

@@ -18,7 +18,8 @@ same-length : tie.Need-same-length
 same-length c = search needs
 
 returns : tie.Need-returns
-returns c = λ σ h e. rw (absent-blocked σ (c .before .before .before .before .before .before .args .time) (c .before .before .before .before .before .before .args .k) (sym (c .before .before .before .is-blocked .ensures σ h e) ∙ c .before .before .if1 .taken)) (record { answer = ap Answer.Backoff (c .wait .ensures σ h); holds = h })
+returns c = λ σ h e. let a = c .before .before .before .before .before .before .args in
+    rw (absent-blocked σ (a .time) (a .k) (sym (c .before .before .before .is-blocked .ensures σ h e) ∙ c .before .before .if1 .taken)) (record { answer = ap Answer.Backoff (c .wait .ensures σ h); holds = h })
 
 next-token-requires : tie.Need-next-token-requires
 next-token-requires c κs = search needs
@@ -30,7 +31,9 @@ same-length-2 : tie.Need-same-length-2
 same-length-2 c = search needs
 
 returns-2 : tie.Need-returns-2
-returns-2 c = λ σ h e. rw (absent-leased σ (c .before .before .before .before .before .before .before .before .before .before .before .before .args .time) (c .before .before .before .before .before .before .before .before .before .before .before .before .args .k) (sym (c .before .before .before .before .before .before .before .before .before .is-blocked .ensures σ h e) ∙ c .before .before .before .before .before .before .before .before .if1 .left) (omega (arith, c .before .before .before .before .before .before .next-token .ensures σ h))) (c .before .before .lease .ensures σ h (c .before .before .before .before .before .before .next-token .ensures σ h))
+returns-2 c = λ σ h e. let a = c .before .before .before .before .before .before .before .before .before .before .before .before .args in
+    let t = c .before .before .before .before .before .before .next-token .ensures σ h in
+    rw (absent-leased σ (a .time) (a .k) (sym (c .before .before .before .before .before .before .before .before .before .is-blocked .ensures σ h e) ∙ c .before .before .before .before .before .before .before .before .if1 .left) (omega (arith, t))) (c .before .before .lease .ensures σ h t)
 
 same-length-3 : tie.Need-same-length-3
 same-length-3 c = search needs
@@ -42,7 +45,8 @@ same-length-4 : tie.Need-same-length-4
 same-length-4 c = search needs
 
 returns-4 : tie.Need-returns-4
-returns-4 c = λ σ h e. rw (absent-refused σ (c .before .before .before .before .before .before .before .before .args .time) (c .before .before .before .before .before .before .before .before .args .k) (sym (c .before .before .before .before .before .is-blocked .ensures σ h e) ∙ c .before .before .before .before .if1 .left) (omega (arith, c .before .before .next-token .ensures σ h))) (record { answer = refl; holds = h })
+returns-4 c = λ σ h e. let a = c .before .before .before .before .before .before .before .before .args in
+    rw (absent-refused σ (a .time) (a .k) (sym (c .before .before .before .before .before .is-blocked .ensures σ h e) ∙ c .before .before .before .before .if1 .left) (omega (arith, c .before .before .next-token .ensures σ h))) (record { answer = refl; holds = h })
 
 pub absent-spec : {M : Type 1} → statement M
 absent-spec =

@@ -13,7 +13,8 @@ has-value-requires : tie.Need-has-value-requires
 has-value-requires c κs = search needs
 
 returns : tie.Need-returns
-returns c = (λ σ h. sym (ap placed (cached-absent (c .before .before .before .args .k) (cached σ (c .before .before .before .args .k)) (not-false _ (sym (c .before .has-value .ensures σ h) ∙ not-true _ (c .if1 .taken))))), tt)
+returns c = let k = c .before .before .before .args .k in
+    (λ σ h. sym (ap placed (cached-absent k (cached σ k) (not-false _ (sym (c .before .has-value .ensures σ h) ∙ not-true _ (c .if1 .taken))))), tt)
 
 mul-t5 : tie.Need-mul-t5
 mul-t5 c = search needs
@@ -28,7 +29,8 @@ value-length-requires : tie.Need-value-length-requires
 value-length-requires c κs = search needs
 
 returns-2 : tie.Need-returns-2
-returns-2 c = (λ σ h. rw (c .value-length .ensures .0 σ h) (sym (cached-there (c .before .before .before .before .args .k) (cached σ (c .before .before .before .before .args .k)) (not-true _ (sym (c .before .before .has-value .ensures σ h) ∙ not-false _ (c .before .if1 .left))))), omega (arith, c .value-length .ensures .1))
+returns-2 c = let k = c .before .before .before .before .args .k in
+    (λ σ h. rw (c .value-length .ensures .0 σ h) (sym (cached-there k (cached σ k) (not-true _ (sym (c .before .before .has-value .ensures σ h) ∙ not-false _ (c .before .if1 .left))))), omega (arith, c .value-length .ensures .1))
 
 pub cached-sight-spec : {M : Type 1} → statement M
 cached-sight-spec =

@@ -23,7 +23,8 @@ same-length : tie.Need-same-length
 same-length c = search needs
 
 returns : tie.Need-returns
-returns c = λ σ h e. lease-gives σ (c .before .before .before .before .before .before .before .before .before .before .before .args .time) (c .before .before .before .before .before .before .before .before .before .before .before .args .k) (c .before .before .before .before .before .before .before .before .before .before .before .args .token) (c .before .before .before .before .before .before .before .before .read-life .result) e (c .before .before .before .before .before .before .before .before .read-life .ensures .0 σ h) (c .before .before .store-next-token .ensures _ (c .before .before .before .before .before .before .put-lease .ensures σ h))
+returns c = λ σ h e. let a = c .before .before .before .before .before .before .before .before .before .before .before .args in
+    lease-gives σ (a .time) (a .k) (a .token) (c .before .before .before .before .before .before .before .before .read-life .result) e (c .before .before .before .before .before .before .before .before .read-life .ensures .0 σ h) (c .before .before .store-next-token .ensures _ (c .before .before .before .before .before .before .put-lease .ensures σ h))
 
 pub lease-spec : {M : Type 1} → statement M
 lease-spec =

@@ -21,13 +21,15 @@ same-length : tie.Need-same-length
 same-length c = search needs
 
 returns : tie.Need-returns
-returns c = λ σ h e. others-hit σ (c .before .before .before .before .before .before .args .time) (c .before .before .before .before .before .before .args .k) _ _ h (sym (c .before .before .before .cached-sight .ensures .0 σ h) ∙ c .before .sight .given .1)
+returns c = λ σ h e. let a = c .before .before .before .before .before .before .args in
+    others-hit σ (a .time) (a .k) _ _ h (sym (c .before .before .before .cached-sight .ensures .0 σ h) ∙ c .before .sight .given .1)
 
 same-length-2 : tie.Need-same-length-2
 same-length-2 c = search needs
 
 returns-2 : tie.Need-returns-2
-returns-2 c = λ σ h e. rw (others-absent σ (c .before .before .before .before .before .before .before .before .before .args .time) (c .before .before .before .before .before .before .before .before .before .args .k) (sym (c .before .before .before .before .before .before .cached-sight .ensures .0 σ h) ∙ c .before .before .before .before .enum-told .given .1)) (c .before .before .absent .ensures σ h e)
+returns-2 c = λ σ h e. let a = c .before .before .before .before .before .before .before .before .before .args in
+    rw (others-absent σ (a .time) (a .k) (sym (c .before .before .before .before .before .before .cached-sight .ensures .0 σ h) ∙ c .before .before .before .before .enum-told .given .1)) (c .before .before .absent .ensures σ h e)
 
 pub others-spec : {M : Type 1} → statement M
 others-spec =

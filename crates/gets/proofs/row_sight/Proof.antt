@@ -24,22 +24,26 @@ staged-length-requires : tie.Need-staged-length-requires
 staged-length-requires c κs = search needs
 
 returns : tie.Need-returns
-returns c = (λ σ h. rw (c .staged-length .ensures .0 σ h) (sym (row-staged (c .before .before .before .before .args .i) (c .before .before .before .before .args .k) (cached σ (c .before .before .before .before .args .k)) (rowAt σ (c .before .before .before .before .args .i)) (sym (c .before .before .mark .ensures σ h) ∙ c .before .if1 .taken))), omega (arith, c .staged-length .ensures .1))
+returns c = let a = c .before .before .before .before .args in
+    (λ σ h. rw (c .staged-length .ensures .0 σ h) (sym (row-staged (a .i) (a .k) (cached σ (a .k)) (rowAt σ (a .i)) (sym (c .before .before .mark .ensures σ h) ∙ c .before .if1 .taken))), omega (arith, c .staged-length .ensures .1))
 
 returns-2 : tie.Need-returns-2
-returns-2 c = (λ σ h. sym (ap placed (row-dropped (c .before .before .before .before .args .i) (c .before .before .before .before .args .k) (cached σ (c .before .before .before .before .args .k)) (rowAt σ (c .before .before .before .before .args .i)) (sym (c .before .before .mark .ensures σ h) ∙ c .if2 .taken))), tt)
+returns-2 c = let a = c .before .before .before .before .args in
+    (λ σ h. sym (ap placed (row-dropped (a .i) (a .k) (cached σ (a .k)) (rowAt σ (a .i)) (sym (c .before .before .mark .ensures σ h) ∙ c .if2 .taken))), tt)
 
 kind-requires : tie.Need-kind-requires
 kind-requires c κs = search needs
 
 returns-3 : tie.Need-returns-3
-returns-3 c = (λ σ h. sym (ap placed (row-invalidates (c .before .before .before .before .before .before .args .i) (c .before .before .before .before .before .before .args .k) (cached σ (c .before .before .before .before .before .before .args .k)) (rowAt σ (c .before .before .before .before .before .before .args .i)) (λ e. c .before .before .before .if1 .left (c .before .before .before .before .mark .ensures σ h ∙ e)) (λ e. c .before .before .if2 .left (c .before .before .before .before .mark .ensures σ h ∙ e)) (sym (c .before .kind .ensures σ h) ∙ c .if3 .taken))), tt)
+returns-3 c = let a = c .before .before .before .before .before .before .args in
+    (λ σ h. sym (ap placed (row-invalidates (a .i) (a .k) (cached σ (a .k)) (rowAt σ (a .i)) (λ e. c .before .before .before .if1 .left (c .before .before .before .before .mark .ensures σ h ∙ e)) (λ e. c .before .before .if2 .left (c .before .before .before .before .mark .ensures σ h ∙ e)) (sym (c .before .kind .ensures σ h) ∙ c .if3 .taken))), tt)
 
 cached-sight-requires : tie.Need-cached-sight-requires
 cached-sight-requires c κs = search needs
 
 returns-4 : tie.Need-returns-4
-returns-4 c = (λ σ h. c .cached-sight .ensures .0 σ h ∙ sym (ap placed (row-unstaged (c .before .before .before .before .before .before .before .args .i) (c .before .before .before .before .before .before .before .args .k) (cached σ (c .before .before .before .before .before .before .before .args .k)) (rowAt σ (c .before .before .before .before .before .before .before .args .i)) (λ e. c .before .before .before .before .if1 .left (c .before .before .before .before .before .mark .ensures σ h ∙ e)) (λ e. c .before .before .before .if2 .left (c .before .before .before .before .before .mark .ensures σ h ∙ e)) (λ e. c .before .if3 .left (c .before .before .kind .ensures σ h ∙ e)))), c .cached-sight .ensures .1)
+returns-4 c = let a = c .before .before .before .before .before .before .before .args in
+    (λ σ h. c .cached-sight .ensures .0 σ h ∙ sym (ap placed (row-unstaged (a .i) (a .k) (cached σ (a .k)) (rowAt σ (a .i)) (λ e. c .before .before .before .before .if1 .left (c .before .before .before .before .before .mark .ensures σ h ∙ e)) (λ e. c .before .before .before .if2 .left (c .before .before .before .before .before .mark .ensures σ h ∙ e)) (λ e. c .before .if3 .left (c .before .before .kind .ensures σ h ∙ e)))), c .cached-sight .ensures .1)
 
 pub row-sight-spec : {M : Type 1} → statement M
 row-sight-spec =

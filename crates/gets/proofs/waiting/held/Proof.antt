@@ -22,8 +22,8 @@ line-of-requires : tie.Need-line-of-requires
 line-of-requires c κs = search needs
 
 returns : tie.Need-returns
-returns c = (
-  λ σ h e. let r = held-row σ (c .before .before .before .before .before .before .before .args .k) (c .before .before .before .row .given .0 .0) (h .fits .rows) e (sym (c .before .before .before .before .before .first-on .ensures .0 σ h) ∙ c .before .before .before .row .given .1) in
+returns c = let k = c .before .before .before .before .before .before .before .args .k in (
+  λ σ h e. let r = held-row σ k (c .before .before .before .row .given .0 .0) (h .fits .rows) e (sym (c .before .before .before .before .before .first-on .ensures .0 σ h) ∙ c .before .before .before .row .given .1) in
       c .line-of .ensures .1 (rw (c .before .kind .ensures σ h) (r .1)) (rw (c .before .kind .ensures σ h) (r .2)) ∙ rw (c .before .kind .ensures σ h) (sym (r .0)),
   c .line-of .ensures .0,
 )
@@ -35,10 +35,12 @@ lease-token-requires : tie.Need-lease-token-requires
 lease-token-requires c κs = search needs
 
 returns-2 : tie.Need-returns-2
-returns-2 c = (λ σ h e. sym (held-free σ (c .before .before .before .before .before .before .args .k) (h .fits .rows) (sym (c .before .before .before .before .first-on .ensures .0 σ h) ∙ c .before .before .enum-told .given .1) (key-fits h (c .before .before .before .before .before .before .args .k) (omega arith) .lease) (sym (c .before .lease-token .ensures σ h) ∙ c .if1 .taken)), omega arith)
+returns-2 c = let k = c .before .before .before .before .before .before .args .k in
+    (λ σ h e. sym (held-free σ k (h .fits .rows) (sym (c .before .before .before .before .first-on .ensures .0 σ h) ∙ c .before .before .enum-told .given .1) (key-fits h k (omega arith) .lease) (sym (c .before .lease-token .ensures σ h) ∙ c .if1 .taken)), omega arith)
 
 returns-3 : tie.Need-returns-3
-returns-3 c = (λ σ h e. sym (held-lease σ (c .before .before .before .before .before .before .args .k) (h .fits .rows) (sym (c .before .before .before .before .first-on .ensures .0 σ h) ∙ c .before .before .enum-told .given .1) (λ q. c .if1 .left (c .before .lease-token .ensures σ h ∙ q))), omega arith)
+returns-3 c = let k = c .before .before .before .before .before .before .args .k in
+    (λ σ h e. sym (held-lease σ k (h .fits .rows) (sym (c .before .before .before .before .first-on .ensures .0 σ h) ∙ c .before .before .enum-told .given .1) (λ q. c .if1 .left (c .before .lease-token .ensures σ h ∙ q))), omega arith)
 
 pub held-spec : {M : Type 1} → statement M
 held-spec =

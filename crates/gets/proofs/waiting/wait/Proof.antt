@@ -17,7 +17,8 @@ less-now-requires : tie.Need-less-now-requires
 less-now-requires c κs = search needs
 
 returns : tie.Need-returns
-returns c = λ σ h. c .less-now .ensures ∙ rw (c .before .lease-until .ensures σ h) (sym (wait-lease σ (c .before .before .before .before .before .args .k) (c .before .before .before .before .before .args .time) (λ q. c .before .before .if1 .taken (c .before .before .before .lease-token .ensures σ h ∙ q))))
+returns c = λ σ h. let a = c .before .before .before .before .before .args in
+    c .less-now .ensures ∙ rw (c .before .lease-until .ensures σ h) (sym (wait-lease σ (a .k) (a .time) (λ q. c .before .before .if1 .taken (c .before .before .before .lease-token .ensures σ h ∙ q))))
 
 latest-requires : tie.Need-latest-requires
 latest-requires c κs = search needs
@@ -29,13 +30,15 @@ enum-told : tie.Need-enum-told
 enum-told c = search needs
 
 returns-2 : tie.Need-returns-2
-returns-2 c = λ σ h. sym (wait-rows σ (c .before .before .before .before .before .before .args .k) (c .before .before .before .before .before .before .args .time) (key-fits h (c .before .before .before .before .before .before .args .k) (omega arith) .lease) (sym (c .before .before .before .before .lease-token .ensures σ h) ∙ c .before .before .before .if1 .left) ∙ rw (← c .before .before .latest .ensures σ h, c .enum-told .given .1))
+returns-2 c = λ σ h. let a = c .before .before .before .before .before .before .args in
+    sym (wait-rows σ (a .k) (a .time) (key-fits h (a .k) (omega arith) .lease) (sym (c .before .before .before .before .lease-token .ensures σ h) ∙ c .before .before .before .if1 .left) ∙ rw (← c .before .before .latest .ensures σ h, c .enum-told .given .1))
 
 less-now-requires-2 : tie.Need-less-now-requires-2
 less-now-requires-2 c κs = search needs
 
 returns-3 : tie.Need-returns-3
-returns-3 c = λ σ h. c .less-now2 .ensures ∙ sym (wait-rows σ (c .before .before .before .before .before .before .before .before .args .k) (c .before .before .before .before .before .before .before .before .args .time) (key-fits h (c .before .before .before .before .before .before .before .before .args .k) (omega arith) .lease) (sym (c .before .before .before .before .before .before .lease-token .ensures σ h) ∙ c .before .before .before .before .before .if1 .left) ∙ rw (← c .before .before .before .before .latest .ensures σ h, c .before .before .life .given .1))
+returns-3 c = λ σ h. let a = c .before .before .before .before .before .before .before .before .args in
+    c .less-now2 .ensures ∙ sym (wait-rows σ (a .k) (a .time) (key-fits h (a .k) (omega arith) .lease) (sym (c .before .before .before .before .before .before .lease-token .ensures σ h) ∙ c .before .before .before .before .before .if1 .left) ∙ rw (← c .before .before .before .before .latest .ensures σ h, c .before .before .life .given .1))
 
 pub wait-spec : {M : Type 1} → statement M
 wait-spec =
