@@ -1,2 +1,3 @@
 pub mod Found
 pub mod Staged
+pub mod Tried

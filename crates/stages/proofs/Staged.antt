@@ -55,9 +55,9 @@ module _ (s : State) (n step k kind : ℕ) where
   live : first tests ≡ none → sessionOf s n ≡ session (sessionIn (sessionOf s n))
   live e = let r = session-of s n (first-none tests e 0) in rw (r .1)
 
-  pub staged-by : (u : Staged) → unless (first tests) s (stages s n step k u) ≡ stagedBy s u (stagingOf s n step k kind)
+  pub staged-by : (u : Staged) {r : Staging} → stagingOf s n step k kind ≡ r → unless (first tests) s (stages s n step k u) ≡ stagedBy s u r
   unfolding stages stagingOf
-  staged-by u = go (first tests) refl (ltb step (countOf s n))
+  staged-by u e = rw (← e) (go (first tests) refl (ltb step (countOf s n)))
     where
       set-next : first tests ≡ none → withStaged (withSession s n advanced) n k u ≡ stagedAt s (sessionPlace s n) (rowPlace s n k) (advanced (sessionIn (sessionOf s n))) u
       set-next e = ap (λ (y : Slot). withStaged (withSessions s (set (s .sessions) (sessionPlace s n) y)) n k u) (ap (onSlot advanced) (live e))
