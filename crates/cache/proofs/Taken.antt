@@ -28,7 +28,7 @@ module _ (s : State) (now : ℕ) (c : Command) (v : Value) where
   before-clock e h = rw (acted-late s now c v (rw (lt-ltb now (s .head .clock) e))) (record { answer = refl; holds = h })
 
   pub past-time : {b : List ℕ} → timeMax < now → Holds b s → Gives (acted s now c v) (Answer.Refused 2) b
-  past-time e h = rw (acted-late s now c v (rw (lt-ltb timeMax now e) (or-true _))) (record { answer = refl; holds = h })
+  past-time e h = rw (acted-late s now c v (rw (lt-ltb timeMax now e) (or-true (ltb now (s .head .clock))))) (record { answer = refl; holds = h })
 
   in-time : s .head .clock ≤ now → now ≤ timeMax → clockBad s now ≡ false
   in-time p q = rw (le-ltb now (s .head .clock) p, le-ltb timeMax now q)

@@ -24,7 +24,7 @@ same-length c = search needs
 
 returns : tie.Need-returns
 returns c = λ σ h e. let a = c .before .before .before .before .before .before .before .before .before .before .before .args in
-    lease-gives σ (a .time) (a .k) (a .token) (c .before .before .before .before .before .before .before .before .read-life .result) e (c .before .before .before .before .before .before .before .before .read-life .ensures .0 σ h) (c .before .before .store-next-token .ensures _ (c .before .before .before .before .before .before .put-lease .ensures σ h))
+    lease-gives σ (a .time) (a .k) (a .token) (c .before .before .before .before .before .before .before .before .read-life .result) e (c .before .before .before .before .before .before .before .before .read-life .ensures .0 σ h) (c .before .before .store-next-token .ensures _ (c .before .before .before .before .before .before .put-lease .ensures σ h (search needs)))
 
 pub lease-spec : {M : Type 1} → statement M
 lease-spec =
