@@ -54,7 +54,7 @@ same-length c = search needs
 -- src/lib.rt:66:9
 returns : tie.Need-returns
 returns c = λ σ h ok.
-    let q = c .before .before .before .before .before .before .before .before .before .copy-in .ensures ∙ splice-whole _ (c .before .before .before .before .before .before .before .before .before .before .before .before .before .before .args .s .now) (length-replicate 65536 0 ∙ sym (c .before .before .before .before .before .before .before .before .before .before .before .before .before .before .pre)) in
+    let q = c .before .before .before .before .before .before .before .before .before .copy-in .ensures ∙ splice-whole _ (c .before .before .before .before .before .before .before .before .before .before .before .before .before .before .args .s .now) (length-replicate {A = ℕ} 65536 0 ∙ sym (c .before .before .before .before .before .before .before .before .before .before .before .before .before .before .pre)) in
     let h1 = subst (λ (l : List ℕ). Holds l σ) (sym q) h in
     refused-lapsed σ (c .before .before .before .before .before .before .before .before .before .before .before .before .before .before .args .time) (c .before .before .before .before .before .before .before .before .before .before .before .before .before .before .args .command) (c .before .before .before .before .before .before .before .before .before .before .before .before .before .before .args .value .now) (sym (c .before .is-refused .ensures) ∙ c .if1 .taken) (c .before .before .before .still .ensures (expire (c .before .before .before .before .before .before .before .before .before .before .before .before .before .before .args .time) σ) (c .before .before .before .before .before .before .sweep .ensures σ h1 ok) (expire-sound σ (c .before .before .before .before .before .before .before .before .before .before .before .before .before .before .args .time) ok)) h
 
@@ -73,7 +73,7 @@ same-length-2 c = search needs
 -- src/lib.rt:57:1
 returns-2 : tie.Need-returns-2
 returns-2 c = λ σ h ok.
-    let q = c .before .before .before .before .before .before .before .before .before .before .before .before .before .before .copy-in .ensures ∙ splice-whole _ (c .before .before .before .before .before .before .before .before .before .before .before .before .before .before .before .before .before .before .before .args .s .now) (length-replicate 65536 0 ∙ sym (c .before .before .before .before .before .before .before .before .before .before .before .before .before .before .before .before .before .before .before .pre)) in
+    let q = c .before .before .before .before .before .before .before .before .before .before .before .before .before .before .copy-in .ensures ∙ splice-whole _ (c .before .before .before .before .before .before .before .before .before .before .before .before .before .before .before .before .before .before .before .args .s .now) (length-replicate {A = ℕ} 65536 0 ∙ sym (c .before .before .before .before .before .before .before .before .before .before .before .before .before .before .before .before .before .before .before .pre)) in
     let h1 = subst (λ (l : List ℕ). Holds l σ) (sym q) h in
     let g = c .before .before .before .before .before .before .before .before .still .ensures (expire (c .before .before .before .before .before .before .before .before .before .before .before .before .before .before .before .before .before .before .before .args .time) σ) (c .before .before .before .before .before .before .before .before .before .before .before .sweep .ensures σ h1 ok) (expire-sound σ (c .before .before .before .before .before .before .before .before .before .before .before .before .before .before .before .before .before .before .before .args .time) ok) in
     let n = holds-size (g .holds) in
