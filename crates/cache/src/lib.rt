@@ -25,7 +25,12 @@ fn act(s: &mut [u8], time: u64, command: Command, value: &[u8]) -> Answer
         Command::Fill { token, key } => fills::fill(s, token, key, value),
         Command::Quar { session, key, kind } => quars::quar(s, session, key, kind),
         Command::Stage { session, step, key } => stages::stage(s, session, step, key, value),
-        Command::Delta { session, step, key, operation } => Answer::Ticked,
+        Command::Delta {
+            session,
+            step,
+            key,
+            operation,
+        } => deltas::delta(s, session, step, key, operation, value),
         Command::Validate { session, count } => turns::validate(s, session, count),
         Command::Done { session } => turns::done(s, session),
         Command::Undo { session } => turns::undo(s, session),

@@ -1,3 +1,4 @@
+-- The copy holds the same state, the sweep makes it the expired one, and only an accepted command is copied back.
 use native.Mathlib.Omega.{arith}
 use lib.ListN.{length-replicate, length}
 use Rattle.layout.proofs.Formed.{holds-size}
@@ -12,65 +13,46 @@ use Rattle.cache.proofs.Taken.{refused-lapsed, accepted-lapsed}
 use borrow.Author.Needs.{needs}
 use Rattle.cache.proofs.lapsing.Statement.{statement}
 use Rattle.cache.proofs.lapsing.Tie as tie
-use Rattle.cache.proofs.lapsing.Reads as reads
-use Rattle.cache.proofs.lapsing.Lts as lts
-use Rattle.cache.proofs.still.Reads as still-reads
-use Rattle.lent.proofs.copy_in.Reads as copy-in-reads
-use Rattle.outcome.proofs.is_refused.Reads as is-refused-reads
-use Rattle.sweep.proofs.sweep.Reads as sweep-reads
 
--- src/lib.rt:62:19
 slice-aggregate-copy-in : tie.Need-slice-aggregate-copy-in
 slice-aggregate-copy-in c = search needs
 
--- src/lib.rt:62:5
 copy-in-requires : tie.Need-copy-in-requires
 copy-in-requires c κs = search needs
 
--- src/lib.rt:63:18
 slice-aggregate-sweep : tie.Need-slice-aggregate-sweep
 slice-aggregate-sweep c = search needs
 
--- src/lib.rt:63:5
 sweep-requires : tie.Need-sweep-requires
 sweep-requires c κs = search needs
 
--- src/lib.rt:64:19
 slice-aggregate-still : tie.Need-slice-aggregate-still
 slice-aggregate-still c = search needs
 
--- src/lib.rt:64:9
 still-requires : tie.Need-still-requires
 still-requires c κs = search needs
 
--- src/lib.rt:65:8
 is-refused-requires : tie.Need-is-refused-requires
 is-refused-requires c κs = search needs
 
--- src/lib.rt:66:9
 same-length : tie.Need-same-length
 same-length c = search needs
 
--- src/lib.rt:66:9
 returns : tie.Need-returns
 returns c = λ σ h ok.
     let q = c .before .before .before .before .before .before .before .before .before .copy-in .ensures ∙ splice-whole _ (c .before .before .before .before .before .before .before .before .before .before .before .before .before .before .args .s .now) (length-replicate {A = ℕ} 65536 0 ∙ sym (c .before .before .before .before .before .before .before .before .before .before .before .before .before .before .pre)) in
     let h1 = subst (λ (l : List ℕ). Holds l σ) (sym q) h in
     refused-lapsed σ (c .before .before .before .before .before .before .before .before .before .before .before .before .before .before .args .time) (c .before .before .before .before .before .before .before .before .before .before .before .before .before .before .args .command) (c .before .before .before .before .before .before .before .before .before .before .before .before .before .before .args .value .now) (sym (c .before .is-refused .ensures) ∙ c .if1 .taken) (c .before .before .before .still .ensures (expire (c .before .before .before .before .before .before .before .before .before .before .before .before .before .before .args .time) σ) (c .before .before .before .before .before .before .sweep .ensures σ h1 ok) (expire-sound σ (c .before .before .before .before .before .before .before .before .before .before .before .before .before .before .args .time) ok)) h
 
--- src/lib.rt:68:25
 slice-aggregate-copy-in-2 : tie.Need-slice-aggregate-copy-in-2
 slice-aggregate-copy-in-2 c = search needs
 
--- src/lib.rt:68:5
 copy-in-requires-2 : tie.Need-copy-in-requires-2
 copy-in-requires-2 c κs = search needs
 
--- src/lib.rt:57:1
 same-length-2 : tie.Need-same-length-2
 same-length-2 c = search needs
 
--- src/lib.rt:57:1
 returns-2 : tie.Need-returns-2
 returns-2 c = λ σ h ok.
     let q = c .before .before .before .before .before .before .before .before .before .before .before .before .before .before .copy-in .ensures ∙ splice-whole _ (c .before .before .before .before .before .before .before .before .before .before .before .before .before .before .before .before .before .before .before .args .s .now) (length-replicate {A = ℕ} 65536 0 ∙ sym (c .before .before .before .before .before .before .before .before .before .before .before .before .before .before .before .before .before .before .before .pre)) in

@@ -1,3 +1,4 @@
+-- A buffer that is not well formed is refused; else it holds the state that it decodes to.
 use mathlib.Core.Path.{_≡_, sym, _∙_}
 use borrow.Author.Tests.{not-true, not-false}
 use Rattle.layout.proofs.Formed.{formed}
@@ -5,32 +6,22 @@ use Rattle.cache.proofs.Taken.{ran-damaged, ran-formed}
 use borrow.Author.Needs.{needs}
 use Rattle.cache.proofs.run.Statement.{statement}
 use Rattle.cache.proofs.run.Tie as tie
-use Rattle.cache.proofs.run.Reads as reads
-use Rattle.cache.proofs.run.Lts as lts
-use Rattle.cache.proofs.settle.Reads as settle-reads
-use Rattle.state.proofs.well_formed.Reads as well-formed-reads
 
--- src/lib.rt:86:9
 well-formed-requires : tie.Need-well-formed-requires
 well-formed-requires c κs = search needs
 
--- src/lib.rt:87:9
 same-length : tie.Need-same-length
 same-length c = search needs
 
--- src/lib.rt:87:9
 returns : tie.Need-returns
 returns c = ran-damaged _ _ _ _ (sym (c .before .well-formed .ensures) ∙ not-true _ (c .if1 .taken))
 
--- src/lib.rt:89:5
 settle-requires : tie.Need-settle-requires
 settle-requires c κs = formed _ (sym (c .before .before .well-formed .ensures) ∙ not-false _ (c .before .if1 .left)) .size
 
--- src/lib.rt:83:1
 same-length-2 : tie.Need-same-length-2
 same-length-2 c = search needs
 
--- src/lib.rt:83:1
 returns-2 : tie.Need-returns-2
 returns-2 c = ran-formed _ _ _ _ _ _ (sym (c .before .before .before .before .before .well-formed .ensures) ∙ not-false _ (c .before .before .before .before .if1 .left)) (c .before .before .settle .ensures)
 
