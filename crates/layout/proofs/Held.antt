@@ -20,10 +20,10 @@ use Rattle.machine.specs.Tables.{isNone}
 use Rattle.machine.specs.State.{Value, Head, Key, Slot, noSession, Staged, nothing, staged, Row, noRow, row, State, blank, keyOf, cached, leaseOn, sessionAt, rowAt, kindOf, stagedIn}
 use Rattle.machine.specs.Expiry.{withHead, withKeys, withSessions, withRows}
 use Rattle.machine.specs.Sound.{tokenIn, numberIn}
-use Rattle.layout.specs.Layout.{encHead, decHead, encKey, encRow, encSession, sessionFrom}
+use Rattle.layout.specs.Layout.{padded, encHead, decHead, encKey, encRow, encSession, sessionFrom}
 use Rattle.layout.specs.Fields.{valueLength, leaseUntil, rowSession, rowKey, stagedMark, stagedLength, sessionIn}
 use Rattle.layout.specs.Holds.{HeadFits, KeyFits, SlotFits, RowFits, Fits, Holds}
-use Rattle.layout.proofs.Records.{key-there, key-length, key-value, key-token, key-until, row-session, row-key, row-kind, row-mark, row-length, row-value, session-number, session-from}
+use Rattle.layout.proofs.Records.{key-there, key-length, key-value, key-token, key-until, row-session, row-key, row-kind, row-mark, row-length, row-padded, row-value, session-number, session-from}
 use Rattle.layout.proofs.Places.{head-at, heads, key-at, row-at, session-at, put-head, put-key, put-row, put-session}
 use Rattle.layout.proofs.Formed.{holds-size}
 
@@ -53,7 +53,7 @@ module _ (b : List ℕ) (a w : ℕ) (x : List ℕ) (e : win b a w ≡ x) where
   pub le32-first : 4 ≤ w → le32 b a ≡ le32 x 0
   le32-first h = rw add-zero at (le32-at b a w x e 0 h)
 
-staged-short : (r : Row) (v : Value) → RowFits r → stagedIn r ≡ staged v → length v ≤ valueMax
+pub staged-short : (r : Row) (v : Value) → RowFits r → stagedIn r ≡ staged v → length v ≤ valueMax
 staged-short noRow v f e = absurd (let z : _≡_ {A = ℕ} 0 1 = cc in omega arith)
 staged-short (row n k d u) v f e = rw e at (f .staged)
 
@@ -176,6 +176,9 @@ module _ {b : List ℕ} {s : State} (h : Holds b s) where
     staged-stands v e =
         let f : length v ≤ valueMax = staged-short (rowAt s i) v row-fits e in
         win-at b (rowsFrom + i * rowWidth) rowWidth (encRow (rowAt s i)) row-held 8 (length v) (omega arith) ∙ row-value (rowAt s i) v e
+
+    pub staged-padded : (v : Value) → stagedIn (rowAt s i) ≡ staged v → win b (stagedAt i) valueMax ≡ padded v
+    staged-padded v e = win-at b (rowsFrom + i * rowWidth) rowWidth (encRow (rowAt s i)) row-held 8 valueMax (omega arith) ∙ row-padded (rowAt s i) v row-fits e
 
   -- a session
   module _ (i : ℕ) (l : i < sessionCount) where
