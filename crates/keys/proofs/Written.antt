@@ -1,10 +1,10 @@
 -- A key's value and its I lease written in the bytes: mark and length, then the value's 64 bytes; token, then deadline. The 64 bytes of a row's
 -- staged value are those of a key's value, so one copy moves both the value and the zeros behind it.
 -- Assumes nothing.
-use mathlib.Core.Path.{_≡_, refl, sym, ap, _∙_}
-use mathlib.Core.List.{List, [], _∷_, _++_}
+use mathlib.Core.Path.{_≡_, refl, sym, _∙_}
+use mathlib.Core.List.{List, [], _∷_}
 use mathlib.Core.Option.{Option, none, some}
-use Prim.Native.Nat.{ℕ, _+_, _*_, _≤_, _<_, _^_}
+use Prim.Native.Nat.{ℕ, _+_, _*_, _<_, _^_}
 use native.Mathlib.Omega.{arith}
 use lib.ListN.{length, getD, set}
 use lib.Seq.{getD-set-same, set-set}
@@ -19,6 +19,7 @@ use Rattle.layout.specs.Fields.{valueLength, stagedMark}
 use Rattle.layout.specs.Holds.{ValueFits, Holds}
 use Rattle.layout.proofs.Formed.{holds-size}
 use Rattle.layout.proofs.Held.{mark-held, staged-long, staged-padded, staged-short, row-fits}
+use Rattle.layout.proofs.Told.{staged-value}
 use Rattle.layout.proofs.Parts.{valueTag, value-put, lease-put}
 
 module _ {b : List ℕ} {s : State} (h : Holds b s) (k : ℕ) (l : k < keyCount) where
@@ -50,18 +51,10 @@ module _ {b : List ℕ} {s : State} (h : Holds b s) (k : ℕ) (l : k < keyCount)
         go DROP f = refl
 
     -- a value
-    staged-is : getD b (rowsFrom + i * rowWidth + 6) 0 ≡ 1 → (v : Value) × (stagedIn (rowAt s i) ≡ staged v)
-    staged-is e = go (stagedIn (rowAt s i)) refl (sym (mark-held h i m) ∙ e)
-      where
-        go : (u : Staged) → stagedIn (rowAt s i) ≡ u → stagedMark u ≡ 1 → (v : Value) × (stagedIn (rowAt s i) ≡ staged v)
-        go nothing q f = absurd (omega (arith, f))
-        go (staged v) q f = (v, q)
-        go DROP q f = absurd (omega (arith, f))
-
     pub staged-cached : getD b (rowsFrom + i * rowWidth + 6) 0 ≡ 1 → (n : ℕ) (x y : List ℕ) → n ≡ getD b (rowsFrom + i * rowWidth + 7) 0
         → x ≡ splice b (keysFrom + k * keyWidth) (1 ∷ n ∷ []) → y ≡ splice x (keysFrom + k * keyWidth + 16) (win x (rowsFrom + i * rowWidth + 8) valueMax)
         → Holds y (withKeys s (setValue (s .keys) k (toCache (stagedIn (rowAt s i)))))
-    staged-cached e n x y en ex ey = go (staged-is e)
+    staged-cached e n x y en ex ey = go (staged-value (stagedIn (rowAt s i)) (sym (mark-held h i m) ∙ e))
       where
         go : (v : Value) × (stagedIn (rowAt s i) ≡ staged v) → Holds y (withKeys s (setValue (s .keys) k (toCache (stagedIn (rowAt s i)))))
         go (v, q) =

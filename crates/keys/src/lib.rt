@@ -85,11 +85,7 @@ pub fn drop_lease(s: &mut [u8], k: usize)
     ensures { λ _. ⌜ ((σ : State) → Holds (now (s .entry)) σ → Holds (now (s .exit)) (withKeys σ (setLease (σ .keys) k none))) ⌝ }
 {
     let at = layout::KEYS_FROM + k * layout::KEY_WIDTH;
-    lent::clear(
-        s,
-        at + layout::KEY_TOKEN,
-        layout::KEY_VALUE - layout::KEY_TOKEN,
-    );
+    lent::clear(s, at + layout::KEY_TOKEN, layout::LEASE_SIZE);
 }
 
 // What row i stages becomes the value of key k; where that is nothing or DROP, the key becomes absent.

@@ -2,31 +2,33 @@
 -- the bytes are those of the table; and a row that is taken or staged in parts is written whole.
 -- Assumes nothing.
 use mathlib.Core.Path.{_≡_, refl, sym, ap, _∙_}
-use mathlib.Core.Bool.{Bool, true, false, _&&_}
+use mathlib.Core.Bool.{Bool, true, false}
 use mathlib.Core.List.{List, [], _∷_, _++_}
 use Prim.Native.Nat.{ℕ, _+_, _-_, _*_, _≤_, _<_, _^_}
 use native.Mathlib.Omega.{arith}
 use lib.Dec.{eqb}
 use lib.ListN.{length, set}
-use borrow.Author.Tests.{eq-eqb, ne-eqb}
+use borrow.Author.Tests.{eq-eqb, eqb-true, ne-eqb}
+use Rattle.lent.proofs.Choices.{and-yes, clash}
 use Rattle.lent.specs.Bytes.{bytes32, splice, zeros}
 use Rattle.lent.specs.Tables.{first}
 use Rattle.lent.proofs.Splice.{splice-next}
 use Rattle.lent.proofs.Walks.{first-cong, first-end, first-hit, first-miss}
 use Rattle.machine.specs.Sizes.{rowCount, rowsFrom, rowWidth, valueMax}
-use Rattle.machine.specs.Tables.{place}
-use Rattle.machine.specs.State.{Staged, nothing, Row, noRow, row, State, freeRow, of, on, ofOn, rowAt, rowPlace}
+use Rattle.machine.specs.Tables.{place, find}
+use Rattle.machine.specs.Refusals.{rowsFull}
+use Rattle.machine.specs.State.{Staged, nothing, Row, noRow, row, State, freeRow, of, on, ofOn, kindOf, stagedIn, rowAt, rowOf, rowPlace}
 use Rattle.machine.specs.Expiry.{withRows}
 use Rattle.machine.specs.Effects.{restaged}
 use Rattle.layout.specs.Layout.{stagedBytes, encRow}
 use Rattle.layout.specs.Fields.{rowSession, rowKey}
-use Rattle.layout.specs.Holds.{StagedFits, RowFits, Holds}
+use Rattle.layout.specs.Holds.{StagedFits, RowFits, Fits, Holds}
 use Rattle.layout.specs.Search.{found, startsWith}
 use Rattle.layout.specs.declared.Found.{Found}
 use Rattle.layout.proofs.Formed.{holds-size}
 use Rattle.layout.proofs.Held.{owner-held, row-fits, store-row}
 use Rattle.layout.proofs.Parts.{staged-put}
-use Rattle.layout.proofs.Search.{first-place, place-none}
+use Rattle.layout.proofs.Search.{first-place, found-at, found-entry, found-full, found-passes, found-room, nothing-entry, place-none}
 
 -- ---- whose a row is, and on which key
 
@@ -116,3 +118,57 @@ module _ {b : List ℕ} {s : State} (h : Holds b s) (i : ℕ) (l : i < rowCount)
       let t = holds-size h in
       let p : rowsFrom + i * rowWidth + 8 ≡ at + 6 + 2 = omega arith in
       rw (ey, ex, p, splice-next b (m ∷ n ∷ []) v (at + 6) 2 refl (omega arith), q) (staged-put h i l u f g)
+
+-- ---- what a search tells
+
+-- row i is the first that is of session n on key k
+pub record Owned (s : State) (n k i : ℕ) : Type 0 where
+  pub inside : i < rowCount
+  pub place : rowPlace s n k ≡ i
+  pub kind : ℕ
+  pub what : Staged
+  pub at : rowAt s i ≡ row n k kind what
+  pub of : rowOf s n k ≡ row n k kind what
+
+-- row i is the first on key k
+pub record First (s : State) (k i : ℕ) : Type 0 where
+  pub inside : i < rowCount
+  pub owner : ℕ
+  pub kind : ℕ
+  pub what : Staged
+  pub at : rowAt s i ≡ row owner k kind what
+  pub of : find (on k) noRow (s .rows) ≡ row owner k kind what
+
+on-some : (k : ℕ) (r : Row) → on k r ≡ true → r ≡ row (rowSession r) k (kindOf r) (stagedIn r)
+on-some k noRow e = clash false e refl
+on-some k (row m j d u) e = ap (λ (x : ℕ). row m x d u) (eqb-true j k e)
+
+of-on-some : (n k : ℕ) (r : Row) → ofOn n k r ≡ true → r ≡ row n k (kindOf r) (stagedIn r)
+of-on-some n k noRow e = clash false e refl
+of-on-some n k (row m j d u) e = let b = and-yes (eqb m n) (eqb j k) e in rw (eqb-true m n (b .0), eqb-true j k (b .1))
+
+module _ (s : State) (f : Fits s) where
+  pub row-found : (n k i : ℕ) → found rowCount (rowPlace s n k) ≡ Found.At i → Owned s n k i
+  row-found n k i e =
+      let p = found-at rowCount (rowPlace s n k) i e in
+      let q = of-on-some n k (rowAt s i) (found-passes (ofOn n k) noRow (s .rows) rowCount i (f .rows) e) in
+      record { inside = p .1; place = p .0; kind = kindOf (rowAt s i); what = stagedIn (rowAt s i); at = q; of = found-entry (ofOn n k) noRow (s .rows) rowCount i e ∙ q }
+
+  pub row-missing : (n k : ℕ) → found rowCount (rowPlace s n k) ≡ Found.Nothing → rowOf s n k ≡ noRow
+  row-missing n k e = nothing-entry (ofOn n k) noRow (s .rows) rowCount (f .rows) e
+
+  pub first-found : (k i : ℕ) → found rowCount (place (on k) (s .rows)) ≡ Found.At i → First s k i
+  first-found k i e =
+      let p = found-at rowCount (place (on k) (s .rows)) i e in
+      let q = on-some k (rowAt s i) (found-passes (on k) noRow (s .rows) rowCount i (f .rows) e) in
+      record { inside = p .1; owner = rowSession (rowAt s i); kind = kindOf (rowAt s i); what = stagedIn (rowAt s i); at = q; of = found-entry (on k) noRow (s .rows) rowCount i e ∙ q }
+
+  pub first-missing : (k : ℕ) → found rowCount (place (on k) (s .rows)) ≡ Found.Nothing → find (on k) noRow (s .rows) ≡ noRow
+  first-missing k e = nothing-entry (on k) noRow (s .rows) rowCount (f .rows) e
+
+  -- a free row, or none
+  pub rows-room : (i : ℕ) → found rowCount (place freeRow (s .rows)) ≡ Found.At i → rowsFull s ≡ false
+  rows-room i e = found-room freeRow noRow (s .rows) rowCount i (f .rows) e
+
+  pub rows-full : found rowCount (place freeRow (s .rows)) ≡ Found.Nothing → rowsFull s ≡ true
+  rows-full e = found-full freeRow noRow (s .rows) rowCount (f .rows) e

@@ -132,22 +132,15 @@ pub fn put(s: &mut [u8], i: usize, session: u32, key: usize, kind: u8)
     let at = layout::ROWS_FROM + i * layout::ROW_WIDTH;
     lent::store_u32(s, at, session);
     layout::store_pair(s, at + layout::ROW_KEY, key as u8, kind);
-    lent::clear(
-        s,
-        at + layout::ROW_STAGED,
-        layout::ROW_WIDTH - layout::ROW_STAGED,
-    );
+    lent::clear(s, at + layout::ROW_STAGED, layout::STAGED_SIZE);
 }
 
 pub fn free(s: &mut [u8], i: usize)
     requires { ⌜ (length (now s) ≡ stateSize) × (i < rowCount) ⌝ }
     ensures { λ _. ⌜ ((σ : State) → Holds (now (s .entry)) σ → Holds (now (s .exit)) (withRows σ (set (σ .rows) i noRow))) ⌝ }
 {
-    lent::clear(
-        s,
-        layout::ROWS_FROM + i * layout::ROW_WIDTH,
-        layout::ROW_WIDTH,
-    );
+    let at = layout::ROWS_FROM + i * layout::ROW_WIDTH;
+    lent::clear(s, at, layout::ROW_WIDTH);
 }
 
 // The value v, or DROP, is what a row that is not free stages.

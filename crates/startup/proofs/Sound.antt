@@ -1,17 +1,15 @@
 -- The fresh state is sound, so the bytes that START writes are well formed: every place of its tables is free, and of a free place nothing is
 -- asked.
 -- Assumes nothing.
-use mathlib.Core.Path.{_≡_, refl, sym, ap, _∙_}
-use mathlib.Core.Bool.{Bool, true, false, _&&_}
-use mathlib.Core.List.{List}
+use mathlib.Core.Path.{_≡_, refl, ap, _∙_}
+use mathlib.Core.Bool.{Bool, true, _&&_}
 use Prim.Native.Nat.{ℕ, _<_}
 use native.Mathlib.Omega.{arith}
-use lib.Dec.{eqb}
-use lib.ListN.{length, replicate, length-replicate, getD-replicate}
+use lib.ListN.{getD-replicate}
 use Rattle.lent.specs.Tables.{every}
 use Rattle.lent.proofs.Walks.{all-every}
 use Rattle.machine.specs.Sizes.{keyCount, sessionCount, rowCount}
-use Rattle.machine.specs.State.{Key, Slot, noSession, Row, noRow, State, blank, fresh, keyOf, sessionAt, rowAt}
+use Rattle.machine.specs.State.{Key, noSession, Row, noRow, State, blank, fresh, keyOf, sessionAt, rowAt}
 use Rattle.machine.specs.Sound.{lifetime, headSound, keySound, sessionSound, rowSound, tokenIn, numberIn, numberAt, tokenAt, newAt, distinct, numbersDistinct, tokensDistinct, liveRow, rowsLive, once, rowsOnce, shares, rowsAlone, leaseless, rowsLeaseless, joined, sized, sound}
 use Rattle.layout.specs.Layout.{encode}
 use Rattle.layout.specs.WellFormed.{wellFormed}

@@ -15,9 +15,6 @@ add-at c = search needs
 add-clear : tie.Need-add-clear
 add-clear c = search needs
 
-sub-clear : tie.Need-sub-clear
-sub-clear c = search needs
-
 clear-requires : tie.Need-clear-requires
 clear-requires c κs = search needs
 
@@ -28,5 +25,4 @@ returns : tie.Need-returns
 returns c = λ σ h. rw (c .before .before .clear .ensures) (lease-put h (c .before .before .before .before .before .args .k) (omega arith) none tt)
 
 pub drop-lease-spec : {M : Type 1} → statement M
-drop-lease-spec =
-    tie.close (tie.spec mul-at add-at add-clear sub-clear clear-requires same-length returns)
+drop-lease-spec = tie.close (tie.spec mul-at add-at add-clear clear-requires same-length returns)

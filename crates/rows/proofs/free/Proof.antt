@@ -7,11 +7,11 @@ use borrow.Author.Needs.{needs}
 use Rattle.rows.proofs.free.Statement.{statement}
 use Rattle.rows.proofs.free.Tie as tie
 
-mul-clear : tie.Need-mul-clear
-mul-clear c = search needs
+mul-at : tie.Need-mul-at
+mul-at c = search needs
 
-add-clear : tie.Need-add-clear
-add-clear c = search needs
+add-at : tie.Need-add-at
+add-at c = search needs
 
 clear-requires : tie.Need-clear-requires
 clear-requires c κs = search needs
@@ -24,4 +24,4 @@ unfolding encRow
 returns c = λ σ h. rw (c .before .before .clear .ensures) (store-row h (c .before .before .before .before .before .args .i) (omega arith) noRow tt)
 
 pub free-spec : {M : Type 1} → statement M
-free-spec = tie.close (tie.spec mul-clear add-clear clear-requires same-length returns)
+free-spec = tie.close (tie.spec mul-at add-at clear-requires same-length returns)

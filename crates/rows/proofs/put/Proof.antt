@@ -26,9 +26,6 @@ store-pair-requires c κs = search needs
 add-clear : tie.Need-add-clear
 add-clear c = search needs
 
-sub-clear : tie.Need-sub-clear
-sub-clear c = search needs
-
 clear-requires : tie.Need-clear-requires
 clear-requires c κs = search needs
 
@@ -49,7 +46,6 @@ put-spec =
     cast-store-pair
     store-pair-requires
     add-clear
-    sub-clear
     clear-requires
     same-length
     returns)
