@@ -4,6 +4,7 @@ use mathlib.Core.Bool.{Bool, true, false, _&&_}
 use mathlib.Core.List.{List, [], _∷_}
 use lib.ListN.{length}
 use lib.Dec.{leb, ltb}
+use Rattle.lent.specs.Bytes.{splice}
 use Rattle.lent.specs.Tables.{if_then_else_}
 use Rattle.counts.specs.declared.Count.{Count}
 use Rattle.counts.specs.declared.Count.the-variants.{Is, Not}
@@ -33,6 +34,10 @@ isCount v = leb 1 (length v) && leb (length v) digitsMax && allDigits v && leb (
 unfoldable pub readCount : List ℕ → Count
 readCount v = if isCount v then Is (numeral 0 v) else Not
 
+-- the count a with the digit b behind it
+unfoldable pub extended : ℕ → ℕ → Count
+extended a b = if digit b && leb (a * 10 + (b - 48)) countMax then Is (a * 10 + (b - 48)) else Not
+
 -- the digits of n before those of v, at most f of them; none is a leading zero, but the one digit of 0
 abbrev pub digits : ℕ → ℕ → List ℕ → List ℕ
 digits zero n v = v
@@ -40,6 +45,22 @@ digits (suc f) n v = let r = digits f (n / 10) ((48 + n % 10) ∷ v) in if ltb n
 
 abbrev pub decimal : ℕ → List ℕ
 decimal n = digits digitsMax n []
+
+-- how many digits n has
+unfoldable pub decimalLength : ℕ → ℕ
+decimalLength n = length (decimal n)
+
+-- a buffer once a number is written at its front, and the number of its digits
+pub record Written : Type 0 where
+  pub bytes : List ℕ
+  pub number : ℕ
+
+-- where the digits of n do not fit in s, s is as it was and the number 0
+unfoldable pub written : ℕ → List ℕ → Written
+written n s =
+    if leb (decimalLength n) (length s)
+    then record { bytes = splice s 0 (decimal n); number = decimalLength n }
+    else record { bytes = s; number = 0 }
 
 -- increment wraps at 2^64, decrement stops at 0
 abbrev pub raised : ℕ → ℕ → ℕ

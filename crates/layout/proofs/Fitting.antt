@@ -1,15 +1,15 @@
 -- Which states fit their bytes: each sound one, since its numbers lie below limits that their bytes can say, and each that is read from bytes.
 -- Assumes nothing.
-use mathlib.Core.Path.{_≡_, refl}
-use mathlib.Core.Bool.{Bool, true, false}
-use mathlib.Core.List.{List}
+use mathlib.Core.Path.{_≡_, refl, sym, ap, _∙_}
+use mathlib.Core.Bool.{Bool, true, false, _&&_}
+use mathlib.Core.List.{List, [], _∷_, _++_}
 use mathlib.Core.Option.{Option, none, some}
 use Prim.Native.Nat.{ℕ, _+_, _-_, _*_, _≤_, _<_, _^_}
 use native.Mathlib.Omega.{arith}
 use lib.Dec.{eqb, leb, ltb}
 use lib.ListN.{length, getD, drop, length-drop, length-take}
 use borrow.Author.Tests.{eqb-false, eqb-true, leb-true, ltb-true}
-use Rattle.lent.specs.Bytes.{Bytes, le32, le64, win}
+use Rattle.lent.specs.Bytes.{Bytes, le16, le32, le64, win}
 use Rattle.lent.specs.Tables.{if_then_else_, Each, every, readTab}
 use Rattle.lent.proofs.Choices.{and-yes}
 use Rattle.lent.proofs.Numbers.{le16-small, le32-small, le64-small}
@@ -21,6 +21,7 @@ use Rattle.machine.specs.State.{Value, Head, Lease, Key, Slot, noSession, sessi
 use Rattle.machine.specs.Words.{within, isKind}
 use Rattle.machine.specs.Sound.{clockSound, lifetime, nextSound, headSound, valueSound, cachedSound, given, leaseSound, keySound, lifeSound, sessionSound, stagedSound, rowSound, numberIn, numberAt, numbersDistinct, tokensDistinct, liveRow, rowsLive, joined, sized, sound}
 use Rattle.machine.specs.declared.Life.{Life}
+use Rattle.machine.specs.declared.Session.{Session}
 use Rattle.layout.specs.Layout.{lifeTime, decHead, decKey, decStaged, decRow, sessionFrom, decSession, decode}
 use Rattle.layout.specs.Fields.{rowSession}
 use Rattle.layout.specs.Holds.{HeadFits, ValueFits, LeaseFits, KeyFits, SlotFits, StagedFits, RowFits, Fits}

@@ -2,12 +2,12 @@
 -- are well formed exactly if it is sound.
 -- Assumes nothing.
 use mathlib.Core.Path.{_≡_, refl, sym, ap, _∙_}
-use mathlib.Core.Bool.{true}
+use mathlib.Core.Bool.{Bool, true, _&&_}
 use mathlib.Core.List.{List}
 use Prim.Native.Nat.{ℕ}
 use lib.Dec.{eqb}
 use lib.ListN.{length}
-use borrow.Author.Tests.{eqb-true}
+use borrow.Author.Tests.{eq-eqb, eqb-true}
 use Rattle.lent.specs.Bytes.{Bytes}
 use Rattle.lent.specs.Tables.{same}
 use Rattle.lent.proofs.Choices.{and-yes}

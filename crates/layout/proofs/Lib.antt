@@ -6,4 +6,3 @@ pub mod Formed
 pub mod Held
 pub mod Parts
 pub mod Search
-pub mod Told

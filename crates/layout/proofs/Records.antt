@@ -1,17 +1,17 @@
 -- Each record is read from its bytes as it was written: field by field, where the bytes of a number say it and a value is as long as its
 -- length byte says; so the whole record.
 -- Assumes nothing.
-use mathlib.Core.Path.{_≡_, refl, ap}
-use mathlib.Core.Bool.{false, not}
-use mathlib.Core.List.{List, _++_}
+use mathlib.Core.Path.{_≡_, refl, sym, ap, ap₂, _∙_}
+use mathlib.Core.Bool.{Bool, true, false, not}
+use mathlib.Core.List.{List, [], _∷_, _++_}
 use mathlib.Core.Option.{Option, none, some}
 use Prim.Native.Nat.{ℕ, _≤_, _<_, _^_}
 use native.Mathlib.Omega.{arith}
 use lib.Dec.{eqb}
 use lib.ListN.{length, getD}
-use lib.Seq.{take-all, take-at}
+use lib.Seq.{take-at}
 use borrow.Author.Tests.{ne-eqb}
-use Rattle.lent.specs.Bytes.{le32, le64, win}
+use Rattle.lent.specs.Bytes.{le16, le32, le64, win, zeros}
 use Rattle.lent.specs.Tables.{if_then_else_}
 use Rattle.lent.proofs.Numbers.{le16-bytes, le32-bytes, le64-bytes}
 use Rattle.machine.specs.Sizes.{valueMax}
@@ -19,10 +19,10 @@ use Rattle.machine.specs.Tables.{isNone}
 use Rattle.machine.specs.State.{Value, Head, Lease, Key, Slot, noSession, session, Staged, nothing, staged, DROP, Row, noRow, row, kindOf, stagedIn}
 use Rattle.machine.specs.Sound.{tokenIn, numberIn}
 use Rattle.machine.specs.declared.Life.{Life}
-use Rattle.layout.specs.Layout.{padded, encHead, decHead, valueMark, valueBytes, leaseBytes, encKey, decValue, decLease, decKey, encRow, decStaged, decRow, lifeTime, encSession, decLife, sessionFrom, decSession}
+use Rattle.machine.specs.declared.Session.{Session}
+use Rattle.layout.specs.Layout.{encHead, decHead, valueMark, valueBytes, leaseBytes, encKey, decValue, decLease, decKey, encRow, decStaged, decRow, lifeTime, encSession, decLife, sessionFrom, decSession}
 use Rattle.layout.specs.Fields.{valueLength, leaseUntil, rowSession, rowKey, stagedMark, stagedLength, sessionIn}
-use Rattle.layout.specs.Holds.{HeadFits, LeaseFits, KeyFits, SlotFits, RowFits}
-use Rattle.layout.proofs.Widths.{length-padded}
+use Rattle.layout.specs.Holds.{HeadFits, LeaseFits, KeyFits, Live, SlotFits, StagedFits, RowFits}
 
 -- a number that is not 0 is told from 0
 given-not-zero : (n : ℕ) → 1 ≤ n → eqb n 0 ≡ false
@@ -139,12 +139,6 @@ staged-bytes n k d v = take-at v _ (length v) refl
 pub row-value : (r : Row) (v : Value) → stagedIn r ≡ staged v → win (encRow r) 8 (length v) ≡ v
 row-value noRow v e = absurd (let z : _≡_ {A = ℕ} 0 1 = cc in omega arith)
 row-value (row n k d u) v e = rw e (staged-bytes n k d v)
-
--- its 64 bytes, zero behind the value
-pub row-padded : (r : Row) (v : Value) → RowFits r → stagedIn r ≡ staged v → win (encRow r) 8 valueMax ≡ padded v
-unfolding encRow win
-row-padded noRow v f e = absurd (let z : _≡_ {A = ℕ} 0 1 = cc in omega arith)
-row-padded (row n k d u) v f e = let g : length v ≤ valueMax = rw e at (f .staged) in rw e (take-all valueMax (padded v) (rw (length-padded v g) (omega arith)))
 
 staged-read : (n k d : ℕ) (u : Staged) → decStaged (encRow (row n k d u)) ≡ u
 unfolding encRow

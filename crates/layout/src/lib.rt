@@ -2,7 +2,7 @@
 // by the number that its records start with, and the writing of a value.
 ghost use mathlib.Core.Path.{_≡_};
 ghost use mathlib.Core.List.{[], _∷_};
-ghost use Prim.Native.Nat.{_+_, _*_, _≤_};
+ghost use Prim.Native.Nat.{_+_, _*_, _≤_, _<_};
 ghost use lib.ListN.{length};
 ghost use Rattle.lent.specs.Bytes.{splice};
 ghost use Rattle.lent.specs.Tables.{first};
@@ -38,8 +38,6 @@ pub const KEY_UNTIL: usize = 8;
 
 pub const KEY_VALUE: usize = 16;
 
-pub const LEASE_SIZE: usize = 12;
-
 // A Q row: session, key, kind, what is staged, its length, the value.
 pub const ROWS_FROM: usize = 20544;
 
@@ -56,8 +54,6 @@ pub const ROW_STAGED: usize = 6;
 pub const ROW_LENGTH: usize = 7;
 
 pub const ROW_VALUE: usize = 8;
-
-pub const STAGED_SIZE: usize = 66;
 
 // A session: number, 1 open or 2 sealed, count, deadline.
 pub const SESSIONS_FROM: usize = 48192;

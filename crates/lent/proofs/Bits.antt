@@ -1,14 +1,13 @@
 -- The bits of a number with one more bit: a bit of `a | b` is the larger of the two bits, and a power of two has one bit.
 -- Assumes nothing.
-use mathlib.Core.Path.{_≡_, refl, sym, ap, _∙_}
-use mathlib.Core.Bool.{Bool, true, false, _||_, or-true, or-false}
-use Prim.Native.Nat.{ℕ, zero, suc, _+_, _*_, _/_, _%_, _^_, _<_, max}
-use native.Mathlib.Nat.{div-eq-of-lt, div-one, mod-eq-of-lt, mul-div-mul-right, mul-mod-left, one-mul, pow-suc, zero-max}
+use mathlib.Core.Path.{_≡_, refl, _∙_}
+use mathlib.Core.Bool.{false, _||_}
+use Prim.Native.Nat.{ℕ, zero, suc, _*_, _/_, _%_, _^_, _<_, max}
+use native.Mathlib.Nat.{div-eq-of-lt, div-one, mod-eq-of-lt, mul-div-mul-right, mul-mod-left, one-mul, pow-suc, zero-div, zero-max}
 use native.Mathlib.Omega.{arith}
 use lib.Dec.{eqb, lit<, eqb·zero-suc, eqb·suc-zero, eqb·suc-suc}
-use lib.Pow.{pow-lt, pow-pos}
+use lib.Pow.{pow-lt}
 use lib.Bits.{bitOr, or-step, or-shr}
-use borrow.Author.Tests.{eq-eqb, ne-eqb}
 use Rattle.lent.specs.Bits.{hasBit, withBit}
 
 or-low : (a b : ℕ) → bitOr a b % 2 ≡ max (a % 2) (b % 2)
@@ -30,6 +29,9 @@ bit-power zero zero = refl
 bit-power zero (suc c) = rw (div-eq-of-lt (pow-lt {i = 0} {j = suc c} (omega arith)), eqb·suc-zero)
 bit-power (suc b) zero = rw (div-one, pow-suc 2 b, mul-mod-left (2 ^ b) 2, eqb·zero-suc b)
 bit-power (suc b) (suc c) = rw (pow-suc 2 b, pow-suc 2 c, mul-div-mul-right (2 ^ b) (2 ^ c) (lit< tt), eqb·suc-suc) (bit-power b c)
+
+pub bit-none : (c : ℕ) → hasBit 0 c ≡ false
+bit-none c = rw zero-div
 
 pub bit-with : (m b c : ℕ) → hasBit (withBit m b) c ≡ hasBit m c || eqb c b
 bit-with m b c = bit-or m (2 ^ b) c ∙ rw (bit-power b c)

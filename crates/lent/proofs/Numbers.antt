@@ -1,17 +1,15 @@
 -- Numbers in bytes: the bytes of a number say it, and bytes are those of the number that they say. Both hold for any number of bytes by
 -- induction, with `digits` and `number`; the widths of `specs/` are two and four digits, and two halves of four.
 -- Assumes nothing.
-use mathlib.Core.Path.{_≡_, refl, sym, ap, ap₂, _∙_}
+use mathlib.Core.Path.{_≡_, refl, sym, ap₂, _∙_}
 use mathlib.Core.Bool.{_&&_}
 use mathlib.Core.List.{List, [], _∷_, _++_}
 use Prim.Native.Nat.{ℕ, zero, suc, _+_, _*_, _/_, _%_, _^_, _≤_, _<_}
 use native.Mathlib.Nat.{add-assoc, div-add-mod', div-div-eq-div-mul, div-lt-iff-lt-mul, pow-suc, suc-add, suc-mul}
-use native.Mathlib.Numerals.{add-one}
 use native.Mathlib.Omega.{arith}
 use lib.Arith.{digits-div, digits-mod}
 use lib.Dec.{eqb, eqb·suc-zero}
-use lib.ListN.{length, getD, drop}
-use lib.Seq.{drop-cons}
+use lib.ListN.{length, getD}
 use borrow.Author.Tests.{eq-eqb, ne-eqb}
 use Rattle.lent.specs.Bytes.{Bytes, le16, bytes16, le32, bytes32, le64, bytes64, win}
 use Rattle.lent.specs.Tables.{allZero}

@@ -4,7 +4,7 @@
 use mathlib.Core.Path.{_≡_, refl, sym, ap, _∙_}
 use mathlib.Core.Bool.{Bool, true, false}
 use mathlib.Core.List.{List, [], _∷_, _++_, append-assoc, append-nil}
-use Prim.Native.Nat.{ℕ, zero, suc, _+_, _-_, _≤_, _<_, min}
+use Prim.Native.Nat.{ℕ, zero, suc, _+_, _-_, _≤_, _<_}
 use native.Mathlib.Nat.{add-zero, zero-add, suc-add, add-sub-cancel-left}
 use native.Mathlib.Numerals.{add-one}
 use native.Mathlib.Omega.{arith}
@@ -114,6 +114,9 @@ splice-next s x y a n e h =
     let d : drop (a + n + length y) (take a s ++ x ++ drop (a + n) s) ≡ drop (a + n + length y) s =
     rw (← p, drop-append-add, drop-drop) in
     rw (e, ← append-assoc (take a s) x (drop (a + n) s), take-at (take a s ++ x) (drop (a + n) s) (a + n) p, d, q) (simp append-assoc)
+
+pub splice-then : (s t u x y : List ℕ) (a n : ℕ) → t ≡ splice s a x → u ≡ splice t (a + n) y → length x ≡ n → a + n + length y ≤ length s → u ≡ splice s a (x ++ y)
+splice-then s t u x y a n e f l h = f ∙ rw e (splice-next s x y a n l h)
 
 -- behind a front p nothing changes but the place
 pub splice-append : (p r x : List ℕ) (n k : ℕ) → length p ≡ n → splice (p ++ r) (n + k) x ≡ p ++ splice r k x

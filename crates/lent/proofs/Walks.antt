@@ -2,8 +2,8 @@
 -- turn, and what its result says of the indices. All by induction on the number of indices.
 -- Assumes nothing.
 use mathlib.Core.Path.{_≡_, refl, sym, ap, _∙_}
-use mathlib.Core.Logic.{_⊎_, ⊎-elim, inl, inr}
-use mathlib.Core.Bool.{Bool, true, false, not, _&&_, _||_, and-true, and-false, and-assoc, or-true}
+use mathlib.Core.Logic.{⊎-elim}
+use mathlib.Core.Bool.{Bool, true, false, _&&_, _||_, and-true, and-assoc, or-true}
 use Prim.Native.Nat.{ℕ, zero, suc, _+_, _-_, _≤_, _<_}
 use native.Mathlib.Nat.{eq-or-lt-of-le, le-of-suc-le-suc, not-suc-le-zero}
 use native.Mathlib.Omega.{arith}
@@ -145,11 +145,11 @@ module _ {A : Type 0} (p : ℕ → Bool) (hit : ℕ → A) (miss : A) where
       (λ l. rw (f i (omega arith) l) (first-is n (suc i) k l (omega arith) e (λ j u v. f j (omega arith) v)))
       (eq-or-lt-of-le a)
 
-pub first-cong : {A : Type 0} (p q : ℕ → Bool) (hit : ℕ → A) (miss : A) (n i : ℕ) → ((k : ℕ) → k < i + n → p k ≡ q k) → first p hit miss i n ≡ first q hit miss i n
+pub first-cong : {A : Type 0} (p q : ℕ → Bool) (hit : ℕ → A) (miss : A) (n i : ℕ) → ((k : ℕ) → i ≤ k → k < i + n → p k ≡ q k) → first p hit miss i n ≡ first q hit miss i n
 unfolding first
 first-cong p q hit miss zero i e = refl
 first-cong p q hit miss (suc n) i e =
-    rw (e i (omega arith), first-cong p q hit miss n (suc i) (λ k h. e k (omega arith)))
+    rw (e i (omega arith) (omega arith), first-cong p q hit miss n (suc i) (λ k a b. e k (omega arith) (omega arith)))
 
 -- ---- a step for each index
 

@@ -1,12 +1,12 @@
 -- Bytes that are all 0: their `|` is 0, and they are the list of zeros.
 -- Assumes nothing.
-use mathlib.Core.Path.{_≡_, refl, sym, ap, _∙_}
-use mathlib.Core.Bool.{Bool, true, false, _&&_, and-true, and-assoc}
+use mathlib.Core.Path.{_≡_, refl, sym, _∙_}
+use mathlib.Core.Bool.{true, _&&_, and-true, and-assoc}
 use mathlib.Core.List.{List, [], _∷_, _++_}
-use Prim.Native.Nat.{ℕ, zero, suc, _+_, _≤_, _<_}
+use Prim.Native.Nat.{ℕ, zero, suc, _+_, _<_}
 use native.Mathlib.Omega.{arith}
 use lib.Dec.{eqb, eqb·suc-zero}
-use lib.Bits.{bitOr, bitAnd, or-zero-l, or-add-and, and-le-r}
+use lib.Bits.{bitOr, or-zero-l, or-add-and, and-le-r}
 use lib.ListN.{getD, length}
 use borrow.Author.Tests.{eqb-true, ne-eqb}
 use Rattle.lent.specs.Bytes.{win, zeros}

@@ -25,7 +25,9 @@ pub fn load_u16(s: &[u8], at: usize) -> u32
     requires { ⌜ at + 2 ≤ length (now s) ⌝ }
     ensures { λ r. ⌜ (r ≡ le16 (now (s .entry)) at) × (r < 65536) ⌝ }
 {
-    wide(s[at]) + wide(s[at + 1]) * 256
+    let low = wide(s[at]);
+    let high = wide(s[at + 1]);
+    low + high * 256
 }
 
 pub fn load_u32(s: &[u8], at: usize) -> u32
@@ -64,10 +66,8 @@ pub fn store_u32(s: &mut [u8], at: usize, v: u32)
     requires { ⌜ at + 4 ≤ length (now s) ⌝ }
     ensures { λ _. ⌜ now (s .exit) ≡ splice (now (s .entry)) at (bytes32 v) ⌝ }
 {
-    s[at] = (v % 256) as u8;
-    s[at + 1] = (v / 256 % 256) as u8;
-    s[at + 2] = (v / 65536 % 256) as u8;
-    s[at + 3] = (v / 16777216 % 256) as u8;
+    store_u16(s, at, v);
+    store_u16(s, at + 2, v / 65536);
 }
 
 pub fn store_u64(s: &mut [u8], at: usize, v: u64)

@@ -23,7 +23,7 @@ abbrev pub verdictOf : ℕ → Verdict
 verdictOf n = if eqb n 0 then Grant else if eqb n 1 then Void else if eqb n 2 then BackOff else Abort
 
 -- within a list the default does not matter
-getD-any : {A : Type 0} (l : List A) (i : ℕ) (d e : A) → i < length l → getD l i d ≡ getD l i e
+pub getD-any : {A : Type 0} (l : List A) (i : ℕ) (d e : A) → i < length l → getD l i d ≡ getD l i e
 getD-any [] i d e h = absurd (omega arith)
 getD-any (x ∷ l) zero d e h = refl
 getD-any (x ∷ l) (suc i) d e h = getD-any l i d e (omega arith)

@@ -10,3 +10,5 @@ pub mod Refusals
 pub mod Effects
 pub mod Step
 pub mod World
+pub mod Test
+pub mod Examples

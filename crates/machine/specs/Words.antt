@@ -1,8 +1,11 @@
 -- The words of document 01: each answer's word by number and what goes with it; kinds and operations.
 use mathlib.Core.Bool.{Bool, _&&_}
+use mathlib.Core.List.{List, [], _∷_}
 use Prim.Native.Nat.{ℕ}
 use lib.Dec.{leb}
 use Rattle.machine.specs.declared.Answer.{Answer}
+use Rattle.machine.specs.declared.Command.{Command}
+use Rattle.machine.specs.declared.Command.the-variants.{Begin, Get, Fill, Quar, Stage, Delta, Validate, Done, Undo, Evict, Tick}
 
 -- READY, then the words in the order of the commands, then SHOW's; 0 for a refusal
 abbrev pub wordOf : Answer → ℕ
@@ -69,3 +72,17 @@ isKind d = within 1 3 d
 -- 1 append, 2 prepend, 3 increment, 4 decrement
 abbrev pub isOperation : ℕ → Bool
 isOperation o = within 1 4 o
+
+-- the words with which each accepted command can be answered
+abbrev pub wordsOf : Command → List ℕ
+wordsOf Begin = 2 ∷ []
+wordsOf (Get n k) = 3 ∷ 4 ∷ 5 ∷ 6 ∷ []
+wordsOf (Fill t k) = 7 ∷ 8 ∷ []
+wordsOf (Quar n k d) = 9 ∷ 10 ∷ 11 ∷ []
+wordsOf (Stage n i k) = 12 ∷ 13 ∷ []
+wordsOf (Delta n i k o) = 12 ∷ 13 ∷ 14 ∷ []
+wordsOf (Validate n m) = 15 ∷ 16 ∷ []
+wordsOf (Done n) = 17 ∷ []
+wordsOf (Undo n) = 18 ∷ []
+wordsOf (Evict k) = 19 ∷ 20 ∷ []
+wordsOf Tick = 21 ∷ []

@@ -3,15 +3,16 @@ use mathlib.Core.Path.{_≡_}
 use mathlib.Core.Bool.{Bool, true, false, not, _&&_, _||_}
 use mathlib.Core.Logic.{_⊎_}
 use mathlib.Core.List.{List, [], _∷_, List·Memᴰ}
-use mathlib.Core.Option.{Option, none, some}
+use mathlib.Core.Option.{none, some}
 use Prim.Native.Nat.{ℕ}
 use lib.Dec.{eqb}
 use lib.ListN.{getD}
 use Rattle.lent.specs.Tables.{if_then_else_}
 use Rattle.machine.specs.Tables.{any}
 use Rattle.machine.specs.Words.{wordOf, detailOf}
-use Rattle.machine.specs.State.{Value, Slot, session, Staged, staged, Row, noRow, row, State, fresh, on, rowOf, cached, sessionAt, rowAt}
+use Rattle.machine.specs.State.{Value, session, Staged, staged, Row, noRow, row, State, fresh, on, rowOf, cached, sessionAt, rowAt}
 use Rattle.machine.specs.Expiry.{expire}
+use Rattle.machine.specs.Refusals.{notLive}
 use Rattle.machine.specs.Effects.{Outcome}
 use Rattle.machine.specs.Step.{step, show}
 use Rattle.machine.specs.declared.Life.{Life}
@@ -27,7 +28,7 @@ pub data Event : Type 0 where
 
 -- the cache and the register, and what the rules and the promise speak of:
 -- what the register held for a key when its unbroken quarantine began; by token and key, what it has held since the
--- token's grant; and whether it has written for a session
+-- token's grant; and whether it has written for a session while it was live
 pub record World : Type 0 where
   pub state : State
   pub register : ℕ → Value
@@ -63,7 +64,7 @@ written w n k v = record {
   register = λ j. if eqb j k then v else w .register j;
   began = w .began;
   since = λ t j. if eqb j k then v ∷ w .since t j else w .since t j;
-  wrote = λ m. eqb m n || w .wrote m;
+  wrote = λ m. eqb m n && not (notLive (w .state) n) || w .wrote m;
 }
 
 abbrev pub next : World → Event → World

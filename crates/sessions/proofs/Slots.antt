@@ -1,34 +1,32 @@
 -- A place of the session table in the bytes: its fields where they stand, and its number, which tells a free place and a session apart since no
 -- session has the number 0. So a search of the bytes by a number is a search of the table.
 -- Assumes nothing.
-use mathlib.Core.Path.{_≡_, refl, sym, _∙_}
+use mathlib.Core.Path.{_≡_, refl, sym, ap, _∙_}
 use mathlib.Core.Bool.{Bool, true, false}
 use mathlib.Core.List.{List, [], _∷_, _++_}
 use Prim.Native.Nat.{ℕ, _+_, _*_, _≤_, _<_}
 use native.Mathlib.Omega.{arith}
-use lib.Dec.{eqb}
+use lib.Dec.{eqb, ltb}
 use lib.ListN.{length, getD, set}
-use borrow.Author.Tests.{eqb-true, ne-eqb}
+use borrow.Author.Tests.{le-ltb, ne-eqb}
 use Rattle.lent.specs.Bytes.{le16, bytes16, le32, bytes32, le64, bytes64, splice, win}
-use Rattle.lent.specs.Tables.{first}
-use Rattle.lent.proofs.Choices.{clash}
-use Rattle.lent.proofs.Splice.{splice-next}
+use Rattle.lent.specs.Tables.{if_then_else_, first}
+use Rattle.lent.proofs.Splice.{length-splice, splice-next}
 use Rattle.lent.proofs.Walks.{first-cong}
-use Rattle.machine.specs.Sizes.{sessionCount, sessionsFrom, sessionWidth}
+use Rattle.machine.specs.Sizes.{sessionCount, sessionsFrom, sessionWidth, stateSize}
 use Rattle.machine.specs.Tables.{place}
-use Rattle.machine.specs.State.{Slot, noSession, session, State, free, numbered, sessionAt, sessionOf, sessionPlace}
-use Rattle.machine.specs.Refusals.{sessionsFull}
+use Rattle.machine.specs.State.{Slot, noSession, session, State, free, numbered, sessionAt, sessionPlace}
 use Rattle.machine.specs.Sound.{numberIn}
 use Rattle.machine.specs.declared.Life.{Life}
 use Rattle.machine.specs.declared.Session.{Session}
 use Rattle.machine.specs.Expiry.{withSessions}
 use Rattle.layout.specs.Layout.{encSession, lifeMark, lifeTime, decLife, sessionFrom}
-use Rattle.layout.specs.Holds.{Live, SlotFits, Fits, Holds}
+use Rattle.layout.specs.Holds.{Live, SlotFits, Holds}
 use Rattle.layout.specs.Search.{found, startsWith}
 use Rattle.layout.specs.declared.Found.{Found}
 use Rattle.layout.proofs.Held.{byte-at, le16-at, le32-first, le64-at, number-held, session-fits, store-session}
 use Rattle.layout.proofs.Formed.{holds-size}
-use Rattle.layout.proofs.Search.{first-place, found-at, found-entry, found-full, found-passes, found-room, nothing-entry, place-none}
+use Rattle.layout.proofs.Search.{first-place, place-none}
 
 -- ---- fields
 
@@ -83,8 +81,8 @@ module _ {b : List ℕ} {s : State} (h : Holds b s) where
   number-search : (p : Slot → Bool) (n : ℕ) → ((e : Slot) → SlotFits e → eqb (numberIn e) n ≡ p e)
       → first (startsWith b sessionsFrom sessionWidth n) Found.At Found.Nothing 0 sessionCount ≡ found sessionCount (place p (s .sessions))
   number-search p n q =
-      first-cong (startsWith b sessionsFrom sessionWidth n) (λ i. p (sessionAt s i)) Found.At Found.Nothing sessionCount 0 (λ i k.
-      let l : i < sessionCount = omega arith in
+      first-cong (startsWith b sessionsFrom sessionWidth n) (λ i. p (sessionAt s i)) Found.At Found.Nothing sessionCount 0 (λ i z k.
+      let l : i < sessionCount = k in
       rw (number-held h i l) (q (sessionAt s i) (session-fits h i l)))
       ∙ first-place p noSession (s .sessions) sessionCount (h .fits .sessions)
 
@@ -98,35 +96,3 @@ module _ {b : List ℕ} {s : State} (h : Holds b s) where
   none-zero =
       let e = h .fits .sessions in
       rw (place-none (numbered 0) noSession (s .sessions) (λ j k. numbered-zero (sessionAt s j) (session-fits h j (rw e at k))), e)
-
--- ---- what a search tells
-
--- session n is live, in place i
-pub record Located (s : State) (n i : ℕ) : Type 0 where
-  pub who : Session
-  pub inside : i < sessionCount
-  pub place : sessionPlace s n ≡ i
-  pub at : sessionAt s i ≡ session who
-  pub of : sessionOf s n ≡ session who
-  pub number : who .number ≡ n
-
-numbered-some : (n : ℕ) (e : Slot) → numbered n e ≡ true → (x : Session) × (e ≡ session x) × (x .number ≡ n)
-numbered-some n noSession q = clash false q refl
-numbered-some n (session x) q = (x, refl, eqb-true (x .number) n q)
-
-module _ (s : State) (f : Fits s) where
-  pub session-found : (n i : ℕ) → found sessionCount (sessionPlace s n) ≡ Found.At i → Located s n i
-  session-found n i e =
-      let p = found-at sessionCount (sessionPlace s n) i e in
-      let q = numbered-some n (sessionAt s i) (found-passes (numbered n) noSession (s .sessions) sessionCount i (f .sessions) e) in
-      record { who = q .0; inside = p .1; place = p .0; at = q .1; of = found-entry (numbered n) noSession (s .sessions) sessionCount i e ∙ q .1; number = q .2 }
-
-  pub session-missing : (n : ℕ) → found sessionCount (sessionPlace s n) ≡ Found.Nothing → sessionOf s n ≡ noSession
-  session-missing n e = nothing-entry (numbered n) noSession (s .sessions) sessionCount (f .sessions) e
-
-  -- a free place, or none
-  pub sessions-room : (i : ℕ) → found sessionCount (place free (s .sessions)) ≡ Found.At i → sessionsFull s ≡ false
-  sessions-room i e = found-room free noSession (s .sessions) sessionCount i (f .sessions) e
-
-  pub sessions-full : found sessionCount (place free (s .sessions)) ≡ Found.Nothing → sessionsFull s ≡ true
-  sessions-full e = found-full free noSession (s .sessions) sessionCount (f .sessions) e

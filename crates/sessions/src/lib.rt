@@ -6,7 +6,7 @@ ghost use lib.ListN.{length, set};
 ghost use Rattle.lent.specs.Bytes.{win};
 ghost use Rattle.machine.specs.Sizes.{stateSize, sessionCount, sessionWidth};
 ghost use Rattle.machine.specs.Tables.{place};
-ghost use Rattle.machine.specs.State.{State, noSession, session, free, sessionAt, sessionPlace};
+ghost use Rattle.machine.specs.State.{State, noSession, session, free, numbered, sessionAt, sessionPlace};
 ghost use Rattle.machine.specs.Expiry.{withSessions};
 ghost use Rattle.machine.specs.Sound.{numberIn};
 ghost use Rattle.layout.specs.Layout.{lifeMark, lifeTime, decLife};
@@ -93,8 +93,11 @@ pub fn free(s: &mut [u8], i: usize)
     requires { ⌜ (length (now s) ≡ stateSize) × (i < sessionCount) ⌝ }
     ensures { λ _. ⌜ ((σ : State) → Holds (now (s .entry)) σ → Holds (now (s .exit)) (withSessions σ (set (σ .sessions) i noSession))) ⌝ }
 {
-    let at = layout::SESSIONS_FROM + i * layout::SESSION_WIDTH;
-    lent::clear(s, at, layout::SESSION_WIDTH);
+    lent::clear(
+        s,
+        layout::SESSIONS_FROM + i * layout::SESSION_WIDTH,
+        layout::SESSION_WIDTH,
+    );
 }
 
 // The place of the session of number n. A free place has the number 0, which is no session's; a number over 32 bits is in no place.

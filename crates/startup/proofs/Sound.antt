@@ -1,81 +1,77 @@
--- The fresh state is sound, so the bytes that START writes are well formed: every place of its tables is free, and of a free place nothing is
--- asked.
--- Assumes nothing.
-use mathlib.Core.Path.{_≡_, refl, ap, _∙_}
-use mathlib.Core.Bool.{Bool, true, _&&_}
-use Prim.Native.Nat.{ℕ, _<_}
-use native.Mathlib.Omega.{arith}
-use lib.ListN.{getD-replicate}
-use Rattle.lent.specs.Tables.{every}
-use Rattle.lent.proofs.Walks.{all-every}
-use Rattle.machine.specs.Sizes.{keyCount, sessionCount, rowCount}
-use Rattle.machine.specs.State.{Key, noSession, Row, noRow, State, blank, fresh, keyOf, sessionAt, rowAt}
-use Rattle.machine.specs.Sound.{lifetime, headSound, keySound, sessionSound, rowSound, tokenIn, numberIn, numberAt, tokenAt, newAt, distinct, numbersDistinct, tokensDistinct, liveRow, rowsLive, once, rowsOnce, shares, rowsAlone, leaseless, rowsLeaseless, joined, sized, sound}
-use Rattle.layout.specs.Layout.{encode}
+-- What START writes: where it answers READY, the bytes are those of the fresh state, so they are well formed, they decode to it, and the
+-- machine's theorems hold from them: every run stays sound, and demand 3 holds at each moment of each run.
+use mathlib.Core.Path.{_≡_, refl, sym, ap, _∙_}
+use mathlib.Core.Bool.{Bool, true, false}
+use mathlib.Core.Logic.{_⊎_, inl, inr}
+use mathlib.Core.List.{List, [], _++_}
+use Prim.Native.Nat.{ℕ}
+use lib.Dec.{eqb}
+use lib.ListN.{length}
+use borrow.Author.Tests.{eqb-true, eqb-false}
+use Rattle.machine.specs.Sizes.{stateSize}
+use Rattle.machine.specs.Words.{wordOf}
+use Rattle.machine.specs.State.{State, fresh}
+use Rattle.machine.specs.Sound.{lifetime, sound}
+use Rattle.machine.specs.World.{Event, World, begun, run, AllKept, Consistent}
+use Rattle.machine.specs.declared.Answer.{Answer}
+use Rattle.machine.proofs.Views.{caseOf, clash}
+use Rattle.machine.proofs.KeepsSound.{AllBytes, fresh-sound, reached-sound}
+use Rattle.machine.proofs.Demand3.{demand-3}
+use Rattle.layout.specs.Layout.{encode, decode}
 use Rattle.layout.specs.WellFormed.{wellFormed}
-use Rattle.layout.proofs.Formed.{sound-formed}
+use Rattle.layout.proofs.Fitting.{sound-fits}
+use Rattle.layout.proofs.Formed.{sound-formed, holds-encoded, holds-is}
+use Rattle.startup.specs.Start.{Reply, startOf}
+use Rattle.startup.proofs.Started.{started-size, started-read, started-write, started-ready}
 
-both : {a b : Bool} → a ≡ true → b ≡ true → a && b ≡ true
-both p q = rw (p, q)
+-- READY says that the length and the lifetimes were right
+pub record Started (b : List ℕ) (readLife writeLife : ℕ) : Type 0 where
+  pub size : length b ≡ stateSize
+  pub read : lifetime readLife ≡ true
+  pub write : lifetime writeLife ≡ true
 
--- zeros are distinct
-none-distinct : (f : ℕ → ℕ) (n : ℕ) → ((i : ℕ) → i < n → f i ≡ 0) → distinct f n ≡ true
-unfolding distinct newAt
-none-distinct f n z = all-every (newAt f) n (λ i h. rw (z i h))
+module _ (b : List ℕ) (readLife writeLife : ℕ) where
+  -- a refusal has another word
+  refusing : (e : ℕ) → startOf b readLife writeLife ≡ record { answer = Answer.Refused e; bytes = b } → startOf b readLife writeLife .answer ≡ Answer.Ready → {A : Type 0} → A
+  refusing e p q = clash (eqb (wordOf (startOf b readLife writeLife .answer)) 1) (rw q refl) (rw p refl)
 
-module _ (readLife writeLife : ℕ) where
-  abbrev s : State
-  s = fresh readLife writeLife
+  pub ready-started : startOf b readLife writeLife .answer ≡ Answer.Ready → Started b readLife writeLife
+  ready-started q = sized (caseOf (eqb (length b) stateSize))
+    where
+      told : length b ≡ stateSize → (lifetime readLife ≡ true) ⊎ (lifetime readLife ≡ false) → (lifetime writeLife ≡ true) ⊎ (lifetime writeLife ≡ false) → Started b readLife writeLife
+      told e (inl r) (inl w) = record { size = e; read = r; write = w }
+      told e (inl r) (inr w) = refusing 3 (started-write b readLife writeLife e w) q
+      told e (inr r) w = refusing 3 (started-read b readLife writeLife e r) q
 
-  key-free : (k : ℕ) → k < keyCount → keyOf s k ≡ blank
-  unfolding fresh
-  key-free k h = getD-replicate keyCount k blank blank h
+      sized : (eqb (length b) stateSize ≡ true) ⊎ (eqb (length b) stateSize ≡ false) → Started b readLife writeLife
+      sized (inl e) = told (eqb-true (length b) stateSize e) (caseOf (lifetime readLife)) (caseOf (lifetime writeLife))
+      sized (inr e) = refusing 1 (started-size b readLife writeLife (eqb-false (length b) stateSize e)) q
 
-  row-free : (i : ℕ) → i < rowCount → rowAt s i ≡ noRow
-  unfolding fresh
-  row-free i h = getD-replicate rowCount i noRow noRow h
+  module _ (ready : startOf b readLife writeLife .answer ≡ Answer.Ready) where
+    pub ready-bytes : startOf b readLife writeLife .bytes ≡ encode (fresh readLife writeLife)
+    ready-bytes = let x = ready-started ready in ap (λ (r : Reply). r .bytes) (started-ready b readLife writeLife (x .size) (x .read) (x .write))
 
-  session-free : (j : ℕ) → j < sessionCount → sessionAt s j ≡ noSession
-  unfolding fresh
-  session-free j h = getD-replicate sessionCount j noSession noSession h
+    fresh-is-sound : sound (fresh readLife writeLife) ≡ true
+    fresh-is-sound = let x = ready-started ready in fresh-sound readLife writeLife (x .read) (x .write)
 
-  -- a test that a free row passes
-  rows-pass : (p : Row → Bool) → p noRow ≡ true → every (λ i. p (rowAt s i)) rowCount ≡ true
-  rows-pass p e = all-every (λ i. p (rowAt s i)) rowCount (λ i h. ap p (row-free i h) ∙ e)
+    pub ready-formed : wellFormed (startOf b readLife writeLife .bytes) ≡ true
+    ready-formed = rw ready-bytes (sound-formed (fresh readLife writeLife) fresh-is-sound)
 
-  -- a test of two rows that passes where the first is free
-  pairs-pass : (p : Row → Row → Bool) → ((r : Row) → p noRow r ≡ true) → every (λ i. every (λ j. p (rowAt s j) (rowAt s i)) i) rowCount ≡ true
-  pairs-pass p e =
-      all-every (λ i. every (λ j. p (rowAt s j) (rowAt s i)) i) rowCount (λ i h.
-      all-every (λ j. p (rowAt s j) (rowAt s i)) i (λ j k. ap (λ (r : Row). p r (rowAt s i)) (row-free j (omega arith)) ∙ e (rowAt s i)))
+    pub ready-decodes : decode (startOf b readLife writeLife .bytes) ≡ fresh readLife writeLife
+    ready-decodes = ap decode ready-bytes ∙ holds-is (holds-encoded (fresh readLife writeLife) (sound-fits (fresh readLife writeLife) fresh-is-sound))
 
-  fresh-joined : joined s ≡ true
-  unfolding joined numbersDistinct tokensDistinct rowsLive rowsOnce rowsAlone rowsLeaseless
-  fresh-joined =
-      both (none-distinct (numberAt s) sessionCount (λ j h. ap numberIn (session-free j h)))
-      (both (none-distinct (tokenAt s) keyCount (λ k h. ap (λ (x : Key). tokenIn (x .lease)) (key-free k h)))
-      (both (rows-pass (liveRow s) refl)
-      (both (pairs-pass once (λ r. refl))
-      (both (pairs-pass shares (λ r. refl)) (rows-pass (leaseless s) refl)))))
+    -- a world whose cache is what the bytes hold, and whose register is empty
+    abbrev pub world : World
+    world = record { state = decode (startOf b readLife writeLife .bytes); register = λ k. []; began = λ k. []; since = λ t k. []; wrote = λ n. false }
 
-  fresh-sized : sized s ≡ true
-  unfolding sized fresh
-  fresh-sized = refl
+    world-begun : world ≡ begun readLife writeLife
+    world-begun = ap (λ (s : State). record { state = s; register = λ k. []; began = λ k. []; since = λ t k. []; wrote = λ n. false }) ready-decodes
 
-  fresh-head : lifetime readLife ≡ true → lifetime writeLife ≡ true → headSound (s .head) ≡ true
-  unfolding headSound fresh
-  fresh-head p q = rw (p, q)
+    -- theorem 3 from these bytes
+    pub ready-sound : (es : List Event) → AllBytes es → sound (run world es .state) ≡ true
+    ready-sound es h = let x = ready-started ready in
+        ap (λ (w : World). sound (run w es .state)) world-begun ∙ reached-sound readLife writeLife es (x .read) (x .write) h
 
-  pub fresh-sound : lifetime readLife ≡ true → lifetime writeLife ≡ true → sound s ≡ true
-  unfolding sound keySound sessionSound rowSound
-  fresh-sound p q =
-      both fresh-sized
-      (both (fresh-head p q)
-      (both (all-every (λ k. keySound (s .head) (keyOf s k)) keyCount (λ k h. ap (keySound (s .head)) (key-free k h)))
-      (both (rows-pass rowSound refl)
-      (both (all-every (λ j. sessionSound (s .head) (sessionAt s j)) sessionCount (λ j h. ap (sessionSound (s .head)) (session-free j h)))
-      fresh-joined))))
-
-  -- what START writes where it answers READY
-  pub fresh-formed : lifetime readLife ≡ true → lifetime writeLife ≡ true → wellFormed (encode s) ≡ true
-  fresh-formed p q = sound-formed s (fresh-sound p q)
+    -- demand 3 from these bytes
+    pub ready-demand-3 : (es fs : List Event) → AllKept world (es ++ fs) → Consistent (run world es)
+    ready-demand-3 es fs h = rw world-begun (demand-3 readLife writeLife es fs (rw world-begun at h))

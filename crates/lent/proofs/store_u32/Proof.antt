@@ -1,65 +1,31 @@
--- `store_u32` is four stores in a row.
+-- `store_u32` is two writes, one behind the other.
 -- Assumes nothing.
-use native.Mathlib.Omega.{arith}
-use lib.ListN.{length-set}
+use Prim.Native.Nat.{_/_}
+use mathlib.Core.Path.{refl, ap, _∙_}
+use native.Mathlib.Nat.{div-div-eq-div-mul}
 use borrow.Author.Needs.{needs}
-use Rattle.lent.proofs.Stores.{stores4}
+use Rattle.lent.specs.Bytes.{bytes16, splice}
+use Rattle.lent.proofs.Splice.{splice-then}
 use Rattle.lent.proofs.store_u32.Statement.{statement}
 use Rattle.lent.proofs.store_u32.Tie as tie
 
-cast-s : tie.Need-cast-s
-cast-s c = search needs
+store-u16-requires : tie.Need-store-u16-requires
+store-u16-requires c κs = search needs
 
-slice-write-s : tie.Need-slice-write-s
-slice-write-s c = search needs
+add-store-u16 : tie.Need-add-store-u16
+add-store-u16 c = search needs
 
-cast-s-2 : tie.Need-cast-s-2
-cast-s-2 c = search needs
-
-add-s : tie.Need-add-s
-add-s c = search needs
-
-slice-write-s-2 : tie.Need-slice-write-s-2
-slice-write-s-2 c = simp length-set (omega arith)
-
-cast-s-3 : tie.Need-cast-s-3
-cast-s-3 c = search needs
-
-add-s-2 : tie.Need-add-s-2
-add-s-2 c = search needs
-
-slice-write-s-3 : tie.Need-slice-write-s-3
-slice-write-s-3 c = simp length-set (omega arith)
-
-cast-s-4 : tie.Need-cast-s-4
-cast-s-4 c = search needs
-
-add-s-3 : tie.Need-add-s-3
-add-s-3 c = search needs
-
-slice-write-s-4 : tie.Need-slice-write-s-4
-slice-write-s-4 c = simp length-set (omega arith)
+store-u16-requires-2 : tie.Need-store-u16-requires-2
+store-u16-requires-2 c κs = search needs
 
 same-length : tie.Need-same-length
 same-length c = search needs
 
 returns : tie.Need-returns
-returns c = stores4 _ _ _ _ _ _ (search needs)
+returns c = let a = c .before .before .before .before .before .before .before .before .before .args in
+    splice-then (a .s .now) _ _ (bytes16 (a .v)) (bytes16 (a .v / 65536)) (a .at) 2 (c .before .before .before .before .before .before .store-u16 .ensures) (c .before .before .store-u162 .ensures) refl (search needs)
+    ∙ ap (splice _ _) (rw (div-div-eq-div-mul (a .v) 65536 256))
 
 pub store-u32-spec : {M : Type 1} → statement M
 store-u32-spec =
-    tie.close
-    (tie.spec
-    cast-s
-    slice-write-s
-    cast-s-2
-    add-s
-    slice-write-s-2
-    cast-s-3
-    add-s-2
-    slice-write-s-3
-    cast-s-4
-    add-s-3
-    slice-write-s-4
-    same-length
-    returns)
+    tie.close (tie.spec store-u16-requires add-store-u16 store-u16-requires-2 same-length returns)

@@ -7,11 +7,11 @@ use borrow.Author.Needs.{needs}
 use Rattle.sessions.proofs.free.Statement.{statement}
 use Rattle.sessions.proofs.free.Tie as tie
 
-mul-at : tie.Need-mul-at
-mul-at c = search needs
+mul-clear : tie.Need-mul-clear
+mul-clear c = search needs
 
-add-at : tie.Need-add-at
-add-at c = search needs
+add-clear : tie.Need-add-clear
+add-clear c = search needs
 
 clear-requires : tie.Need-clear-requires
 clear-requires c κs = search needs
@@ -24,4 +24,4 @@ unfolding encSession
 returns c = λ σ h. rw (c .before .before .clear .ensures) (store-session h (c .before .before .before .before .before .args .i) (omega arith) noSession tt)
 
 pub free-spec : {M : Type 1} → statement M
-free-spec = tie.close (tie.spec mul-at add-at clear-requires same-length returns)
+free-spec = tie.close (tie.spec mul-clear add-clear clear-requires same-length returns)

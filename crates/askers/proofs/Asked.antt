@@ -1,0 +1,93 @@
+-- The session that asks, found by its number: the slot of that number decides between the refusals 5 and 6 and the open session, and what
+-- stands there has the number.
+-- Assumes nothing.
+use mathlib.Core.Path.{_≡_, refl, ap, _∙_}
+use mathlib.Core.Bool.{Bool, true, false}
+use mathlib.Core.List.{List, _∷_}
+use mathlib.Core.Logic.{_⊎_, inl, inr}
+use mathlib.Core.Option.{Option, some}
+use Prim.Native.Nat.{ℕ}
+use native.Mathlib.Omega.{arith}
+use lib.ListN.{length}
+use borrow.Author.Tests.{eqb-true}
+use Rattle.lent.specs.Tables.{if_then_else_}
+use Rattle.lent.proofs.Choices.{clash}
+use Rattle.machine.specs.Sizes.{sessionCount}
+use Rattle.machine.specs.Tables.{first}
+use Rattle.machine.specs.Session.{isSealed}
+use Rattle.machine.specs.State.{Slot, noSession, session, State, free, numbered, sessionPlace, sessionOf, sessionAt}
+use Rattle.machine.specs.Refusals.{notLive, sealedIn, sealedSlot}
+use Rattle.machine.specs.declared.Session.{Session}
+use Rattle.machine.proofs.Views.{find-test}
+use Rattle.layout.specs.Fields.{sessionIn}
+use Rattle.layout.specs.Search.{found}
+use Rattle.layout.specs.declared.Found.{Found}
+use Rattle.layout.proofs.Search.{found-at, found-passes, nothing-entry}
+use Rattle.askers.specs.Asker.{askerAt, askerOf}
+use Rattle.askers.specs.declared.Asker.{Asker}
+
+numbered-slot : (n : ℕ) (e : Slot) → numbered n e ≡ true → e ≡ session (sessionIn e)
+numbered-slot n noSession q = clash false q refl
+numbered-slot n (session x) q = refl
+
+-- ---- what a search for the number finds
+
+module _ (s : State) (l : length (s .sessions) ≡ sessionCount) (n : ℕ) where
+  pub asker-none : found sessionCount (sessionPlace s n) ≡ Found.Nothing → askerOf s n ≡ Asker.Refused 5
+  unfolding askerOf
+  asker-none e = rw (nothing-entry (numbered n) noSession (s .sessions) sessionCount l e)
+
+  pub asker-at : (i : ℕ) → found sessionCount (sessionPlace s n) ≡ Found.At i → askerOf s n ≡ askerAt i (session (sessionIn (sessionAt s i)))
+  unfolding askerOf
+  asker-at i e =
+      rw (found-at sessionCount (sessionPlace s n) i e .0)
+      (ap (askerAt i) (numbered-slot n (sessionAt s i) (found-passes (numbered n) noSession (s .sessions) sessionCount i l e)))
+
+-- ---- what the asker tells
+
+-- a refusal, or what comes after it
+abbrev pub refusedOr : Asker → Option ℕ → Option ℕ
+refusedOr (Asker.Refused e) o = some e
+refusedOr (Asker.Open i x) o = o
+
+-- the session of number n is x, at place i, and open
+pub record Asks (s : State) (n i : ℕ) (x : Session) : Type 0 where
+  pub place : sessionPlace s n ≡ i
+  pub found : sessionOf s n ≡ session x
+  pub at : sessionAt s i ≡ session x
+  pub number : x .number ≡ n
+  pub unsealed : isSealed x ≡ false
+
+module _ (s : State) (n : ℕ) where
+  pub first-asker : (l : List (Bool × ℕ)) → first ((notLive s n, 5) ∷ (sealedIn s n, 6) ∷ l) ≡ refusedOr (askerOf s n) (first l)
+  unfolding askerOf
+  first-asker l = go (sessionOf s n)
+    where
+      go : (e : Slot) → first ((free e, 5) ∷ (sealedSlot e, 6) ∷ l) ≡ refusedOr (askerAt (sessionPlace s n) e) (first l)
+      go noSession = refl
+      go (session x) = go′ (isSealed x)
+        where
+          go′ : (t : Bool) → (if t then some 6 else first l) ≡ refusedOr (if t then Asker.Refused 6 else Asker.Open (sessionPlace s n) x) (first l)
+          go′ true = refl
+          go′ false = refl
+
+  pub asks : (i : ℕ) (x : Session) → askerOf s n ≡ Asker.Open i x → Asks s n i x
+  unfolding askerOf
+  asks i x e = go (sessionOf s n) refl (find-test (numbered n) noSession (s .sessions)) e
+    where
+      go : (y : Slot) → sessionOf s n ≡ y → (y ≡ noSession) ⊎ (numbered n y ≡ true) → askerAt (sessionPlace s n) y ≡ Asker.Open i x → Asks s n i x
+      go noSession f p q = absurd (let z : _≡_ {A = ℕ} 0 1 = cc in omega arith)
+      go (session y) f (inl p) q = absurd (let z : _≡_ {A = ℕ} 0 1 = cc in omega arith)
+      go (session y) f (inr p) q = go′ (isSealed y) refl q
+        where
+          go′ : (t : Bool) → isSealed y ≡ t → (if t then Asker.Refused 6 else Asker.Open (sessionPlace s n) y) ≡ Asker.Open i x → Asks s n i x
+          go′ true g r = absurd (let z : _≡_ {A = ℕ} 0 1 = cc in omega arith)
+          go′ false g r =
+              let a : sessionPlace s n ≡ i = cc in
+              let b : y ≡ x = cc in
+              let c : sessionOf s n ≡ session x = f ∙ ap session b in
+              record { place = a; found = c; at = rw a at c; number = rw (← b) (eqb-true (y .number) n p); unsealed = rw (← b) g }
+
+  -- found by the number that it has
+  pub asks-own : (i : ℕ) (x : Session) → askerOf s n ≡ Asker.Open i x → askerOf s (x .number) ≡ Asker.Open i x
+  asks-own i x e = ap (askerOf s) (asks i x e .number) ∙ e

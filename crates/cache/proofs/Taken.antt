@@ -1,0 +1,62 @@
+-- The parts of a step as the code takes them, said of the bytes: what is held after the clock's test, after the command, after expiry on a
+-- copy, and after the check of the whole buffer.
+use mathlib.Core.Path.{_≡_, refl, sym, ap, _∙_}
+use mathlib.Core.Bool.{Bool, true, false, _||_, or-true}
+use mathlib.Core.List.{List}
+use Prim.Native.Nat.{ℕ, _≤_, _<_}
+use lib.Dec.{ltb}
+use borrow.Author.Tests.{lt-ltb, le-ltb}
+use Rattle.machine.specs.Sizes.{timeMax}
+use Rattle.machine.specs.State.{Value, State}
+use Rattle.machine.specs.Sound.{sound}
+use Rattle.machine.specs.Expiry.{withClock, expire}
+use Rattle.machine.specs.Effects.{Outcome, told}
+use Rattle.machine.specs.Step.{step}
+use Rattle.machine.specs.declared.Answer.{Answer}
+use Rattle.machine.specs.declared.Command.{Command}
+use Rattle.layout.specs.Layout.{encode, decode}
+use Rattle.layout.specs.WellFormed.{wellFormed}
+use Rattle.layout.specs.Holds.{Holds}
+use Rattle.layout.proofs.Formed.{formed, holds-decoded}
+use Rattle.outcome.specs.Outcome.{tried, acted, isRefused, Gives, Does}
+use Rattle.outcome.proofs.Steps.{clockBad, acted-late, acted-refused, acted-accepted, step-still, step-refused, step-accepted}
+use Rattle.cache.specs.Run.{ran}
+
+module _ (s : State) (now : ℕ) (c : Command) (v : Value) where
+  -- CLOCK
+  pub before-clock : {b : List ℕ} → now < s .head .clock → Holds b s → Gives (acted s now c v) (Answer.Refused 2) b
+  before-clock e h = rw (acted-late s now c v (rw (lt-ltb now (s .head .clock) e))) (record { answer = refl; holds = h })
+
+  pub past-time : {b : List ℕ} → timeMax < now → Holds b s → Gives (acted s now c v) (Answer.Refused 2) b
+  past-time e h = rw (acted-late s now c v (rw (lt-ltb timeMax now e) (or-true (ltb now (s .head .clock))))) (record { answer = refl; holds = h })
+
+  in-time : s .head .clock ≤ now → now ≤ timeMax → clockBad s now ≡ false
+  in-time p q = rw (le-ltb now (s .head .clock) p, le-ltb timeMax now q)
+
+  -- the command itself
+  pub refused-still : {a : Answer} {b : List ℕ} → s .head .clock ≤ now → now ≤ timeMax → isRefused a ≡ true → Gives (tried s now c v) a b → Gives (acted s now c v) a b
+  refused-still p q r g = rw (acted-refused s now c v (in-time p q) (rw (← g .answer) r)) g
+
+  pub accepted-still : {a : Answer} {b d : List ℕ} → s .head .clock ≤ now → now ≤ timeMax → isRefused a ≡ false → Gives (tried s now c v) a b
+      → Holds d (withClock (tried s now c v .after) now) → Gives (acted s now c v) a d
+  accepted-still p q r g h = rw (acted-accepted s now c v (in-time p q) (rw (← g .answer) r)) (record { answer = g .answer; holds = h })
+
+  -- after expiry
+  pub refused-lapsed : {a : Answer} {b d : List ℕ} → isRefused a ≡ true → Gives (acted (expire now s) now c v) a b → Holds d s → Gives (step s now c v) a d
+  refused-lapsed r g h = rw (step-refused s now c v (rw (← g .answer) r)) (record { answer = g .answer; holds = h })
+
+  pub accepted-lapsed : {a : Answer} {b : List ℕ} → isRefused a ≡ false → Gives (acted (expire now s) now c v) a b → Gives (step s now c v) a b
+  accepted-lapsed r g = rw (step-accepted s now c v (rw (← g .answer) r)) g
+
+  pub nothing-lapsed : {a : Answer} {b : List ℕ} → expire now s ≡ s → Gives (acted s now c v) a b → Gives (step s now c v) a b
+  nothing-lapsed e g = rw (step-still s now c v e) g
+
+-- the whole buffer
+module _ (b : List ℕ) (now : ℕ) (c : Command) (v : Value) where
+  pub ran-damaged : wellFormed b ≡ false → (Answer.Refused 1 ≡ ran b now c v .answer) × (b ≡ ran b now c v .bytes)
+  unfolding ran
+  ran-damaged e = rw e (refl, refl)
+
+  pub ran-formed : (a : Answer) (d : List ℕ) → wellFormed b ≡ true → Does b (λ s. step s now c v) a d → (a ≡ ran b now c v .answer) × (d ≡ ran b now c v .bytes)
+  unfolding ran
+  ran-formed a d e f = let g = f (decode b) (holds-decoded b e) (formed b e .sound) in rw e (g .answer, g .holds .bytes)

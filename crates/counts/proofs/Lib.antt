@@ -1,0 +1,4 @@
+pub mod Reading
+pub mod Decimal
+pub mod Writing
+pub mod Laws

@@ -1,0 +1,3 @@
+pub mod Making
+pub mod Working
+pub mod Tried

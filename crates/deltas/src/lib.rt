@@ -1,0 +1,170 @@
+// DELTA: a value appended to, prepended to, or counted up or down, and staged. Whoever calls has checked the state and the clock, and
+// nothing lapses.
+ghost use mathlib.Core.Path.{_≡_};
+ghost use mathlib.Core.Bool.{false};
+ghost use mathlib.Core.List.{_++_};
+ghost use Prim.Native.Nat.{_<_};
+ghost use lib.Dec.{eqb};
+ghost use lib.ListN.{length};
+ghost use Rattle.lent.specs.Tables.{if_then_else_};
+ghost use Rattle.counts.specs.Count.{readCount, raised, lowered};
+ghost use Rattle.machine.specs.Sizes.{stateSize, keyCount, rowCount, valueMax};
+ghost use Rattle.machine.specs.State.{State, freeRow, rowAt};
+ghost use Rattle.machine.specs.Effects.{fits, counts, operate, orDrop};
+ghost use Rattle.machine.specs.declared.Command.the-variants.{Delta};
+ghost use Rattle.layout.specs.Holds.{Holds};
+ghost use Rattle.outcome.specs.Outcome.{tried, Gives, Does};
+ghost use Rattle.deltas.specs.Changes.{valueIn, Short, Makes, changedIn, changes};
+use counts::Count;
+use machine::Answer;
+use stages::Staging;
+
+// The kind whose row DELTA stages in, and what a row's mark says.
+const INCREMENTAL: u8 = 3;
+
+const VALUED: u8 = 1;
+
+const DROPPED: u8 = 2;
+
+// The operations; the fourth is decrement.
+const APPEND: u64 = 1;
+
+const PREPEND: u64 = 2;
+
+const INCREMENT: u64 = 3;
+
+// What a value becomes: so many bytes at the front of the lent buffer, or DROP.
+pub enum Changed {
+    To(usize),
+    Drop,
+}
+
+// a, and b behind it.
+fn join(a: &[u8], b: &[u8], out: &mut [u8]) -> Changed
+    requires { ⌜ length (now out) ≡ valueMax ⌝ }
+    ensures { λ r. ⌜ Makes (fits (now (a .entry) ++ now (b .entry))) r (now (out .exit)) ⌝ }
+{
+    let n = a.len();
+    let m = b.len();
+    if layout::VALUE_MAX < n {
+        return Changed::Drop;
+    }
+    if layout::VALUE_MAX - n < m {
+        return Changed::Drop;
+    }
+    lent::copy_in(out, 0, a);
+    lent::copy_in(out, n, b);
+    Changed::To(n + m)
+}
+
+// a raised or lowered by b.
+fn calculate(operation: u64, a: u64, b: u64) -> u64
+    ensures { λ r. ⌜ r ≡ (if eqb operation 3 then raised a b else lowered a b) ⌝ }
+{
+    if operation == INCREMENT {
+        return counts::increment(a, b);
+    }
+    counts::decrement(a, b)
+}
+
+// The value is a count and so is the operand.
+fn count(operation: u64, operand: &[u8], value: &[u8], out: &mut [u8]) -> Changed
+    requires { ⌜ length (now out) ≡ valueMax ⌝ }
+    ensures { λ r. ⌜ Makes (counts operation (readCount (now (value .entry))) (readCount (now (operand .entry)))) r (now (out .exit)) ⌝ }
+{
+    let Count::Is(a) = counts::read(value) else {
+        return Changed::Drop;
+    };
+    let Count::Is(b) = counts::read(operand) else {
+        return Changed::Drop;
+    };
+    let n = calculate(operation, a, b);
+    Changed::To(counts::write(n, out))
+}
+
+// The operation on a value.
+fn operate(operation: u64, operand: &[u8], value: &[u8], out: &mut [u8]) -> Changed
+    requires { ⌜ length (now out) ≡ valueMax ⌝ }
+    ensures { λ r. ⌜ Makes (operate operation (now (operand .entry)) (now (value .entry))) r (now (out .exit)) ⌝ }
+{
+    match operation {
+        APPEND => join(value, operand, out),
+        PREPEND => join(operand, value, out),
+        _ => count(operation, operand, value, out),
+    }
+}
+
+// What is to be staged in a row on key k: the operation on its staged value, or else on the cached one.
+fn work(s: &[u8], row: usize, k: usize, operation: u64, operand: &[u8], out: &mut [u8]) -> Changed
+    requires { ⌜ (length (now s) ≡ stateSize) × ((row < rowCount) × ((k < keyCount) × (length (now out) ≡ valueMax))) ⌝ }
+    ensures { λ r. ⌜ ((σ : State) → Holds (now (s .entry)) σ → orDrop (valueIn r (now (out .exit))) ≡ changedIn σ row k operation (now (operand .entry))) × Short r ⌝ }
+{
+    let mark = rows::mark(s, row);
+    if mark == DROPPED {
+        return Changed::Drop;
+    }
+    if mark == VALUED {
+        let n = rows::staged_length(s, row);
+        let at = layout::ROWS_FROM + row * layout::ROW_WIDTH + layout::ROW_VALUE;
+        return operate(operation, operand, &s[at..at + n], out);
+    }
+    if !keys::has_value(s, k) {
+        return Changed::Drop;
+    }
+    let n = keys::value_length(s, k);
+    let at = layout::KEYS_FROM + k * layout::KEY_WIDTH + layout::KEY_VALUE;
+    operate(operation, operand, &s[at..at + n], out)
+}
+
+// It is staged. The value is made in a buffer of its own, since the one that it is made of stands where it goes.
+fn change(s: &mut [u8], row: usize, k: usize, operation: u64, operand: &[u8]) -> Answer
+    requires { ⌜ (length (now s) ≡ stateSize) × ((row < rowCount) × (k < keyCount)) ⌝ }
+    ensures { λ r. ⌜ ((σ : State) → Holds (now (s .entry)) σ → freeRow (rowAt σ row) ≡ false → Gives (changes σ row k operation (now (operand .entry))) r (now (s .exit))) ⌝ }
+{
+    let mut out = [0u8; 64];
+    match work(s, row, k, operation, operand, &mut out) {
+        Changed::To(n) => {
+            rows::stage(s, row, &out[..n]);
+            Answer::Staged
+        }
+        Changed::Drop => {
+            rows::stage_drop(s, row);
+            Answer::Dropped
+        }
+    }
+}
+
+// DELTA: the operation on the staged value of its row, or else on the cached one; where there is none, DROP.
+pub fn delta(
+    s: &mut [u8],
+    session: u64,
+    step: u64,
+    key: u64,
+    operation: u64,
+    operand: &[u8],
+) -> Answer
+    requires { ⌜ length (now s) ≡ stateSize ⌝ }
+    ensures { λ r. ⌜ Does (now (s .entry)) (λ σ. tried σ 0 (Delta session step key operation) (now (operand .entry))) r (now (s .exit)) ⌝ }
+{
+    if layout::KEY_COUNT as u64 <= key {
+        return Answer::Refused(3);
+    }
+    if !machine::is_operation(operation) {
+        return Answer::Refused(3);
+    }
+    if stages::STEP_MAX <= step {
+        return Answer::Refused(3);
+    }
+    if layout::VALUE_MAX < operand.len() {
+        return Answer::Refused(4);
+    }
+    let k = key as usize;
+    match stages::find(s, session, step, k, INCREMENTAL) {
+        Staging::Refused(e) => Answer::Refused(e),
+        Staging::Repeated => Answer::Repeated,
+        Staging::At { place, row, next } => {
+            sessions::store(s, place, next);
+            change(s, row, k, operation, operand)
+        }
+    }
+}

@@ -1,0 +1,144 @@
+-- What GET comes to, case by case: each test of its list of refusals decided, in its order, then what the asker sees. A holder of a row
+-- meets no test beyond the session's; anyone else meets the test of the numbers only where a lease would be given.
+-- Assumes nothing.
+use mathlib.Core.Path.{_≡_, refl, sym, ap}
+use mathlib.Core.Bool.{Bool, true, false, not, _&&_}
+use mathlib.Core.List.{List, [], _∷_}
+use mathlib.Core.Option.{Option, none, some}
+use Prim.Native.Nat.{ℕ, _+_, _≤_, _<_}
+use native.Mathlib.Numerals.{add-one}
+use native.Mathlib.Omega.{arith}
+use lib.Dec.{eqb, leb}
+use lib.ListN.{length}
+use borrow.Author.Tests.{eq-eqb, ne-eqb, le-leb, lt-leb}
+use Rattle.lent.specs.Tables.{if_then_else_}
+use Rattle.machine.specs.Sizes.{keyCount, sessionCount, rowCount, numberMax}
+use Rattle.machine.specs.Tables.{first}
+use Rattle.machine.specs.State.{Slot, noSession, session, Row, noRow, row, State, free, freeRow, numbered, ofOn, sessionPlace, sessionAt, rowPlace, rowOf, rowAt, cached}
+use Rattle.machine.specs.Expiry.{withKeys, withNumbers, setLease}
+use Rattle.machine.specs.Refusals.{Sight as Seen, blocked, cachedSight, sight, wouldLease, notLive, refusals}
+use Rattle.machine.specs.Effects.{Outcome, told, wait, leased, missed, looked as lookedAt, effect}
+use Rattle.machine.specs.declared.Answer.{Answer}
+use Rattle.machine.specs.declared.Command.the-variants.{Get}
+use Rattle.layout.specs.Holds.{Holds}
+use Rattle.layout.specs.Search.{found}
+use Rattle.layout.specs.declared.Found.{Found}
+use Rattle.layout.proofs.Search.{found-entry, found-passes, nothing-entry}
+use Rattle.outcome.specs.Outcome.{unless, tried, Gives}
+use Rattle.gets.specs.Sights.{placed}
+use Rattle.gets.specs.Got.{asked, absent, looked, others}
+use Rattle.gets.specs.declared.Sight.{Sight}
+
+-- ---- a session that is not live, other than 0
+
+numbered-live : (n : ℕ) (e : Slot) → numbered n e ≡ true → free e ≡ false
+numbered-live n noSession p = sym p
+numbered-live n (session x) p = refl
+
+module _ (s : State) (n : ℕ) where
+  pub known-zero : n ≡ 0 → (not (eqb n 0) && notLive s n) ≡ false
+  known-zero e = rw (eq-eqb n 0 e)
+
+  module _ (z : n ≡ 0 → ⊥) (l : length (s .sessions) ≡ sessionCount) where
+    pub known-live : (i : ℕ) → found sessionCount (sessionPlace s n) ≡ Found.At i → (not (eqb n 0) && notLive s n) ≡ false
+    known-live i f =
+        rw (ne-eqb n 0 z, found-entry (numbered n) noSession (s .sessions) sessionCount i f)
+        (numbered-live n (sessionAt s i) (found-passes (numbered n) noSession (s .sessions) sessionCount i l f))
+
+    pub unknown-missing : found sessionCount (sessionPlace s n) ≡ Found.Nothing → (not (eqb n 0) && notLive s n) ≡ true
+    unknown-missing f = rw (ne-eqb n 0 z, nothing-entry (numbered n) noSession (s .sessions) sessionCount l f)
+
+-- ---- a row of one's own
+
+on-taken : (n k : ℕ) (r : Row) → ofOn n k r ≡ true → freeRow r ≡ false
+on-taken n k noRow e = sym e
+on-taken n k (row m j d u) e = refl
+
+pub row-taken : (s : State) (n k i : ℕ) → length (s .rows) ≡ rowCount → found rowCount (rowPlace s n k) ≡ Found.At i → freeRow (rowOf s n k) ≡ false
+row-taken s n k i l f =
+    rw (found-entry (ofOn n k) noRow (s .rows) rowCount i f)
+    (on-taken n k (rowAt s i) (found-passes (ofOn n k) noRow (s .rows) rowCount i l f))
+
+-- ---- an absent key, anyone else
+
+module _ (s : State) (now k : ℕ) where
+  pub absent-blocked : blocked s k ≡ true → absent s now k ≡ told (Answer.Backoff (wait s k now)) s
+  unfolding absent
+  absent-blocked e = rw e
+
+  pub absent-refused : blocked s k ≡ false → numberMax ≤ s .head .nextToken → absent s now k ≡ told (Answer.Refused 13) s
+  unfolding absent
+  absent-refused e h = rw (e, le-leb numberMax (s .head .nextToken) h)
+
+  pub absent-leased : blocked s k ≡ false → s .head .nextToken < numberMax → absent s now k ≡ leased s now k
+  unfolding absent
+  absent-leased e h = rw (e, lt-leb numberMax (s .head .nextToken) h)
+
+  pub lease-gives : (token life : ℕ) → token ≡ s .head .nextToken → life ≡ s .head .readLife → {b : List ℕ}
+      → Holds b (withNumbers (withKeys s (setLease (s .keys) k (some (record { token = token; until = now + life })))) (s .head .nextSession) (token + 1))
+      → Gives (leased s now k) (Answer.Lease token) b
+  unfolding leased
+  lease-gives token life e f h = record { answer = ap Answer.Lease e; holds = rw (add-one token, e, f) at h }
+
+  pub others-hit : (at n : ℕ) {b : List ℕ} → Holds b s → placed (cachedSight k (cached s k)) ≡ Sight.At at n → Gives (others s now k) (Answer.Hit at n) b
+  unfolding others
+  others-hit at n {b} h e = go (cachedSight k (cached s k)) e
+    where
+      go : (o : Option Seen) → placed o ≡ Sight.At at n → Gives (looked s now k o) (Answer.Hit at n) b
+      go none p = absurd (let z : _≡_ {A = ℕ} 0 1 = cc in omega arith)
+      go (some x) p = record { answer = cc; holds = h }
+
+  pub others-absent : placed (cachedSight k (cached s k)) ≡ Sight.Nothing → others s now k ≡ absent s now k
+  unfolding others
+  others-absent e = go (cachedSight k (cached s k)) e
+    where
+      go : (o : Option Seen) → placed o ≡ Sight.Nothing → looked s now k o ≡ absent s now k
+      go none p = refl
+      go (some x) p = absurd (let z : _≡_ {A = ℕ} 0 1 = cc in omega arith)
+
+-- ---- GET
+
+module _ (s : State) (now n k : ℕ) where
+  pub got-key : keyCount ≤ k → tried s now (Get n k) [] ≡ told (Answer.Refused 3) s
+  unfolding tried refusals
+  got-key h = rw (le-leb keyCount k h)
+
+  module _ (h : k < keyCount) where
+    pub got-unknown : (not (eqb n 0) && notLive s n) ≡ true → tried s now (Get n k) [] ≡ told (Answer.Refused 5) s
+    unfolding tried refusals
+    got-unknown e = rw (lt-leb keyCount k h, e)
+
+    module _ (e : (not (eqb n 0) && notLive s n) ≡ false) where
+      -- a value is seen
+      got-hit : (x : Seen) → sight s n k ≡ some x → tried s now (Get n k) [] ≡ record { answer = Answer.Hit (x .at) (length (x .value)); handed = x .value; after = s }
+      unfolding tried refusals effect wouldLease lookedAt
+      got-hit x p = rw (lt-leb keyCount k h, e, p)
+
+      got-ask : sight s n k ≡ none → freeRow (rowOf s n k) ≡ false → tried s now (Get n k) [] ≡ told Answer.Ask s
+      unfolding tried refusals effect wouldLease lookedAt
+      got-ask p f = rw (lt-leb keyCount k h, e, p, f)
+
+      -- the test of the numbers stands before the effect
+      got-absent : sight s n k ≡ none → freeRow (rowOf s n k) ≡ true → tried s now (Get n k) [] ≡ absent s now k
+      unfolding tried refusals effect wouldLease lookedAt missed absent
+      got-absent p f = rw (lt-leb keyCount k h, e, p, f) (go (blocked s k) (leb numberMax (s .head .nextToken)) (told (Answer.Backoff (wait s k now)) s) (leased s now k))
+        where
+          go : (t u : Bool) (x y : Outcome) → unless (first ((not t && u, 13) ∷ [])) s (if t then x else y) ≡ (if t then x else if u then told (Answer.Refused 13) s else y)
+          go true u x y = refl
+          go false true x y = refl
+          go false false x y = refl
+
+      pub got-held : (r : Answer) {b : List ℕ} → Holds b s → freeRow (rowOf s n k) ≡ false → r ≡ asked (placed (sight s n k)) → Gives (tried s now (Get n k) []) r b
+      got-held r {b} g f q = go (sight s n k) refl q
+        where
+          go : (o : Option Seen) → sight s n k ≡ o → r ≡ asked (placed o) → Gives (tried s now (Get n k) []) r b
+          go none p q = rw (got-ask p f) (record { answer = q; holds = g })
+          go (some x) p q = rw (got-hit x p) (record { answer = q; holds = g })
+
+      pub got-others : rowOf s n k ≡ noRow → sight s n k ≡ cachedSight k (cached s k) → tried s now (Get n k) [] ≡ others s now k
+      unfolding others
+      got-others f q = go (cachedSight k (cached s k)) q
+        where
+          go : (o : Option Seen) → sight s n k ≡ o → tried s now (Get n k) [] ≡ looked s now k o
+          go none p = got-absent p (rw f refl)
+          go (some x) p = got-hit x p

@@ -1,0 +1,4 @@
+pub mod Sights
+pub mod Waits
+pub mod Got
+pub mod Shown

@@ -1,0 +1,39 @@
+-- The lease is written first, then the number behind it.
+use Rattle.gets.proofs.Got.{lease-gives}
+use borrow.Author.Needs.{needs}
+use Rattle.gets.proofs.lease.Statement.{statement}
+use Rattle.gets.proofs.lease.Tie as tie
+
+read-life-requires : tie.Need-read-life-requires
+read-life-requires c κs = search needs
+
+add-until : tie.Need-add-until
+add-until c = search needs
+
+put-lease-requires : tie.Need-put-lease-requires
+put-lease-requires c κs = search needs
+
+add-store-next-token : tie.Need-add-store-next-token
+add-store-next-token c = search needs
+
+store-next-token-requires : tie.Need-store-next-token-requires
+store-next-token-requires c κs = search needs
+
+same-length : tie.Need-same-length
+same-length c = search needs
+
+returns : tie.Need-returns
+returns c = λ σ h e. let a = c .before .before .before .before .before .before .before .before .before .before .before .args in
+    lease-gives σ (a .time) (a .k) (a .token) (c .before .before .before .before .before .before .before .before .read-life .result) e (c .before .before .before .before .before .before .before .before .read-life .ensures .0 σ h) (c .before .before .store-next-token .ensures _ (c .before .before .before .before .before .before .put-lease .ensures σ h (search needs)))
+
+pub lease-spec : {M : Type 1} → statement M
+lease-spec =
+    tie.close
+    (tie.spec
+    read-life-requires
+    add-until
+    put-lease-requires
+    add-store-next-token
+    store-next-token-requires
+    same-length
+    returns)

@@ -1,0 +1,226 @@
+-- One pass over the rows: what the kind seen on a row's key and the mark of its session tell of it is what comparing it with each row
+-- before it tells. The kind seen is that of every row before on the key, since rows that do not share it were refused; the mark at a
+-- session's place is that session's, since a place has one number.
+-- Assumes nothing.
+use mathlib.Core.Path.{_≡_, refl, sym, ap, _∙_}
+use mathlib.Core.Bool.{Bool, true, false, not, _&&_, _||_, and-false, or-true}
+use mathlib.Core.Logic.{_⊎_, ⊎-elim, inl, inr}
+use mathlib.Core.List.{List}
+use Prim.Native.Nat.{ℕ, _+_, _*_, _-_, _<_}
+use native.Mathlib.Omega.{arith}
+use lib.ListN.{length, set, length-set, length-replicate, replicate}
+use lib.Seq.{getD-set-same, getD-set-other}
+use lib.Dec.{eqb}
+use borrow.Author.Tests.{eq-eqb, ne-eqb, eqb-true}
+use Rattle.lent.specs.Bytes.{le32}
+use Rattle.lent.specs.Tables.{if_then_else_, every}
+use Rattle.lent.proofs.Choices.{and-yes, clash}
+use Rattle.lent.proofs.Walks.{all-every, every-all, every-fails}
+use Rattle.machine.specs.Sizes.{keyCount, keysFrom, keyWidth, sessionCount}
+use Rattle.joins.specs.Joins.{rowSession, rowKey, rowKind, isLive, pairOk, joinOk, item, placeOf, pairBit, Noted, mayShare, On, Seen, Ready, Joined}
+use Rattle.joins.proofs.Lookup.{Stands, place-dead, place-live}
+use Rattle.joins.proofs.Numbers.{last-or, same-or, item-zeros}
+
+-- ---- rows before another
+
+on-more : {s : List ℕ} {i k j : ℕ} → On s i k j → On s (i + 1) k j
+on-more o = record { before = omega (arith, o .before); used = o .used; key = o .key }
+
+on-last : {s : List ℕ} {i k j : ℕ} → On s (i + 1) k j → (j ≡ i) ⊎ On s i k j
+on-last {s} {i} {k} {j} o = ⊎-elim (λ e. inl e) (λ l. inr (record { before = l; used = o .used; key = o .key })) (last-or j i (o .before))
+
+-- ---- two rows
+
+if-same : (t : Bool) → (if t then true else true) ≡ true
+if-same true = refl
+if-same false = refl
+
+or-cases : (t u : Bool) → t || u ≡ true → (t ≡ true) ⊎ (u ≡ true)
+or-cases true u e = inl refl
+or-cases false u e = inr e
+
+module _ (s : List ℕ) (n k d j : ℕ) where
+  pair-free : rowSession s j ≡ 0 → pairOk s n k d j ≡ true
+  unfolding pairOk
+  pair-free e = rw (eq-eqb (rowSession s j) 0 e)
+
+  pair-off : (rowKey s j ≡ k → ⊥) → pairOk s n k d j ≡ true
+  unfolding pairOk
+  pair-off e = rw (ne-eqb (rowKey s j) k e) (if-same (eqb (rowSession s j) 0))
+
+  pair-on : (i : ℕ) → On s i k j → pairOk s n k d j ≡ not (eqb (rowSession s j) n) && (eqb (rowKind s j) 1 && eqb d 1)
+  unfolding pairOk
+  pair-on i o = rw (ne-eqb (rowSession s j) 0 (o .used), eq-eqb (rowKey s j) k (o .key))
+
+  -- a pair holds if it holds for a used row on the key
+  pair-if : (i : ℕ) → j < i → (On s i k j → (rowSession s j ≡ n → ⊥) × (rowKind s j ≡ 1) × (d ≡ 1)) → pairOk s n k d j ≡ true
+  pair-if i l f =
+      ⊎-elim pair-free
+      (λ u. ⊎-elim (λ e. let o : On s i k j = record { before = l; used = u; key = e } in
+      let x = f o in
+      pair-on i o ∙ rw (ne-eqb (rowSession s j) n (x .0), eq-eqb (rowKind s j) 1 (x .1), eq-eqb d 1 (x .2))) pair-off (same-or (rowKey s j) k))
+      (same-or (rowSession s j) 0)
+
+  pair-kinds : (i : ℕ) → On s i k j → pairOk s n k d j ≡ true → (rowKind s j ≡ 1) × (d ≡ 1)
+  pair-kinds i o p =
+      let b = and-yes (not (eqb (rowSession s j) n)) _ (sym (pair-on i o) ∙ p) .1 in
+      let q = and-yes (eqb (rowKind s j) 1) _ b in
+      (eqb-true (rowKind s j) 1 (q .0), eqb-true d 1 (q .1))
+
+-- ---- row i beside those before it
+
+pub seen-none : (s : List ℕ) (place : ℕ → ℕ) (bit : ℕ → ℕ → Bool) → ((k q : ℕ) → bit k q ≡ false) → Seen s place 0 (replicate keyCount 0) bit
+seen-none s place bit f = record {
+  wide = length-replicate {A = ℕ} keyCount 0;
+  kinds = λ k j o. absurd (omega (arith, o .before));
+  found = λ k u. absurd (u (item-zeros keyCount k));
+  placed = λ k j o. absurd (omega (arith, o .before));
+  marks = λ k j o. absurd (omega (arith, o .before));
+  left = λ k q e. clash (bit k q) e (f k q);
+}
+
+module _ {s nums hint seen near far : List ℕ} {i : ℕ} (y : Ready s i nums hint seen near far) where
+  abbrev P : ℕ → ℕ
+  P = placeOf nums hint
+
+  abbrev bit : ℕ → ℕ → Bool
+  bit = pairBit near far
+
+  -- a free row
+  seen-skip : rowSession s i ≡ 0 → Seen s P (i + 1) seen bit
+  seen-skip e =
+      let h = y .rows in
+      let past : (k j : ℕ) → On s (i + 1) k j → On s i k j = λ k j o. ⊎-elim (λ q. absurd (o .used (ap (rowSession s) q ∙ e))) (λ b. b) (on-last o) in
+      record {
+        wide = h .wide;
+        kinds = λ k j o. h .kinds k j (past k j o);
+        found = λ k u. let w = h .found k u in (w .0, on-more (w .1));
+        placed = λ k j o. h .placed k j (past k j o);
+        marks = λ k j o. h .marks k j (past k j o);
+        left = λ k q u. let w = h .left k q u in (w .0, on-more (w .1), w .2);
+      }
+
+  pub join-free : rowSession s i ≡ 0 → Joined s i true nums hint seen near far
+  unfolding joinOk
+  join-free e = record {
+    is = rw (eq-eqb (rowSession s i) 0 e);
+    next = λ r. record { gathered = y .gathered; sized = y .sized; rows = seen-skip e };
+  }
+
+  -- row i of session n on key k
+  module _ {n k : ℕ} (isn : n ≡ rowSession s i) (isk : k ≡ rowKey s i) (used : n ≡ 0 → ⊥) where
+    abbrev token : ℕ
+    token = le32 s (keysFrom + k * keyWidth + 4)
+
+    abbrev pairs : ℕ → Bool
+    pairs = pairOk s n k (rowKind s i)
+
+    join-is : joinOk s i ≡ (if eqb token 0 then if isLive s n then every pairs i else false else false)
+    unfolding joinOk
+    join-is = rw (isk, isn, ne-eqb (rowSession s i) 0 (λ e. used (isn ∙ e)))
+
+    refused : {seen′ near′ far′ : List ℕ} → joinOk s i ≡ false → Joined s i false nums hint seen′ near′ far′
+    refused e = record { is = sym e; next = λ r. clash false r refl }
+
+    pub join-leased : (token ≡ 0 → ⊥) → Joined s i false nums hint seen near far
+    join-leased e = refused (join-is ∙ rw (ne-eqb token 0 e))
+
+    module _ {p : ℕ} (isp : p ≡ P n) (free : token ≡ 0) where
+      pub join-dead : p ≡ 0 → Joined s i false nums hint seen near far
+      join-dead l = refused (join-is ∙ rw (eq-eqb token 0 free, place-dead s nums hint (y .gathered) n used (sym isp ∙ l)))
+
+      module _ (live : p ≡ 0 → ⊥) where
+        stands : Stands s nums n p
+        stands = rw isp (place-live s nums hint (y .gathered) n used (λ e. live (isp ∙ e)))
+
+        pub place-low : p - 1 < sessionCount
+        place-low = stands .low
+
+        -- of kind d - 1
+        module _ {d : ℕ} (isd : d ≡ rowKind s i + 1) where
+          -- a row before it on the key, and not both of kind 1
+          not-both : (item seen k ≡ 0 → ⊥) → (item seen k ≡ 2 → d ≡ 2 → ⊥) → every pairs i ≡ false
+          not-both z x =
+              let w = y .rows .found k z in
+              let j : ℕ = w .0 in
+              let kd : item seen k ≡ rowKind s j + 1 = y .rows .kinds k j (w .1) in
+              let no : eqb (rowKind s j) 1 && eqb (rowKind s i) 1 ≡ false = ⊎-elim
+              (λ a. rw (eq-eqb (rowKind s j) 1 a) (ne-eqb (rowKind s i) 1 (λ b. x (omega (arith, kd, a)) (omega (arith, isd, b)))))
+              (λ a. rw (ne-eqb (rowKind s j) 1 a))
+              (same-or (rowKind s j) 1) in
+              every-fails pairs i j (w .1 .before) (pair-on s n k (rowKind s i) j i (w .1) ∙ rw no (and-false (not (eqb (rowSession s j) n))))
+
+          -- the mark is that of a row of the session on the key
+          twice : bit k (p - 1) ≡ true → every pairs i ≡ false
+          twice e =
+              let w = y .rows .left k (p - 1) e in
+              let j : ℕ = w .0 in
+              let v = place-live s nums hint (y .gathered) (rowSession s j) (w .1 .used) (y .rows .placed k j (w .1)) .here in
+              let o : rowSession s j ≡ n = sym v ∙ (ap (item nums) (w .2) ∙ stands .here) in
+              every-fails pairs i j (w .1 .before) (pair-on s n k (rowKind s i) j i (w .1) ∙ rw (eq-eqb (rowSession s j) n o))
+
+          new : bit k (p - 1) ≡ false → (j : ℕ) → On s i k j → rowSession s j ≡ n → ⊥
+          new z j o e =
+              let pq : P (rowSession s j) ≡ p = ap P e ∙ sym isp in
+              clash (bit k (p - 1)) (rw pq at (y .rows .marks k j o)) z
+
+          -- all rows on the key are of kind 1
+          all-read : (t : Bool) → bit k (p - 1) ≡ t → item seen k ≡ 2 → d ≡ 2 → not t ≡ every pairs i
+          all-read true m e x = sym (twice m)
+          all-read false m e x = sym (all-every pairs i (λ j l. pair-if s n k (rowKind s i) j i l (λ o. (new m j o, omega (arith, e, y .rows .kinds k j o), omega (arith, isd, x)))))
+
+          share-is : mayShare (item seen k) d (bit k (p - 1)) ≡ every pairs i
+          share-is =
+              ⊎-elim
+              (λ e. rw (eq-eqb (item seen k) 0 e) (sym (all-every pairs i (λ j l. pair-if s n k (rowKind s i) j i l (λ o. absurd (omega (arith, e, y .rows .kinds k j o)))))))
+              (λ z. ⊎-elim
+              (λ e. ⊎-elim
+              (λ x. rw (ne-eqb (item seen k) 0 z, eq-eqb (item seen k) 2 e, eq-eqb d 2 x) (all-read (bit k (p - 1)) refl e x))
+              (λ x. rw (ne-eqb (item seen k) 0 z, eq-eqb (item seen k) 2 e, ne-eqb d 2 x) (sym (not-both z (λ a b. x b))))
+              (same-or d 2))
+              (λ e. rw (ne-eqb (item seen k) 0 z, ne-eqb (item seen k) 2 e) (sym (not-both z (λ a b. e a))))
+              (same-or (item seen k) 2))
+              (same-or (item seen k) 0)
+
+          here : On s (i + 1) k i
+          here = record { before = omega arith; used = λ z. used (isn ∙ z); key = sym isk }
+
+          seen-next : k < keyCount → every pairs i ≡ true → {m : Bool} {near′ far′ : List ℕ} → Noted near far k (p - 1) m near′ far′ → Seen s P (i + 1) (set seen k d) (pairBit near′ far′)
+          seen-next b all note =
+              let h = y .rows in
+              let c : k < length seen = omega (arith, h .wide) in
+              let same : item (set seen k d) k ≡ d = getD-set-same seen k d 0 c in
+              let mine : P (rowSession s i) ≡ p = ap P (sym isn) ∙ sym isp in
+              record {
+                wide = length-set seen k d ∙ h .wide;
+                kinds = λ v j o. ⊎-elim
+                    (λ e. let x : v ≡ k = sym (o .key) ∙ (ap (rowKey s) e ∙ sym isk) in rw (x, e) (same ∙ isd))
+                    (λ w. ⊎-elim
+                    (λ e. let z = pair-kinds s n k (rowKind s i) j i (rw e at w) (every-all pairs i j all (w .before)) in rw e (same ∙ omega (arith, isd, z .0, z .1)))
+                    (λ e. getD-set-other seen k v d 0 e ∙ h .kinds v j w)
+                    (same-or v k))
+                    (on-last o);
+                found = λ v u. ⊎-elim
+                    (λ e. (i, rw e here))
+                    (λ e. let w = h .found v (λ z. u (getD-set-other seen k v d 0 e ∙ z)) in (w .0, on-more (w .1)))
+                    (same-or v k);
+                placed = λ v j o. ⊎-elim (λ e z. live (sym mine ∙ (ap (λ (x : ℕ). P (rowSession s x)) (sym e) ∙ z))) (λ w. h .placed v j w) (on-last o);
+                marks = λ v j o. ⊎-elim
+                    (λ e. let x : v ≡ k = sym (o .key) ∙ (ap (rowKey s) e ∙ sym isk) in
+                    rw (x, e, mine) (note .bits k (p - 1) ∙ rw (eq-eqb k k refl, eq-eqb (p - 1) (p - 1) refl) (or-true (bit k (p - 1)))))
+                    (λ w. note .bits v (P (rowSession s j) - 1) ∙ rw (h .marks v j w))
+                    (on-last o);
+                left = λ v q e. ⊎-elim
+                    (λ z. let w = h .left v q z in (w .0, on-more (w .1), w .2))
+                    (λ z. let a = and-yes (eqb v k) (eqb q (p - 1)) z in
+                    (i, rw (eqb-true v k (a .0)) here, ap (λ (x : ℕ). x - 1) mine ∙ sym (eqb-true q (p - 1) (a .1))))
+                    (or-cases (bit v q) (eqb v k && eqb q (p - 1)) (sym (note .bits v q) ∙ e));
+              }
+
+          pub join-shared : k < keyCount → {r m : Bool} {near′ far′ : List ℕ} → Noted near far k (p - 1) m near′ far′ → r ≡ mayShare (item seen k) d m → Joined s i r nums hint (set seen k d) near′ far′
+          join-shared b {r} note t =
+              let all : r ≡ every pairs i = t ∙ (ap (mayShare (item seen k) d) (note .is) ∙ share-is) in
+              record {
+                is = all ∙ sym (join-is ∙ rw (eq-eqb token 0 free, stands .live));
+                next = λ e. record { gathered = y .gathered; sized = note .sized; rows = seen-next b (sym all ∙ e) note };
+              }

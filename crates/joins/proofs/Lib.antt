@@ -1,0 +1,4 @@
+pub mod Joins
+pub mod Lookup
+pub mod Numbers
+pub mod Pairs

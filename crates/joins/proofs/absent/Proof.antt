@@ -1,0 +1,59 @@
+-- The invariant: the flags joined so far are 0 if no number passed is n.
+use borrow.Author.Needs.{needs}
+use Prim.Native.Nat.{ℕ, _-_, _≤_}
+use mathlib.Core.Path.{_≡_, refl, ap, _∙_}
+use mathlib.Core.Bool.{not}
+use native.Mathlib.Omega.{arith}
+use lib.Bits.{bitOr}
+use lib.Dec.{eqb}
+use Rattle.lent.specs.Tables.{every}
+use Rattle.joins.specs.Joins.{item}
+use Rattle.joins.proofs.Lookup.{absent-more}
+use Rattle.joins.proofs.absent.Statement.{statement}
+use Rattle.joins.proofs.absent.Tie as tie
+
+abbrev Inv-loop : tie.InvT-loop
+Inv-loop nums m n f₀ k₀ f k = (k ≤ m) × (eqb f 0 ≡ every (λ j. not (eqb (item nums j) n)) k)
+
+abbrev μ-loop : tie.MeasureT-loop
+μ-loop nums m n f₀ k₀ f k = m - k
+
+loop-holds : tie.Need-loop-holds Inv-loop μ-loop
+unfolding every
+loop-holds c = (search needs, refl)
+
+mul-at-or : tie.Need-mul-at-or Inv-loop μ-loop
+mul-at-or c = search needs
+
+element-copy-out-at-or : tie.Need-element-copy-out-at-or Inv-loop μ-loop
+element-copy-out-at-or c = search needs
+
+at-or-requires : tie.Need-at-or-requires Inv-loop μ-loop
+at-or-requires c κs = search needs
+
+add-k : tie.Need-add-k Inv-loop μ-loop
+add-k c = search needs
+
+loop-less : tie.Need-loop-less Inv-loop μ-loop
+loop-less c = search needs
+
+loop-again : tie.Need-loop-again Inv-loop μ-loop
+loop-again c = (search needs, ap (λ (v : ℕ). eqb (bitOr (c .before .before .before .loop .f) v) 0) (c .at-or .ensures) ∙ absent-more (c .before .before .before .before .args .nums .now) (c .before .before .before .before .args .n) (c .before .before .before .loop .k) (c .before .before .before .loop .f) (c .before .before .before .loop .inv .1))
+
+returns : tie.Need-returns Inv-loop μ-loop
+returns c = let e : c .before .loop .k ≡ c .before .before .args .m = omega arith in rw e at (c .before .loop .inv .1)
+
+pub absent-spec : {M : Type 1} → statement M
+absent-spec =
+    tie.close
+    (tie.spec
+    Inv-loop
+    μ-loop
+    loop-holds
+    mul-at-or
+    element-copy-out-at-or
+    at-or-requires
+    add-k
+    loop-less
+    loop-again
+    returns)

@@ -1,0 +1,116 @@
+-- By the five returns, each a law of `Joins`.
+use Prim.Native.Nat.{ℕ, _+_}
+use mathlib.Core.Path.{sym, ap, _∙_}
+use Rattle.joins.proofs.Joins.{join-free, join-leased, join-dead, place-low, join-shared}
+use borrow.Author.Needs.{needs}
+use Rattle.joins.proofs.join.Statement.{statement}
+use Rattle.joins.proofs.join.Tie as tie
+
+mul-at : tie.Need-mul-at
+mul-at c = search needs
+
+add-at : tie.Need-add-at
+add-at c = search needs
+
+load-u32-requires : tie.Need-load-u32-requires
+load-u32-requires c κs = search needs
+
+returns : tie.Need-returns
+returns c = join-free (c .before .before .before .pre .1 .1) (sym (c .before .load-u32 .ensures) ∙ c .if1 .taken)
+
+add-index : tie.Need-add-index
+add-index c = search needs
+
+shared-slice-read-index : tie.Need-shared-slice-read-index
+shared-slice-read-index c = search needs
+
+index-requires : tie.Need-index-requires
+index-requires c κs = search needs
+
+mul-load-u32 : tie.Need-mul-load-u32
+mul-load-u32 c = search needs
+
+add-load-u32 : tie.Need-add-load-u32
+add-load-u32 c = search needs
+
+add-load-u32-2 : tie.Need-add-load-u32-2
+add-load-u32-2 c = search needs
+
+load-u32-requires-2 : tie.Need-load-u32-requires-2
+load-u32-requires-2 c κs = search needs
+
+returns-2 : tie.Need-returns-2
+returns-2 c = join-leased (c .before .before .before .before .before .before .before .pre .1 .1) (c .before .before .before .before .before .load-u32 .ensures) (c .before .before .index .ensures .0) (c .before .before .before .before .if1 .left) (λ e. c .if2 .taken (c .before .load-u322 .ensures ∙ e))
+
+place-requires : tie.Need-place-requires
+place-requires c κs = search needs
+
+returns-3 : tie.Need-returns-3
+returns-3 c = join-dead (c .before .before .before .before .before .before .before .before .before .pre .1 .1) (c .before .before .before .before .before .before .before .load-u32 .ensures) (c .before .before .before .before .index .ensures .0) (c .before .before .before .before .before .before .if1 .left) (c .before .place .ensures .0) (sym (c .before .before .before .load-u322 .ensures) ∙ c .before .before .if2 .left) (c .if3 .taken)
+
+add-wide : tie.Need-add-wide
+add-wide c = search needs
+
+shared-slice-read-wide : tie.Need-shared-slice-read-wide
+shared-slice-read-wide c = search needs
+
+wide-requires : tie.Need-wide-requires
+wide-requires c κs = search needs
+
+add-d : tie.Need-add-d
+add-d c = search needs
+
+mul-was : tie.Need-mul-was
+mul-was c = search needs
+
+element-copy-out-was : tie.Need-element-copy-out-was
+element-copy-out-was c = search needs
+
+mul-seen : tie.Need-mul-seen
+mul-seen c = search needs
+
+element-write-seen : tie.Need-element-write-seen
+element-write-seen c = search needs
+
+sub-note-pair : tie.Need-sub-note-pair
+sub-note-pair c = search needs
+
+note-pair-requires : tie.Need-note-pair-requires
+note-pair-requires c κs = (c .before .before .before .before .before .before .before .before .before .index .ensures .1, (place-low (c .before .before .before .before .before .before .before .before .before .before .before .before .before .before .pre .1 .1) (c .before .before .before .before .before .before .before .before .before .before .before .before .load-u32 .ensures) (c .before .before .before .before .before .before .before .before .before .index .ensures .0) (c .before .before .before .before .before .before .before .before .before .before .before .if1 .left) (c .before .before .before .before .before .before .place .ensures .0) (sym (c .before .before .before .before .before .before .before .before .load-u322 .ensures) ∙ c .before .before .before .before .before .before .before .if2 .left) (c .before .before .before .before .before .if3 .left), c .before .before .before .before .before .before .before .before .before .before .before .before .before .before .pre .1 .1 .sized))
+
+may-share-requires : tie.Need-may-share-requires
+may-share-requires c κs = search needs
+
+returns-4 : tie.Need-returns-4
+returns-4 c = join-shared (c .before .before .before .before .before .before .before .before .before .before .before .before .before .before .before .before .pre .1 .1) (c .before .before .before .before .before .before .before .before .before .before .before .before .before .before .load-u32 .ensures) (c .before .before .before .before .before .before .before .before .before .before .before .index .ensures .0) (c .before .before .before .before .before .before .before .before .before .before .before .before .before .if1 .left) (c .before .before .before .before .before .before .before .before .place .ensures .0) (sym (c .before .before .before .before .before .before .before .before .before .before .load-u322 .ensures) ∙ c .before .before .before .before .before .before .before .before .before .if2 .left) (c .before .before .before .before .before .before .before .if3 .left) (ap (λ (v : ℕ). v + 1) (c .before .before .before .before .before .wide .ensures .0)) (c .before .before .before .before .before .before .before .before .before .before .before .index .ensures .1) (c .before .note-pair .ensures) (c .may-share .ensures)
+
+pub join-spec : {M : Type 1} → statement M
+join-spec =
+    tie.close
+    (tie.spec
+    mul-at
+    add-at
+    load-u32-requires
+    returns
+    add-index
+    shared-slice-read-index
+    index-requires
+    mul-load-u32
+    add-load-u32
+    add-load-u32-2
+    load-u32-requires-2
+    returns-2
+    place-requires
+    returns-3
+    add-wide
+    shared-slice-read-wide
+    wide-requires
+    add-d
+    mul-was
+    element-copy-out-was
+    mul-seen
+    element-write-seen
+    sub-note-pair
+    note-pair-requires
+    may-share-requires
+    returns-4)

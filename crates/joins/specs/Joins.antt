@@ -1,0 +1,151 @@
+-- The conditions that join records, as tests of the bytes where they lie.
+use Prim.Native.Nat.{ℕ, zero, suc, _+_, _*_, _-_, _/_, _%_, _≤_, _<_}
+use mathlib.Core.Path.{_≡_}
+use mathlib.Core.Bool.{Bool, true, false, not, _&&_, _||_}
+use mathlib.Core.List.{List}
+use lib.Bits.{bitOr}
+use lib.ListN.{length, getD}
+use lib.Dec.{eqb, ltb}
+use Rattle.lent.specs.Bits.{hasBit}
+use Rattle.lent.specs.Bytes.{le32}
+use Rattle.lent.specs.Tables.{if_then_else_, every, some, first}
+use Rattle.machine.specs.Sizes.{keyCount, keysFrom, keyWidth, rowsFrom, rowWidth, sessionCount, sessionsFrom, sessionWidth}
+
+-- the number at +0 of record i of a table of records of w bytes from off
+abbrev pub numbers : List ℕ → ℕ → ℕ → ℕ → ℕ
+numbers s off w i = le32 s (off + i * w)
+
+-- Rows
+
+-- a row's session, key and kind
+abbrev pub rowSession : List ℕ → ℕ → ℕ
+rowSession s i = numbers s rowsFrom rowWidth i
+
+abbrev pub rowKey : List ℕ → ℕ → ℕ
+rowKey s i = getD s (rowsFrom + i * rowWidth + 4) 0
+
+abbrev pub rowKind : List ℕ → ℕ → ℕ
+rowKind s i = getD s (rowsFrom + i * rowWidth + 5) 0
+
+-- n is the number of a session
+unfoldable pub isLive : List ℕ → ℕ → Bool
+isLive s n = some (λ j. eqb (numbers s sessionsFrom sessionWidth j) n) sessionCount
+
+-- row j, if it is used and on key k, is of another session than n, and both rows are of kind 1
+unfoldable pub pairOk : List ℕ → ℕ → ℕ → ℕ → ℕ → Bool
+pairOk s n k d j =
+    if eqb (rowSession s j) 0 then true
+    else if eqb (rowKey s j) k then not (eqb (rowSession s j) n) && (eqb (rowKind s j) 1 && eqb d 1)
+    else true
+
+-- row i, if it is used: its key has no lease, its session is live, and it agrees with each row before it
+unfoldable pub joinOk : List ℕ → ℕ → Bool
+joinOk s i =
+    if eqb (rowSession s i) 0 then true
+    else if eqb (le32 s (keysFrom + rowKey s i * keyWidth + 4)) 0
+    then if isLive s (rowSession s i) then every (pairOk s (rowSession s i) (rowKey s i) (rowKind s i)) i else false
+    else false
+
+-- Numbers side by side
+
+-- how many there are at most, and how many slots for them
+abbrev pub side : ℕ
+side = 256
+
+abbrev pub slots : ℕ
+slots = 2048
+
+-- the number at place j
+abbrev pub item : List ℕ → ℕ → ℕ
+item nums j = getD nums j 0
+
+-- the first m of the numbers f, and zeros behind them
+pub record Gathered (f : ℕ → ℕ) (m : ℕ) (nums : List ℕ) : Type 0 where
+  pub long : length nums ≡ side
+  pub is : (j : ℕ) → j < m → item nums j ≡ f j
+  pub rest : (j : ℕ) → m ≤ j → item nums j ≡ 0
+
+-- the 11 high bits of the 32 low ones of the product with 2^32 over the golden ratio
+unfoldable pub slotOf : ℕ → ℕ
+slotOf n = n * 2654435769 % 4294967296 / 2097152
+
+-- each number before i that is not 0 has left a mark in its slot
+pub record Marked (f : ℕ → ℕ) (i : ℕ) (mark : List ℕ) : Type 0 where
+  pub long : length mark ≡ slots
+  pub left : (j : ℕ) → j < i → (f j ≡ 0 → ⊥) → item mark (slotOf (f j)) ≡ 0 → ⊥
+
+-- the places below m at which n stands, each plus 1, joined bit by bit
+unfoldable pub joinedPlaces : List ℕ → ℕ → ℕ → ℕ
+joinedPlaces nums n zero = 0
+joinedPlaces nums n (suc m) = bitOr (joinedPlaces nums n m) (if eqb (item nums m) n then m + 1 else 0)
+
+-- The place of a session by its number, plus 1; 0 where there is none
+
+-- the first
+abbrev pub firstPlace : List ℕ → ℕ → ℕ
+firstPlace nums n = first (λ j. eqb (item nums j) n) (λ j. j + 1) 0 0 sessionCount
+
+-- the joined places if they are a place of n, and else the first
+abbrev pub chosenPlace : List ℕ → ℕ → ℕ → ℕ
+chosenPlace nums n p =
+    if eqb p 0 then 0
+    else if ltb sessionCount p then firstPlace nums n
+    else if eqb (item nums (p - 1)) n then p
+    else firstPlace nums n
+
+unfoldable pub findPlace : List ℕ → ℕ → ℕ
+findPlace nums n = chosenPlace nums n (joinedPlaces nums n sessionCount)
+
+-- what the hint says if it is a place of n
+unfoldable pub placeOf : List ℕ → List ℕ → ℕ → ℕ
+placeOf nums hint n = if eqb (item nums (item hint (slotOf n))) n then item hint (slotOf n) + 1 else findPlace nums n
+
+-- One pass over the rows
+
+-- the mark of key k and session place q: bit q of the key's word in `near`, or bit q - 64 of that in `far`
+abbrev pub pairBit : List ℕ → List ℕ → ℕ → ℕ → Bool
+pairBit near far k q = if ltb q 64 then hasBit (item near k) q else hasBit (item far k) (q - 64)
+
+-- a word for each key
+pub record Sized (near far : List ℕ) : Type 0 where
+  pub near-is : length near ≡ keyCount
+  pub far-is : length far ≡ keyCount
+
+-- the mark was r, and is set; no other changes
+pub record Noted (near far : List ℕ) (k q : ℕ) (r : Bool) (near′ far′ : List ℕ) : Type 0 where
+  pub sized : Sized near′ far′
+  pub is : r ≡ pairBit near far k q
+  pub bits : (a v : ℕ) → pairBit near′ far′ a v ≡ (pairBit near far a v || (eqb a k && eqb v q))
+
+-- a row of kind d - 1 may stand on a key on which the kind `seen - 1` was seen, or none if that is 0: both are of kind 1, and the session has no mark there
+abbrev pub mayShare : ℕ → ℕ → Bool → Bool
+mayShare seen d marked =
+    if eqb seen 0 then true
+    else if eqb seen 2 then (if eqb d 2 then not marked else false)
+    else false
+
+-- row j is before row i, used, and on key k
+pub record On (s : List ℕ) (i k j : ℕ) : Type 0 where
+  pub before : j < i
+  pub used : rowSession s j ≡ 0 → ⊥
+  pub key : rowKey s j ≡ k
+
+-- what the kinds seen and the marks say of the rows before i; P is the place of a session's number, plus 1
+pub record Seen (s : List ℕ) (P : ℕ → ℕ) (i : ℕ) (seen : List ℕ) (bit : ℕ → ℕ → Bool) : Type 0 where
+  pub wide : length seen ≡ keyCount
+  pub kinds : (k j : ℕ) → On s i k j → item seen k ≡ rowKind s j + 1
+  pub found : (k : ℕ) → (item seen k ≡ 0 → ⊥) → (j : ℕ) × On s i k j
+  pub placed : (k j : ℕ) → On s i k j → P (rowSession s j) ≡ 0 → ⊥
+  pub marks : (k j : ℕ) → On s i k j → bit k (P (rowSession s j) - 1) ≡ true
+  pub left : (k q : ℕ) → bit k q ≡ true → (j : ℕ) × On s i k j × (P (rowSession s j) - 1 ≡ q)
+
+-- all that the pass knows at row i
+pub record Ready (s : List ℕ) (i : ℕ) (nums hint seen near far : List ℕ) : Type 0 where
+  pub gathered : Gathered (numbers s sessionsFrom sessionWidth) sessionCount nums
+  pub sized : Sized near far
+  pub rows : Seen s (placeOf nums hint) i seen (pairBit near far)
+
+-- r says of row i what is to be said, and if it is true the pass goes on
+pub record Joined (s : List ℕ) (i : ℕ) (r : Bool) (nums hint seen near far : List ℕ) : Type 0 where
+  pub is : r ≡ joinOk s i
+  pub next : r ≡ true → Ready s (i + 1) nums hint seen near far

@@ -1,0 +1,72 @@
+-- A walk over pairs of indices passes exactly if each pair does, and one that asks for distinct numbers exactly if no two are the same.
+-- What holds of the free entry holds past a table's end, so what a walk over a table tests is had for every place.
+use mathlib.Core.Path.{_≡_, sym}
+use mathlib.Core.Bool.{Bool, true, false, not}
+use mathlib.Core.Logic.{_⊎_, inl, inr}
+use mathlib.Core.List.{List}
+use Prim.Native.Nat.{ℕ, _≤_, _<_}
+use native.Mathlib.Omega.{arith}
+use lib.Dec.{eqb, ltb}
+use lib.ListN.{length, getD, List·getD-eq-default}
+use borrow.Author.Tests.{eqb-true, eqb-false, eq-eqb, ne-eqb, ltb-true, ltb-false}
+use Rattle.lent.specs.Tables.{every}
+use Rattle.lent.proofs.Walks.{every-all, all-every}
+use Rattle.machine.specs.Sound.{newAt, distinct}
+use Rattle.machine.proofs.Views.{caseOf, clash, not-true′}
+
+-- pairs, the lower index first
+module _ (q : ℕ → ℕ → Bool) where
+  pub pairs-all : (n i j : ℕ) → every (λ i. every (λ j. q j i) i) n ≡ true → i < n → j < i → q j i ≡ true
+  pairs-all n i j e h l = every-all (λ j. q j i) i j (every-all (λ i. every (λ j. q j i) i) n i e h) l
+
+  pub all-pairs : (n : ℕ) → ((i j : ℕ) → i < n → j < i → q j i ≡ true) → every (λ i. every (λ j. q j i) i) n ≡ true
+  all-pairs n f = all-every (λ i. every (λ j. q j i) i) n (λ i h. all-every (λ j. q j i) i (λ j l. f i j h l))
+
+-- one of three orders
+pub order : (i j : ℕ) → (i ≡ j) ⊎ ((i < j) ⊎ (j < i))
+order i j = go (caseOf (eqb i j)) (caseOf (ltb i j))
+  where
+    go : (eqb i j ≡ true) ⊎ (eqb i j ≡ false) → (ltb i j ≡ true) ⊎ (ltb i j ≡ false) → (i ≡ j) ⊎ ((i < j) ⊎ (j < i))
+    go (inl e) l = inl (eqb-true i j e)
+    go (inr e) (inl l) = inr (inl (ltb-true i j l))
+    go (inr e) (inr l) = inr (inr (let a = eqb-false i j e in let b = ltb-false i j l in omega arith))
+
+-- numbers that are not 0
+module _ (f : ℕ → ℕ) where
+  new-differs : (i j : ℕ) → newAt f i ≡ true → 1 ≤ f i → j < i → f j ≡ f i → ⊥
+  unfolding newAt
+  new-differs i j e h l q = clash (eqb (f j) (f i)) (eq-eqb (f j) (f i) q) (not-true′ _ (every-all (λ j. not (eqb (f j) (f i))) i j (rw (ne-eqb (f i) 0 (λ z. omega arith)) at e) l))
+
+  pub distinct-same : (n i j : ℕ) → distinct f n ≡ true → i < n → j < n → 1 ≤ f i → f i ≡ f j → i ≡ j
+  unfolding distinct
+  distinct-same n i j e h l a q = go (order i j)
+    where
+      go : (i ≡ j) ⊎ ((i < j) ⊎ (j < i)) → i ≡ j
+      go (inl x) = x
+      go (inr (inl x)) = absurd (new-differs j i (every-all (newAt f) n j e l) (omega arith) x q)
+      go (inr (inr x)) = absurd (new-differs i j (every-all (newAt f) n i e h) a x (sym q))
+
+  pub same-distinct : (n : ℕ) → ((i j : ℕ) → 1 ≤ f i → f i ≡ f j → i ≡ j) → distinct f n ≡ true
+  unfolding distinct newAt
+  same-distinct n g = all-every (newAt f) n (λ i h. at i (caseOf (eqb (f i) 0)))
+    where
+      at : (i : ℕ) → (eqb (f i) 0 ≡ true) ⊎ (eqb (f i) 0 ≡ false) → newAt f i ≡ true
+      at i (inl e) = rw e
+      at i (inr e) = rw e (all-every (λ j. not (eqb (f j) (f i))) i (λ j l. rw (ne-eqb (f j) (f i) (λ q. let z = eqb-false (f i) 0 e in let w = g j i (omega arith) q in omega arith))))
+
+-- a place that is not free is inside the table
+module _ {A : Type 0} (l : List A) (d : A) where
+  pub place-inside : (i : ℕ) → (getD l i d ≡ d → ⊥) → i < length l
+  place-inside i f = go (caseOf (ltb i (length l)))
+    where
+      go : (ltb i (length l) ≡ true) ⊎ (ltb i (length l) ≡ false) → i < length l
+      go (inl e) = ltb-true i (length l) e
+      go (inr e) = absurd (f (List·getD-eq-default l d (ltb-false i (length l) e)))
+
+  -- a test that the free entry passes: at each place below the length, so at every place
+  pub every-place : (p : A → Bool) (n : ℕ) → length l ≡ n → p d ≡ true → every (λ i. p (getD l i d)) n ≡ true → (i : ℕ) → p (getD l i d) ≡ true
+  every-place p n e q h i = go (caseOf (ltb i n))
+    where
+      go : (ltb i n ≡ true) ⊎ (ltb i n ≡ false) → p (getD l i d) ≡ true
+      go (inl x) = every-all (λ i. p (getD l i d)) n i h (ltb-true i n x)
+      go (inr x) = let b = ltb-false i n x in rw (List·getD-eq-default l d {n = i} (omega arith)) q

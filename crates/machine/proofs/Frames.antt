@@ -1,0 +1,344 @@
+-- Each accepted command proves its frame. Sessions end without their writers' rows going from under a value (expiry spares
+-- the sealed; UNDO, ABORTED and LOST end a session that has not written; DONE settles its keys to the register's values by
+-- rule 4); FILL stores the register's value by rule 1; every other effect keeps all values.
+use mathlib.Core.Path.{_≡_, refl, sym, ap, _∙_}
+use mathlib.Core.Bool.{Bool, true, false}
+use mathlib.Core.Logic.{_⊎_, inl, inr}
+use mathlib.Core.List.{List, [], _∷_, map, List·Memᴰ, List·Memᴰ·eq-of-singleton}
+use mathlib.Core.Option.{Option, none, some}
+use Prim.Native.Nat.{ℕ, _+_, _≤_}
+use native.Mathlib.Omega.{arith}
+use borrow.Author.Tests.{eq-eqb, ne-eqb}
+use lib.Dec.{eqb, ltb}
+use lib.ListN.{getD, set, List·getD-map}
+use Rattle.machine.specs.Tables.{place, mem, putAt, isNone}
+use Rattle.machine.specs.Words.{wordOf}
+use Rattle.machine.specs.Session.{opened, advanced, sealed, isDue}
+use Rattle.machine.specs.Decision.{grants}
+use Rattle.machine.specs.State.{Value, Lease, Key, blank, noSession, session, Staged, nothing, staged, DROP, Row, noRow, row, State, free, freeRow, kindOf, stagedIn, sessionPlace, sessionOf, rowOf, cached, leaseOn, sessionAt, rowAt}
+use Rattle.machine.specs.Expiry.{withKeys, withRows, setValue, setLease, freeIfOf, settle, leave, finish, lapsedValue, lapsedLease, those, expire}
+use Rattle.machine.specs.Refusals.{decide, blocked, Sight, sight, sealedIn, countOf, refusals, refusal}
+use Rattle.machine.specs.Effects.{Outcome, begins, wait, leased, missed, looked, matches, fills, asks, changed, stagedAnswer, withSession, withStaged, stages, toCache, effect}
+use Rattle.machine.specs.World.{World, sinceGrant, Rules}
+use Rattle.machine.specs.declared.Life.{Life}
+use Rattle.machine.specs.declared.Session.{Session}
+use Rattle.machine.specs.declared.Answer.{Answer}
+use Rattle.machine.specs.declared.Command.{Command}
+use Rattle.machine.specs.declared.Command.the-variants.{Begin, Get, Fill, Quar, Stage, Delta, Validate, Done, Undo, Evict, Tick}
+use Rattle.machine.proofs.Views
+use Rattle.machine.proofs.Orderly
+use Rattle.machine.proofs.Accepted
+use Rattle.machine.proofs.Invariant.{RowOn, Written, Good, Frame, no-row-on}
+
+-- What expiry leaves was there
+
+module _ (now : ℕ) (s : State) where
+  pub expire-lease : (k : ℕ) (l : Lease) → leaseOn (expire now s) k ≡ some l → leaseOn s k ≡ some l
+  unfolding expire finish leave
+  expire-lease k l e = Orderly.lapsed-was s now k l (sym (Views.settle-lease (those (isDue now) (s .sessions)) lapsedValue k (s .rows) (map (lapsedLease now) (s .keys))) ∙ e)
+
+  pub expire-value : (k : ℕ) (v : Value) → cached (expire now s) k ≡ some v → cached s k ≡ some v
+  unfolding expire finish leave
+  expire-value k v e = elim (Views.settle-value (those (isDue now) (s .sessions)) lapsedValue k v (s .rows) (map (lapsedLease now) (s .keys)) e) [
+    | inl h ↦ sym (ap (λ (x : Key). x .value) (List·getD-map (lapsedLease now) (s .keys) k blank)) ∙ h .0
+    | inr h ↦ Views.no-some v (h .gives)
+  ]
+
+  pub expire-row-on : (k : ℕ) → RowOn (expire now s .rows) k → RowOn (s .rows) k
+  unfolding expire finish leave
+  expire-row-on k q = record { number = q .number; holds = record { place = q .holds .place; kind = q .holds .kind; what = q .holds .what; is = Orderly.was-row (those (isDue now) (s .sessions)) (s .rows) (q .holds .place) (q .number) k (q .holds .kind) (q .holds .what) (q .holds .is) .0 } }
+
+-- a writer's row stays where no writer's row on the key is freed
+still-written : (ns : List ℕ) (rs : List Row) (wrote : ℕ → Bool) (k : ℕ) → ((i n d : ℕ) (v : Staged) → getD rs i noRow ≡ row n k d v → wrote n ≡ true → mem n ns ≡ false) → Written rs wrote k → Written (map (freeIfOf ns) rs) wrote k
+still-written ns rs wrote k f q = record {
+  number = q .number;
+  did = q .did;
+  holds = record {
+    place = q .holds .place;
+    kind = q .holds .kind;
+    what = q .holds .what;
+    is = Orderly.still-row ns rs (q .holds .place) (q .number) k (q .holds .kind) (q .holds .what) (q .holds .is) (f (q .holds .place) (q .number) (q .holds .kind) (q .holds .what) (q .holds .is) (q .did));
+  };
+}
+
+-- the answer that stages grants no lease
+staged-quiet : (u : Staged) → eqb (wordOf (stagedAnswer u)) 6 ≡ false
+staged-quiet nothing = refl
+staged-quiet (staged v) = refl
+staged-quiet DROP = refl
+
+module _ (w : World) (g : Good w) where
+  abbrev pub Framed : Outcome → Type 0
+  Framed r = Frame w (r .answer) (r .after)
+
+  -- nothing changes
+  pub stays : (a : Answer) → eqb (wordOf a) 6 ≡ false → Frame w a (w .state)
+  stays a quiet = record {
+    keeps = λ k v p q. p;
+    value = λ k v p. inr (p, λ q. q);
+    opens = λ i x p. inr (i, x, p, refl, λ q. q);
+    grows = omega arith;
+    unwritten = λ k l p u m. g .unwritten k l p u (rw quiet at m);
+  }
+
+  -- values and leases change, nothing else: no lease is new, and no value but the register's, on a key with no row
+  keyed : (a : Answer) (ks : List Key) → eqb (wordOf a) 6 ≡ false
+      → ((k : ℕ) (v : Value) → getD ks k blank .value ≡ some v → (cached (w .state) k ≡ some v) ⊎ ((v ≡ w .register k) × (RowOn (w .state .rows) k → ⊥)))
+      → ((k : ℕ) (l : Lease) → getD ks k blank .lease ≡ some l → leaseOn (w .state) k ≡ some l)
+      → Frame w a (withKeys (w .state) ks)
+  keyed a ks quiet fv fl = record {
+    keeps = λ k v p q. elim (fv k v p) [ inl h ↦ h | inr h ↦ absurd (h .1 q) ];
+    value = λ k v p. elim (fv k v p) [ inl h ↦ inr (h, λ x. x) | inr h ↦ inl (h .0) ];
+    opens = λ i x p. inr (i, x, p, refl, λ q. q);
+    grows = omega arith;
+    unwritten = λ k l p u m. g .unwritten k l (fl k l p) u (rw quiet at m);
+  }
+
+  -- sessions end, and no value or lease is new; a value stays only where no writer among them has a row
+  ends : (a : Answer) (ns : List ℕ) (ks : List Key) → eqb (wordOf a) 6 ≡ false
+      → ((k : ℕ) (v : Value) → getD ks k blank .value ≡ some v → (cached (w .state) k ≡ some v) × ((i n d : ℕ) (u : Staged) → rowAt (w .state) i ≡ row n k d u → w .wrote n ≡ true → mem n ns ≡ false))
+      → ((k : ℕ) (l : Lease) → getD ks k blank .lease ≡ some l → leaseOn (w .state) k ≡ some l)
+      → Frame w a (leave ns (withKeys (w .state) ks))
+  unfolding leave
+  ends a ns ks quiet fv fl = record {
+    keeps = λ k v p q. fv k v p .0;
+    value = λ k v p. inr (fv k v p .0, still-written ns (w .state .rows) (w .wrote) k (fv k v p .1));
+    opens = λ i x p. inr (i, x, Orderly.was-session ns (w .state .sessions) i x p .0, refl, λ q. q);
+    grows = omega arith;
+    unwritten = λ k l p u m. g .unwritten k l (fl k l p) u (rw quiet at m);
+  }
+
+  -- expiry: who has written is sealed, and does not lapse
+  pub expires : (now : ℕ) → Frame w Answer.Ticked (expire now (w .state))
+  unfolding expire finish leave
+  expires now = ends Answer.Ticked (those (isDue now) (w .state .sessions)) (settle (those (isDue now) (w .state .sessions)) lapsedValue (w .state .rows) (map (lapsedLease now) (w .state .keys))) refl
+      (λ k v p. (expire-value now (w .state) k v p, λ i n d u r did. spared n did)) (expire-lease now (w .state))
+    where
+      spared : (n : ℕ) → w .wrote n ≡ true → mem n (those (isDue now) (w .state .sessions)) ≡ false
+      spared n did = elim (Views.caseOf (mem n (those (isDue now) (w .state .sessions)))) [
+        | inl q ↦ absurd (let r = Views.among-those (isDue now) (w .state .sessions) n q in Views.due-open now (r .1 .life) (r .4) (g .writers n did .1 (r .0) (r .1) (r .2) (r .3)))
+        | inr q ↦ q
+      ]
+
+  -- DONE, by rule 4: a value that it caches is the register's, on a key where no row is left
+  dones : (n : ℕ) → ((i k d : ℕ) (v : Value) → rowAt (w .state) i ≡ row n k d (staged v) → v ≡ w .register k) → Frame w Answer.Done (finish (n ∷ []) toCache (w .state))
+  unfolding finish leave
+  dones n rule = record {
+    keeps = λ k v p q. keeps k v q (Views.settle-value (n ∷ []) toCache k v (s .rows) (s .keys) p);
+    value = λ k v p. value k v (Views.settle-value (n ∷ []) toCache k v (s .rows) (s .keys) p);
+    opens = λ i x p. inr (i, x, Orderly.was-session (n ∷ []) (s .sessions) i x p .0, refl, λ q. q);
+    grows = omega arith;
+    unwritten = λ k l p u m. g .unwritten k l (sym (Views.settle-lease (n ∷ []) toCache k (s .rows) (s .keys)) ∙ p) u m;
+  }
+    where
+      s : State
+      s = w .state
+
+      After : ℕ → Value → Type 0
+      After k v = ((cached s k ≡ some v) × Views.Untouched (n ∷ []) (s .rows) k) ⊎ Views.SetBy (n ∷ []) toCache (s .rows) k v
+
+      -- the row that set a value had it staged
+      had : (k : ℕ) (v : Value) (h : Views.SetBy (n ∷ []) toCache (s .rows) k v) → rowAt s (h .place) ≡ row (h .number) k (h .kind) (staged v)
+      had k v h = h .is ∙ ap (row (h .number) k (h .kind)) (Views.to-cache (h .what) v (h .gives))
+
+      value : (k : ℕ) (v : Value) → After k v → (v ≡ w .register k) ⊎ ((cached s k ≡ some v) × (Written (s .rows) (w .wrote) k → Written (map (freeIfOf (n ∷ [])) (s .rows)) (w .wrote) k))
+      value k v (inl h) = inr (h .0, still-written (n ∷ []) (s .rows) (w .wrote) k (λ i m d u r did. h .1 i m d u r))
+      value k v (inr h) = inl (rule (h .place) k (h .kind) v (had k v h ∙ ap (λ (x : ℕ). row x k (h .kind) (staged v)) (Views.mem-one (h .number) n (h .among))))
+
+      keeps : (k : ℕ) (v : Value) → RowOn (map (freeIfOf (n ∷ [])) (s .rows)) k → After k v → cached s k ≡ some v
+      keeps k v q (inl h) = h .0
+      keeps k v q (inr h) = absurd (apart (g .orderly .alone (h .place) (q .holds .place) (h .number) (q .number) k (h .kind) (q .holds .kind) (h .what) (q .holds .what) (h .is) (was .0)))
+        where
+          was : (rowAt s (q .holds .place) ≡ row (q .number) k (q .holds .kind) (q .holds .what)) × (mem (q .number) (n ∷ []) ≡ false)
+          was = Orderly.was-row (n ∷ []) (s .rows) (q .holds .place) (q .number) k (q .holds .kind) (q .holds .what) (q .holds .is)
+
+          apart : (h .kind ≡ 1) ⊎ (h .place ≡ q .holds .place) → ⊥
+          apart (inl e) = g .orderly .plain (h .place) (h .number) k v (had k v h ∙ ap (λ (x : ℕ). row (h .number) k x (staged v)) e)
+          apart (inr e) =
+              let same : row (h .number) k (h .kind) (h .what) ≡ row (q .number) k (q .holds .kind) (q .holds .what) = sym (h .is) ∙ ap (rowAt s) e ∙ was .0 in
+              let who : h .number ≡ q .number = cc in
+              Views.clash (mem (q .number) (n ∷ [])) (rw who at (h .among)) (was .1)
+
+  -- UNDO, by rule 3, ABORTED and LOST: the session has not written
+  leaves : (a : Answer) (n : ℕ) → eqb (wordOf a) 6 ≡ false → w .wrote n ≡ false → Frame w a (leave (n ∷ []) (w .state))
+  leaves a n quiet never = ends a (n ∷ []) (w .state .keys) quiet (λ k v p. (p, λ i m d u r did. spared m did)) (λ k l p. p)
+    where
+      spared : (m : ℕ) → w .wrote m ≡ true → mem m (n ∷ []) ≡ false
+      spared m did = elim (Views.caseOf (mem m (n ∷ []))) [ inl q ↦ Views.clash (w .wrote m) did (rw (Views.mem-one m n q) never) | inr q ↦ q ]
+
+  -- an open session has not written
+  unwrote : (n : ℕ) → free (sessionOf (w .state) n) ≡ false → sealedIn (w .state) n ≡ false → w .wrote n ≡ false
+  unwrote n e f = elim (Views.caseOf (w .wrote n)) [
+    | inl q ↦ (let r = Accepted.session-of (w .state) n e in let life = g .writers n q .1 (sessionPlace (w .state) n) (r .0) (r .1) (r .2) in Views.clash true refl (rw life at (rw (r .1) at f)))
+    | inr q ↦ q
+  ]
+
+  -- FILL, by rule 1
+  filled : (t k : ℕ) (v : Value) (l : Lease) → leaseOn (w .state) k ≡ some l → l .token ≡ t → (fills (w .state) k v .answer ≡ Answer.Stored → List·Memᴰ v (w .since t k)) → Framed (fills (w .state) k v)
+  unfolding fills
+  filled t k v l e q rule = keyed Answer.Stored (set (w .state .keys) k new) refl
+      (λ j u p. value j u p (Views.after-set (w .state .keys) k new j blank)) (Orderly.filled-was (w .state) k v)
+    where
+      new : Key
+      new = record { value = some v; lease = none }
+
+      value : (j : ℕ) (u : Value) → getD (set (w .state .keys) k new) j blank .value ≡ some u → Views.AfterSet (w .state .keys) k new j blank → (cached (w .state) j ≡ some u) ⊎ ((u ≡ w .register j) × (RowOn (w .state .rows) j → ⊥))
+      value j u p (Views.other x y) = inl (sym (ap (λ (z : Key). z .value) y) ∙ p)
+      value j u p (Views.here x y) =
+          let f : v ≡ u = Views.some-eq v u (sym (ap (λ (z : Key). z .value) y) ∙ p) in
+          inr (sym f ∙ g .unwritten k l e v (rw q (rule refl)) ∙ ap (w .register) x, rw (← x) (no-row-on (w .state) (g .orderly) k l e))
+      value j u p (Views.out x y z) = Views.no-some u (sym (ap (λ (z : Key). z .value) y) ∙ p)
+
+  evicts : (k : ℕ) → Frame w Answer.Evicted (withKeys (w .state) (setValue (w .state .keys) k none))
+  evicts k = keyed Answer.Evicted (setValue (w .state .keys) k none) refl
+      (λ j u p. elim (Views.value-after (w .state .keys) k none j) [ inl e ↦ inl (sym e ∙ p) | inr e ↦ Views.no-some u (sym (e .1) ∙ p) ])
+      (λ j h p. sym (Views.value-lease (w .state .keys) k none j) ∙ p)
+
+  -- GET answered LEASE: the new token's record begins with the register's value
+  leases : (now k : ℕ) → Framed (leased (w .state) now k)
+  unfolding leased
+  leases now k = record {
+    keeps = λ j v p q. sym (Views.lease-value (s .keys) k (some new) j) ∙ p;
+    value = λ j v p. inr (sym (Views.lease-value (s .keys) k (some new) j) ∙ p, λ q. q);
+    opens = λ i x p. inr (i, x, p, refl, λ q. q);
+    grows = omega arith;
+    unwritten = λ j l p u m. fill j l p u m (Views.lease-after (s .keys) k (some new) j);
+  }
+    where
+      s : State
+      s = w .state
+
+      new : Lease
+      new = record { token = s .head .nextToken; until = now + s .head .readLife }
+
+      ks : List Key
+      ks = setLease (s .keys) k (some new)
+
+      fill : (j : ℕ) (l : Lease) → getD ks j blank .lease ≡ some l → (u : Value) → List·Memᴰ u (sinceGrant (w .register) (w .since) (Answer.Lease (s .head .nextToken)) (l .token) j)
+          → ((k ≡ j → ⊥) × (getD ks j blank .lease ≡ leaseOn s j)) ⊎ ((k ≡ j) × ((getD ks j blank .lease ≡ some new) ⊎ (getD ks j blank .lease ≡ none)))
+          → u ≡ w .register j
+      fill j l p u m (inl x) =
+          let given = g .orderly .leases j l (sym (x .1) ∙ p) .0 in
+          let old : eqb (s .head .nextToken) (l .token) ≡ false = ne-eqb (s .head .nextToken) (l .token) (λ q. omega arith) in
+          g .unwritten j l (sym (x .1) ∙ p) u (rw old at m)
+      fill j l p u m (inr x) = elim (x .1) [
+        | inl y ↦ (let e : new ≡ l = Views.some-eq new l (sym y ∙ p) in
+            let mine : eqb (s .head .nextToken) (l .token) ≡ true = eq-eqb (s .head .nextToken) (l .token) (ap (λ (z : Lease). z .token) e) in
+            List·Memᴰ·eq-of-singleton (rw mine at m))
+        | inr y ↦ Views.no-some l (sym y ∙ p)
+      ]
+
+  -- BEGIN: the new session has the next number
+  new-session : (now : ℕ) → Framed (begins (w .state) now)
+  unfolding begins
+  new-session now = record {
+    keeps = λ k v p q. p;
+    value = λ k v p. inr (p, λ q. q);
+    opens = λ i x p. elim (Orderly.was-set (s .sessions) (place free (s .sessions)) (session new) i noSession (session x) (Views.no-session x) p) [
+      | inl y ↦ inr (i, x, y, refl, λ q. q)
+      | inr y ↦ inl (let e = y .1 in let q : s .head .nextSession ≡ x .number = cc in omega arith)
+    ];
+    grows = omega arith;
+    unwritten = g .unwritten;
+  }
+    where
+      s : State
+      s = w .state
+
+      new : Session
+      new = opened (s .head .nextSession) (now + s .head .writeLife)
+
+  -- QUAR granted: every row and value stays
+  granted : (n k kind : ℕ) → Frame w Answer.Granted (withKeys (withRows (w .state) (putAt freeRow (row n k kind nothing) (w .state .rows))) (setLease (w .state .keys) k none))
+  granted n k kind = record {
+    keeps = λ j v p q. sym (Views.lease-value (s .keys) k none j) ∙ p;
+    value = λ j v p. inr (sym (Views.lease-value (s .keys) k none j) ∙ p, λ q. record { number = q .number; did = q .did; holds = record { place = q .holds .place; kind = q .holds .kind; what = q .holds .what; is = stays-row (q .holds .place) (q .number) j (q .holds .kind) (q .holds .what) (q .holds .is) } });
+    opens = λ i x p. inr (i, x, p, refl, λ q. q);
+    grows = omega arith;
+    unwritten = λ j l p u m. g .unwritten j l (Orderly.voided-was s k j l p .1) u m;
+  }
+    where
+      s : State
+      s = w .state
+
+      at : ℕ
+      at = place freeRow (s .rows)
+
+      -- the place taken was free
+      stays-row : (i m j d : ℕ) (v : Staged) → rowAt s i ≡ row m j d v → getD (putAt freeRow (row n k kind nothing) (s .rows)) i noRow ≡ row m j d v
+      stays-row i m j d v e = elim (Orderly.still-set (s .rows) at (row n k kind nothing) i noRow (row m j d v) (Views.no-row m j d v) e) [
+        | inl p ↦ p
+        | inr p ↦ Views.no-row m j d v (sym (Views.free-is (rowAt s at) (Views.free-place freeRow noRow (s .rows) refl)) ∙ ap (rowAt s) (p .0) ∙ e)
+      ]
+
+  -- a session put through f, which keeps its number and its seal, stands where it stood
+  stands : (n : ℕ) (f : Session → Session) → ((m : Session) → (f m .number ≡ m .number) × (m .life ≡ Life.Sealed → f m .life ≡ Life.Sealed)) → (i : ℕ) (x : Session) → sessionAt (withSession (w .state) n f) i ≡ session x
+      → (w .state .head .nextSession ≤ x .number) ⊎ ((j : ℕ) × (m : Session) × (sessionAt (w .state) j ≡ session m) × (m .number ≡ x .number) × (m .life ≡ Life.Sealed → x .life ≡ Life.Sealed))
+  stands n f same i x p =
+      let r = Orderly.was-slot (w .state) n f i x p in
+      inr (
+        i,
+        r .0,
+        r .1,
+        elim (r .2) [ inl e ↦ sym (ap (λ (y : Session). y .number) e) | inr e ↦ sym (same (r .0) .0) ∙ sym (ap (λ (y : Session). y .number) (e .1)) ],
+        λ q. elim (r .2) [ inl e ↦ ap (λ (y : Session). y .life) e ∙ q | inr e ↦ ap (λ (y : Session). y .life) (e .1) ∙ same (r .0) .1 q ],
+      )
+
+  -- STAGE, DELTA
+  stages-row : (n k : ℕ) (u : Staged) → Frame w (stagedAnswer u) (withStaged (withSession (w .state) n advanced) n k u)
+  stages-row n k u = record {
+    keeps = λ j y p q. p;
+    value = λ j y p. inr (
+      p,
+      λ q.
+          let r = Orderly.still-staged (w .state) n k u (q .holds .place) (q .number) j (q .holds .kind) (q .holds .what) (q .holds .is) in
+          record { number = q .number; did = q .did; holds = record { place = q .holds .place; kind = q .holds .kind; what = r .0; is = r .1 } },
+    );
+    opens = stands n advanced (λ m. (refl, λ q. q));
+    grows = omega arith;
+    unwritten = λ j l p y m. g .unwritten j l p y (rw (staged-quiet u) at m);
+  }
+
+  -- VALIDATE
+  seals : (n : ℕ) → Frame w Answer.Validated (withSession (w .state) n sealed)
+  seals n = record {
+    keeps = λ k v p q. p;
+    value = λ k v p. inr (p, λ q. q);
+    opens = stands n sealed (λ m. (refl, λ q. refl));
+    grows = omega arith;
+    unwritten = g .unwritten;
+  }
+
+  -- Each accepted command
+
+  gets : (now n k : ℕ) (o : Option Sight) → Framed (looked (w .state) now n k o)
+  unfolding looked missed
+  gets now n k (some x) = stays (Answer.Hit (x .at) _) refl
+  gets now n k none = Views.if-ind Framed (freeRow (rowOf (w .state) n k))
+      (λ e. Views.if-ind Framed (blocked (w .state) k) (λ b. stays (Answer.Backoff (wait (w .state) k now)) refl) (λ b. leases now k))
+      (λ e. stays Answer.Ask refl)
+
+  quars : (n k kind : ℕ) → w .wrote n ≡ false → Framed (asks (w .state) n k kind)
+  unfolding asks
+  quars n k kind never = Views.if-ind Framed (grants (decide (w .state) k kind)) (λ e. granted n k kind) (λ e. leaves Answer.Aborted n refl never)
+
+  staging : (n i k : ℕ) (u : Staged) → Framed (stages (w .state) n i k u)
+  unfolding stages
+  staging n i k u = Views.if-ind Framed (ltb i (countOf (w .state) n)) (λ p. stays Answer.Repeated refl) (λ p. stages-row n k u)
+
+  pub framed : (now : ℕ) (c : Command) (v : Value) → refusal (w .state) now c v ≡ none → Rules w c v (effect (w .state) now c v .answer) → Framed (effect (w .state) now c v)
+  unfolding effect refusals
+  framed now Begin v e rule = new-session now
+  framed now (Get n k) v e rule = gets now n k (sight (w .state) n k)
+  framed now (Fill t k) v e rule = Views.if-ind (λ (r : Outcome). (r .answer ≡ Answer.Stored → List·Memᴰ v (w .since t k)) → Framed r) (matches t (leaseOn (w .state) k))
+      (λ m rule. let r = Accepted.matched t (leaseOn (w .state) k) m in filled t k v (r .0) (r .1) (r .2) rule) (λ m rule. stays Answer.Ignored refl) rule
+  framed now (Quar n k kind) v e rule = let no = Accepted.passed (w .state) now (Quar n k kind) v e in
+      Views.if-ind Framed (eqb (kindOf (rowOf (w .state) n k)) kind) (λ m. stays Answer.Held refl) (λ m. quars n k kind (unwrote n (no 2) (no 3)))
+  framed now (Stage n i k) v e rule = staging n i k (staged v)
+  framed now (Delta n i k o) v e rule = staging n i k (changed o v (stagedIn (rowOf (w .state) n k)) (cached (w .state) k))
+  framed now (Validate n m) v e rule = let no = Accepted.passed (w .state) now (Validate n m) v e in Views.if-ind Framed (eqb m (countOf (w .state) n))
+      (λ p. seals n) (λ p. leaves Answer.Lost n refl (unwrote n (no 2) (Views.and-false (sealedIn (w .state) n) (rw p at (no 3)))))
+  framed now (Done n) v e rule = dones n (rule refl)
+  framed now (Undo n) v e rule = leaves Answer.Undone n refl (rule refl)
+  framed now (Evict k) v e rule = Views.if-ind Framed (isNone (cached (w .state) k)) (λ p. stays Answer.Empty refl) (λ p. evicts k)
+  framed now Tick v e rule = stays Answer.Ticked refl

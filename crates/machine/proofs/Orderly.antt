@@ -1,0 +1,335 @@
+-- The shape of the tables that every command keeps, under no rule of the clients: tokens and session numbers were given,
+-- session numbers differ, no row is on a leased key, and only invalidations share a key.
+-- Each law reads every entry of the new tables back to the one that stood at its place before.
+use mathlib.Core.Path.{_≡_, refl, sym, ap, _∙_}
+use mathlib.Core.Bool.{true, false}
+use mathlib.Core.Logic.{_⊎_, inl, inr}
+use mathlib.Core.List.{List, map}
+use mathlib.Core.Option.{Option, none, some}
+use Prim.Native.Nat.{ℕ, suc, _+_, _≤_, _<_}
+use native.Mathlib.Omega.{arith}
+use borrow.Author.Tests.{eqb-true}
+use lib.Dec.{eqb}
+use lib.ListN.{getD, set, List·getD-map}
+use Rattle.machine.specs.Sizes.{keyCount, sessionCount, rowCount}
+use Rattle.machine.specs.Tables.{place, mem, putAt}
+use Rattle.machine.specs.Session.{opened, advanced, sealed, isDue}
+use Rattle.machine.specs.State.{Value, Lease, Key, blank, Slot, noSession, session, Staged, nothing, staged, Row, noRow, row, State, fresh, free, freeRow, numbered, ofOn, sessionOf, rowOf, leaseOn, sessionAt, rowAt}
+use Rattle.machine.specs.Expiry.{withKeys, withSessions, withRows, withClock, setValue, setLease, freeIfOf, freeSession, settle, leave, finish, lapsedValue, lapsedLease, those, expire}
+use Rattle.machine.specs.Effects.{begins, leased, fills, onSlot, restaged, withSession, withStaged}
+use Rattle.machine.specs.declared.Session.{Session}
+use Rattle.machine.proofs.Views
+
+pub record Orderly (s : State) : Type 0 where
+  -- a lease's token was given, and no row is on its key
+  pub leases : (k : ℕ) (l : Lease) → leaseOn s k ≡ some l → (l .token < s .head .nextToken) × ((i n d : ℕ) (v : Staged) → rowAt s i ≡ row n k d v → ⊥)
+  -- a session's number was given, and to it alone
+  pub numbers : (i : ℕ) (x : Session) → sessionAt s i ≡ session x → x .number < s .head .nextSession
+  pub unique : (i j : ℕ) (x y : Session) → sessionAt s i ≡ session x → sessionAt s j ≡ session y → x .number ≡ y .number → i ≡ j
+  -- a row's kind; two rows on one key are invalidations, which stage nothing
+  pub kinds : (i n k d : ℕ) (v : Staged) → rowAt s i ≡ row n k d v → (1 ≤ d) × (d ≤ 3)
+  pub alone : (i j n m k d e : ℕ) (u v : Staged) → rowAt s i ≡ row n k d u → rowAt s j ≡ row m k e v → (d ≡ 1) ⊎ (i ≡ j)
+  pub plain : (i n k : ℕ) (v : Value) → rowAt s i ≡ row n k 1 (staged v) → ⊥
+
+-- One place set
+
+module _ {A : Type 0} (l : List A) (i : ℕ) (a : A) (j : ℕ) (d b : A) (entry : d ≡ b → ⊥) where
+  -- an entry after `set` stood there before, or was set
+  pub was-set : getD (set l i a) j d ≡ b → (getD l j d ≡ b) ⊎ ((i ≡ j) × (a ≡ b))
+  was-set e = go (Views.after-set l i a j d)
+    where
+      go : Views.AfterSet l i a j d → (getD l j d ≡ b) ⊎ ((i ≡ j) × (a ≡ b))
+      go (Views.other p q) = inl (sym q ∙ e)
+      go (Views.here p q) = inr (p, sym q ∙ e)
+      go (Views.out p q r) = absurd (entry (sym q ∙ e))
+
+  -- an entry before `set` still stands there, or is replaced
+  pub still-set : getD l j d ≡ b → (getD (set l i a) j d ≡ b) ⊎ ((i ≡ j) × (getD (set l i a) j d ≡ a))
+  still-set e = go (Views.after-set l i a j d)
+    where
+      go : Views.AfterSet l i a j d → (getD (set l i a) j d ≡ b) ⊎ ((i ≡ j) × (getD (set l i a) j d ≡ a))
+      go (Views.other p q) = inl (q ∙ e)
+      go (Views.here p q) = inr (p, q)
+      go (Views.out p q r) = absurd (entry (sym r ∙ e))
+
+-- a session after one was put through f: as it was, or f of it
+pub was-slot : (s : State) (n : ℕ) (f : Session → Session) (i : ℕ) (x : Session) → sessionAt (withSession s n f) i ≡ session x
+    → (m : Session) × (sessionAt s i ≡ session m) × ((x ≡ m) ⊎ ((m .number ≡ n) × (x ≡ f m)))
+was-slot s n f i x e = go (was-set (s .sessions) at (onSlot f (sessionOf s n)) i noSession (session x) (Views.no-session x) e)
+  where
+    Was : Type 0
+    Was = (m : Session) × (sessionAt s i ≡ session m) × ((x ≡ m) ⊎ ((m .number ≡ n) × (x ≡ f m)))
+
+    at : ℕ
+    at = place (numbered n) (s .sessions)
+
+    mine : (y : Slot) → sessionAt s at ≡ y → (y ≡ noSession) ⊎ (numbered n y ≡ true) → at ≡ i → onSlot f y ≡ session x → Was
+    mine noSession p q r h = Views.no-session x h
+    mine (session m) p (inl q) r h = Views.no-session m (sym q)
+    mine (session m) p (inr q) r h = (m, sym (ap (sessionAt s) r) ∙ p, inr (eqb-true (m .number) n q, cc))
+
+    go : (sessionAt s i ≡ session x) ⊎ ((at ≡ i) × (onSlot f (sessionOf s n) ≡ session x)) → Was
+    go (inl h) = (x, h, inl refl)
+    go (inr h) = mine (sessionOf s n) refl (Views.find-test (numbered n) noSession (s .sessions)) (h .0) (h .1)
+
+-- a row after u was staged in one: as it was, or with u
+pub was-staged : (s : State) (n k : ℕ) (u : Staged) (i m j d : ℕ) (v : Staged) → rowAt (withStaged s n k u) i ≡ row m j d v
+    → (v′ : Staged) × (rowAt s i ≡ row m j d v′) × ((v ≡ v′) ⊎ ((m ≡ n) × (j ≡ k) × (v ≡ u)))
+was-staged s n k u i m j d v e = go (was-set (s .rows) at (restaged u (rowOf s n k)) i noRow (row m j d v) (Views.no-row m j d v) e)
+  where
+    Was : Type 0
+    Was = (v′ : Staged) × (rowAt s i ≡ row m j d v′) × ((v ≡ v′) ⊎ ((m ≡ n) × (j ≡ k) × (v ≡ u)))
+
+    at : ℕ
+    at = place (ofOn n k) (s .rows)
+
+    mine : (r : Row) → rowAt s at ≡ r → (r ≡ noRow) ⊎ (ofOn n k r ≡ true) → at ≡ i → restaged u r ≡ row m j d v → Was
+    mine noRow p q a h = Views.no-row m j d v h
+    mine (row b c y z) p (inl q) a h = Views.no-row b c y z (sym q)
+    mine (row b c y z) p (inr q) a h =
+        let mine-n : b ≡ n = eqb-true b n (Views.and-true₁ (eqb b n) (eqb c k) q) in
+        let mine-k : c ≡ k = eqb-true c k (Views.and-true₂ (eqb b n) (eqb c k) q) in
+        let there : rowAt s i ≡ row b c y z = sym (ap (rowAt s) a) ∙ p in
+        (z, cc, inr (cc, cc, cc))
+
+    go : (rowAt s i ≡ row m j d v) ⊎ ((at ≡ i) × (restaged u (rowOf s n k) ≡ row m j d v)) → Was
+    go (inl h) = (v, h, inl refl)
+    go (inr h) = mine (rowOf s n k) refl (Views.find-test (ofOn n k) noRow (s .rows)) (h .0) (h .1)
+
+-- and each row is still there, with what is staged in it
+pub still-staged : (s : State) (n k : ℕ) (u : Staged) (i m j d : ℕ) (v : Staged) → rowAt s i ≡ row m j d v → (v′ : Staged) × (rowAt (withStaged s n k u) i ≡ row m j d v′)
+still-staged s n k u i m j d v e = go (still-set (s .rows) at (restaged u (rowOf s n k)) i noRow (row m j d v) (Views.no-row m j d v) e)
+  where
+    at : ℕ
+    at = place (ofOn n k) (s .rows)
+
+    go : (rowAt (withStaged s n k u) i ≡ row m j d v) ⊎ ((at ≡ i) × (rowAt (withStaged s n k u) i ≡ restaged u (rowOf s n k))) → (v′ : Staged) × (rowAt (withStaged s n k u) i ≡ row m j d v′)
+    go (inl h) = (v, h)
+    go (inr h) = (u, h .1 ∙ ap (restaged u) (ap (rowAt s) (h .0) ∙ e))
+
+-- Sessions ended
+
+module _ (ns : List ℕ) where
+  pub was-row : (rs : List Row) (i n k d : ℕ) (v : Staged) → getD (map (freeIfOf ns) rs) i noRow ≡ row n k d v → (getD rs i noRow ≡ row n k d v) × (mem n ns ≡ false)
+  was-row rs i n k d v e = Views.freed ns (getD rs i noRow) n k d v (sym (List·getD-map (freeIfOf ns) rs i noRow) ∙ e)
+
+  pub still-row : (rs : List Row) (i n k d : ℕ) (v : Staged) → getD rs i noRow ≡ row n k d v → mem n ns ≡ false → getD (map (freeIfOf ns) rs) i noRow ≡ row n k d v
+  still-row rs i n k d v e q = List·getD-map (freeIfOf ns) rs i noRow ∙ Views.not-freed ns (getD rs i noRow) n k d v e q
+
+  pub was-session : (l : List Slot) (i : ℕ) (x : Session) → getD (map (freeSession ns) l) i noSession ≡ session x → (getD l i noSession ≡ session x) × (mem (x .number) ns ≡ false)
+  was-session l i x e = Views.ended ns (getD l i noSession) x (sym (List·getD-map (freeSession ns) l i noSession) ∙ e)
+
+-- Leases that are left
+
+-- a lease that has not lapsed
+pub lapsed-was : (s : State) (now k : ℕ) (l : Lease) → getD (map (lapsedLease now) (s .keys)) k blank .lease ≡ some l → leaseOn s k ≡ some l
+lapsed-was s now k l e = Views.unlapsed-was now (leaseOn s k) l (sym (ap (λ (x : Key). x .lease) (List·getD-map (lapsedLease now) (s .keys) k blank)) ∙ e)
+
+-- a lease, once key k is filled
+pub filled-was : (s : State) (k : ℕ) (v : Value) (j : ℕ) (l : Lease) → getD (set (s .keys) k (record { value = some v; lease = none })) j blank .lease ≡ some l → leaseOn s j ≡ some l
+filled-was s k v j l e = go (Views.after-set (s .keys) k (record { value = some v; lease = none }) j blank)
+  where
+    go : Views.AfterSet (s .keys) k (record { value = some v; lease = none }) j blank → leaseOn s j ≡ some l
+    go (Views.other p q) = sym (ap (λ (x : Key). x .lease) q) ∙ e
+    go (Views.here p q) = Views.no-some l (sym (ap (λ (x : Key). x .lease) q) ∙ e)
+    go (Views.out p q r) = Views.no-some l (sym (ap (λ (x : Key). x .lease) q) ∙ e)
+
+-- a lease, once that of key k is voided, is on another key
+pub voided-was : (s : State) (k j : ℕ) (l : Lease) → getD (setLease (s .keys) k none) j blank .lease ≡ some l → (k ≡ j → ⊥) × (leaseOn s j ≡ some l)
+voided-was s k j l e = elim (Views.lease-after (s .keys) k none j) [
+  | inl p ↦ (p .0, sym (p .1) ∙ e)
+  | inr p ↦ elim (p .1) [ inl q ↦ Views.no-some l (sym q ∙ e) | inr q ↦ Views.no-some l (sym q ∙ e) ]
+]
+
+-- One table replaced
+
+-- each lease stood before, or is as it must be
+pub orderly-keys : (s : State) (ks : List Key)
+    → ((k : ℕ) (l : Lease) → getD ks k blank .lease ≡ some l → (leaseOn s k ≡ some l) ⊎ ((l .token < s .head .nextToken) × ((i n d : ℕ) (v : Staged) → rowAt s i ≡ row n k d v → ⊥)))
+    → Orderly s → Orderly (withKeys s ks)
+orderly-keys s ks f h = record {
+  leases = λ k l e. elim (f k l e) [ inl p ↦ h .leases k l p | inr p ↦ p ];
+  numbers = h .numbers;
+  unique = h .unique;
+  kinds = h .kinds;
+  alone = h .alone;
+  plain = h .plain;
+}
+
+-- each session stood at its place with its number
+pub orderly-sessions : (s : State) (l : List Slot)
+    → ((i : ℕ) (x : Session) → getD l i noSession ≡ session x → (m : Session) × (sessionAt s i ≡ session m) × (m .number ≡ x .number))
+    → Orderly s → Orderly (withSessions s l)
+orderly-sessions s l f h = record {
+  leases = h .leases;
+  numbers = λ i x e. let r = f i x e in rw (← (r .2)) (h .numbers i (r .0) (r .1));
+  unique = λ i j x y e e′ q. let r = f i x e in let t = f j y e′ in h .unique i j (r .0) (t .0) (r .1) (t .1) (r .2 ∙ q ∙ sym (t .2));
+  kinds = h .kinds;
+  alone = h .alone;
+  plain = h .plain;
+}
+
+-- each row stood at its place with its session, key and kind, and an invalidation with what it stages
+pub orderly-rows : (s : State) (rs : List Row)
+    → ((i n k d : ℕ) (v : Staged) → getD rs i noRow ≡ row n k d v → (u : Staged) × (rowAt s i ≡ row n k d u) × (d ≡ 1 → v ≡ u))
+    → Orderly s → Orderly (withRows s rs)
+orderly-rows s rs f h = record {
+  leases = λ k l e. (h .leases k l e .0, λ i n d v p. let r = f i n k d v p in h .leases k l e .1 i n d (r .0) (r .1));
+  numbers = h .numbers;
+  unique = h .unique;
+  kinds = λ i n k d v e. let r = f i n k d v e in h .kinds i n k d (r .0) (r .1);
+  alone = λ i j n m k d c u v e e′. let r = f i n k d u e in let t = f j m k c v e′ in h .alone i j n m k d c (r .0) (t .0) (r .1) (t .1);
+  plain = λ i n k v e. let r = f i n k 1 (staged v) e in h .plain i n k v (r .1 ∙ ap (row n k 1) (sym (r .2 refl)));
+}
+
+-- Each change of a state
+
+pub orderly-clock : (s : State) (now : ℕ) → Orderly s → Orderly (withClock s now)
+orderly-clock s now h = record { leases = h .leases; numbers = h .numbers; unique = h .unique; kinds = h .kinds; alone = h .alone; plain = h .plain }
+
+pub orderly-leave : (s : State) (ns : List ℕ) → Orderly s → Orderly (leave ns s)
+unfolding leave
+orderly-leave s ns h = orderly-sessions (withRows s (map (freeIfOf ns) (s .rows))) (map (freeSession ns) (s .sessions)) (λ i x e. (x, was-session ns (s .sessions) i x e .0, refl))
+    (orderly-rows s (map (freeIfOf ns) (s .rows)) (λ i n k d v e. (v, was-row ns (s .rows) i n k d v e .0, λ q. refl)) h)
+
+pub orderly-finish : (s : State) (ns : List ℕ) (f : Staged → Option Value) → Orderly s → Orderly (finish ns f s)
+unfolding finish
+orderly-finish s ns f h = orderly-leave (withKeys s (settle ns f (s .rows) (s .keys))) ns
+    (orderly-keys s (settle ns f (s .rows) (s .keys)) (λ k l p. inl (sym (Views.settle-lease ns f k (s .rows) (s .keys)) ∙ p)) h)
+
+pub orderly-expire : (s : State) (now : ℕ) → Orderly s → Orderly (expire now s)
+unfolding expire
+orderly-expire s now h = orderly-finish (withKeys s (map (lapsedLease now) (s .keys))) (those (isDue now) (s .sessions)) lapsedValue
+    (orderly-keys s (map (lapsedLease now) (s .keys)) (λ k l p. inl (lapsed-was s now k l p)) h)
+
+pub orderly-filled : (s : State) (k : ℕ) (v : Value) → Orderly s → Orderly (fills s k v .after)
+unfolding fills
+orderly-filled s k v h = orderly-keys s (set (s .keys) k (record { value = some v; lease = none })) (λ j l p. inl (filled-was s k v j l p)) h
+
+pub orderly-evicted : (s : State) (k : ℕ) → Orderly s → Orderly (withKeys s (setValue (s .keys) k none))
+orderly-evicted s k h = orderly-keys s (setValue (s .keys) k none) (λ j l p. inl (sym (Views.value-lease (s .keys) k none j) ∙ p)) h
+
+-- a session put through f keeps its number
+pub orderly-session : (s : State) (n : ℕ) (f : Session → Session) → ((x : Session) → f x .number ≡ x .number) → Orderly s → Orderly (withSession s n f)
+orderly-session s n f same h = orderly-sessions s (withSession s n f .sessions) (λ i x e. let r = was-slot s n f i x e in (r .0, r .1, number x (r .0) (r .2))) h
+  where
+    number : (x m : Session) → (x ≡ m) ⊎ ((m .number ≡ n) × (x ≡ f m)) → m .number ≡ x .number
+    number x m (inl e) = sym (ap (λ (y : Session). y .number) e)
+    number x m (inr e) = sym (same m) ∙ sym (ap (λ (y : Session). y .number) (e .1))
+
+-- VALIDATE
+pub orderly-seal : (s : State) (n : ℕ) → Orderly s → Orderly (withSession s n sealed)
+orderly-seal s n h = orderly-session s n sealed (λ x. refl) h
+
+-- STAGE and DELTA, in a row that is no invalidation
+pub orderly-staged : (s : State) (n k i d : ℕ) (u v : Staged) → rowAt s i ≡ row n k d v → (d ≡ 1 → ⊥) → Orderly s → Orderly (withStaged (withSession s n advanced) n k u)
+orderly-staged s n k i d u v mine apart h = orderly-rows s₁ (withStaged s₁ n k u .rows) (λ j m l c y e. let r = was-staged s₁ n k u j m l c y e in (r .0, r .1, λ one. plain j m l c y (r .0) (r .1) one (r .2))) (orderly-session s n advanced (λ x. refl) h)
+  where
+    s₁ : State
+    s₁ = withSession s n advanced
+
+    plain : (j m l c : ℕ) (y y′ : Staged) → rowAt s j ≡ row m l c y′ → c ≡ 1 → (y ≡ y′) ⊎ ((m ≡ n) × (l ≡ k) × (y ≡ u)) → y ≡ y′
+    plain j m l c y y′ e one (inl f) = f
+    plain j m l c y y′ e one (inr f) = absurd (elim (h .alone i j n m k d c v y′ mine (e ∙ ap (λ (z : ℕ). row m z c y′) (f .1))) [
+      | inl q ↦ apart q
+      | inr q ↦ (let same : row n k d v ≡ row m l c y′ = sym mine ∙ ap (rowAt s) q ∙ e in apart (cc))
+    ])
+
+-- BEGIN: the new number is the next, in a free place
+pub orderly-begin : (s : State) (now : ℕ) → Orderly s → Orderly (begins s now .after)
+unfolding begins
+orderly-begin s now h = record {
+  leases = h .leases;
+  numbers = λ i x e. elim (seen i x e) [ inl p ↦ (let q = h .numbers i x p in omega arith) | inr p ↦ (let q = p .1 in omega arith) ];
+  unique = λ i j x y e f q. two i j x y q (seen i x e) (seen j y f);
+  kinds = h .kinds;
+  alone = h .alone;
+  plain = h .plain;
+}
+  where
+    new : Session
+    new = opened (s .head .nextSession) (now + s .head .writeLife)
+
+    at : ℕ
+    at = place free (s .sessions)
+
+    Seen : ℕ → Session → Type 0
+    Seen i x = (sessionAt s i ≡ session x) ⊎ ((at ≡ i) × (x .number ≡ s .head .nextSession))
+
+    seen : (i : ℕ) (x : Session) → getD (set (s .sessions) at (session new)) i noSession ≡ session x → Seen i x
+    seen i x e = elim (was-set (s .sessions) at (session new) i noSession (session x) (Views.no-session x) e) [ inl p ↦ inl p | inr p ↦ inr (p .0, (let q = p .1 in cc)) ]
+
+    two : (i j : ℕ) (x y : Session) → x .number ≡ y .number → Seen i x → Seen j y → i ≡ j
+    two i j x y q (inl e) (inl f) = h .unique i j x y e f q
+    two i j x y q (inl e) (inr f) = absurd (let a = h .numbers i x e in let b = f .1 in omega arith)
+    two i j x y q (inr e) (inl f) = absurd (let a = h .numbers j y f in let b = e .1 in omega arith)
+    two i j x y q (inr e) (inr f) = sym (e .0) ∙ f .0
+
+-- GET answered LEASE: the next token, on a key with no row
+pub orderly-leased : (s : State) (now k : ℕ) → ((i n d : ℕ) (v : Staged) → rowAt s i ≡ row n k d v → ⊥) → Orderly s → Orderly (leased s now k .after)
+unfolding leased
+orderly-leased s now k bare h = record {
+  leases = λ j l e. lease j l e (Views.lease-after (s .keys) k (some new) j);
+  numbers = h .numbers;
+  unique = h .unique;
+  kinds = h .kinds;
+  alone = h .alone;
+  plain = h .plain;
+}
+  where
+    new : Lease
+    new = record { token = s .head .nextToken; until = now + s .head .readLife }
+
+    ks : List Key
+    ks = setLease (s .keys) k (some new)
+
+    lease : (j : ℕ) (l : Lease) → getD ks j blank .lease ≡ some l
+        → ((k ≡ j → ⊥) × (getD ks j blank .lease ≡ leaseOn s j)) ⊎ ((k ≡ j) × ((getD ks j blank .lease ≡ some new) ⊎ (getD ks j blank .lease ≡ none)))
+        → (l .token < suc (s .head .nextToken)) × ((i n d : ℕ) (v : Staged) → rowAt s i ≡ row n j d v → ⊥)
+    lease j l e (inl x) = let p = h .leases j l (sym (x .1) ∙ e) in (omega (arith, p .0), p .1)
+    lease j l e (inr x) = elim (x .1) [
+      | inl y ↦ (let p : some new ≡ some l = sym y ∙ e in let q : s .head .nextToken ≡ l .token = cc in omega arith, rw (← (x .0)) bare)
+      | inr y ↦ Views.no-some l (sym y ∙ e)
+    ]
+
+-- QUAR granted: who else has a row on the key invalidates, as the asker does, and the key's lease is voided
+pub orderly-granted : (s : State) (n k kind : ℕ) → (1 ≤ kind) × (kind ≤ 3) → ((i m d : ℕ) (v : Staged) → rowAt s i ≡ row m k d v → (kind ≡ 1) × (d ≡ 1)) → Orderly s
+    → Orderly (withKeys (withRows s (putAt freeRow (row n k kind nothing) (s .rows))) (setLease (s .keys) k none))
+orderly-granted s n k kind range sharing h = record {
+  leases = λ j l e.
+      let p = voided-was s k j l e in
+      let q = h .leases j l (p .1) in
+      (q .0, λ i m d v f. elim (seen i m j d v f) [ inl x ↦ q .1 i m d v x | inr x ↦ p .0 (sym (x .1)) ]);
+  numbers = h .numbers;
+  unique = h .unique;
+  kinds = λ i m j d v e. elim (seen i m j d v e) [ inl p ↦ h .kinds i m j d v p | inr p ↦ rw (p .2) range ];
+  alone = λ i i′ m m′ j d c u v e f. two i i′ m m′ j d c u v (seen i m j d u e) (seen i′ m′ j c v f);
+  plain = λ i m j v e. elim (seen i m j 1 (staged v) e) [ inl p ↦ h .plain i m j v p | inr p ↦ (let q = p .3 in let z : _≡_ {A = ℕ} 0 1 = cc in omega arith) ];
+}
+  where
+    at : ℕ
+    at = place freeRow (s .rows)
+
+    Seen : ℕ → ℕ → ℕ → ℕ → Staged → Type 0
+    Seen i m j d v = (rowAt s i ≡ row m j d v) ⊎ ((at ≡ i) × (j ≡ k) × (d ≡ kind) × (v ≡ nothing))
+
+    seen : (i m j d : ℕ) (v : Staged) → getD (putAt freeRow (row n k kind nothing) (s .rows)) i noRow ≡ row m j d v → Seen i m j d v
+    seen i m j d v e = elim (was-set (s .rows) at (row n k kind nothing) i noRow (row m j d v) (Views.no-row m j d v) e) [ inl p ↦ inl p | inr p ↦ (let q = p .1 in inr (p .0, cc, cc, cc)) ]
+
+    two : (i i′ m m′ j d c : ℕ) (u v : Staged) → Seen i m j d u → Seen i′ m′ j c v → (d ≡ 1) ⊎ (i ≡ i′)
+    two i i′ m m′ j d c u v (inl x) (inl y) = h .alone i i′ m m′ j d c u v x y
+    two i i′ m m′ j d c u v (inl x) (inr y) = inl (sharing i m d u (rw (y .1) at x) .1)
+    two i i′ m m′ j d c u v (inr x) (inl y) = inl (x .2 ∙ sharing i′ m′ c v (rw (x .1) at y) .0)
+    two i i′ m m′ j d c u v (inr x) (inr y) = inr (sym (x .0) ∙ y .0)
+
+-- the fresh state
+pub orderly-fresh : (readLife writeLife : ℕ) → Orderly (fresh readLife writeLife)
+unfolding fresh
+orderly-fresh readLife writeLife = record {
+  leases = λ k l e. Views.no-some l (sym (ap (λ (x : Key). x .lease) (Views.getD-same keyCount k blank)) ∙ e);
+  numbers = λ i x e. Views.no-session x (sym (Views.getD-same sessionCount i noSession) ∙ e);
+  unique = λ i j x y e f q. Views.no-session x (sym (Views.getD-same sessionCount i noSession) ∙ e);
+  kinds = λ i n k d v e. Views.no-row n k d v (sym (Views.getD-same rowCount i noRow) ∙ e);
+  alone = λ i j n m k d c u v e f. Views.no-row n k d u (sym (Views.getD-same rowCount i noRow) ∙ e);
+  plain = λ i n k v e. Views.no-row n k 1 (staged v) (sym (Views.getD-same rowCount i noRow) ∙ e);
+}

@@ -1,0 +1,338 @@
+-- `sound` tests exactly what a well-formed state is: each test of one record is the fact about that record, and a walk that passes is the
+-- fact at each place. Past a table's end stands the free entry, of which nothing is asked.
+use mathlib.Core.Path.{_≡_, refl, sym, ap, _∙_}
+use mathlib.Core.Bool.{Bool, true, false, not, _&&_}
+use mathlib.Core.Logic.{_⊎_, inl, inr}
+use mathlib.Core.List.{List, [], _∷_}
+use mathlib.Core.Option.{Option, none, some}
+use Prim.Native.Nat.{ℕ, zero, suc, _+_, _≤_, _<_}
+use native.Mathlib.Omega.{arith}
+use lib.Dec.{eqb, leb, ltb}
+use lib.ListN.{length, getD}
+use borrow.Author.Tests.{eqb-true, eq-eqb, leb-true, le-leb, ltb-true, lt-ltb}
+use Rattle.lent.specs.Tables.{if_then_else_, every, some as someAt}
+use Rattle.lent.proofs.Choices.{and-yes}
+use Rattle.lent.proofs.Walks.{all-every, some-at, some-is}
+use Rattle.machine.specs.Sizes.{keyCount, sessionCount, rowCount, valueMax, stepMax, lifeMax, timeMax, numberMax}
+use Rattle.machine.specs.Words.{within, isKind}
+use Rattle.machine.specs.State.{Value, Head, Lease, Key, blank, Slot, noSession, session, Staged, nothing, staged, DROP, Row, noRow, row, State, keyOf, sessionAt, rowAt, leaseOn}
+use Rattle.machine.specs.Sound.{clockSound, lifetime, nextSound, headSound, valueSound, cachedSound, given, leaseSound, keySound, lifeSound, sessionSound, stagedSound, rowSound}
+use Rattle.machine.specs.Sound.{tokenIn, numberIn, numberAt, tokenAt, distinct, numbersDistinct, tokensDistinct, liveRow, rowsLive, once, rowsOnce, shares, rowsAlone, leaseless, rowsLeaseless, joined, sized, sound}
+use Rattle.machine.specs.declared.Life.{Life}
+use Rattle.machine.specs.declared.Session.{Session}
+use Rattle.machine.proofs.Views.{caseOf, clash, no-some, no-row, no-session}
+use Rattle.machine.proofs.Ranges.{within-inside}
+use Rattle.machine.proofs.Every.{pairs-all, all-pairs, distinct-same, same-distinct, place-inside, every-place, order}
+use Rattle.machine.proofs.WellFormed.{Fine, Within, LeaseFits, SessionFits, StagedFits, RowFits, LiveAs, WellFormed}
+
+both : {a b : Bool} → a ≡ true → b ≡ true → (a && b) ≡ true
+both p q = rw (p, q)
+
+-- a conjunction of many, and each of its parts by its place
+abbrev all : List Bool → Bool
+all [] = true
+all (a ∷ []) = a
+all (a ∷ b ∷ l) = a && all (b ∷ l)
+
+parts : (l : List Bool) → all l ≡ true → (i : ℕ) → getD l i true ≡ true
+parts [] e i = refl
+parts (a ∷ []) e zero = e
+parts (a ∷ []) e (suc i) = refl
+parts (a ∷ b ∷ l) e zero = and-yes a (all (b ∷ l)) e .0
+parts (a ∷ b ∷ l) e (suc i) = parts (b ∷ l) (and-yes a (all (b ∷ l)) e .1) i
+
+-- Numbers
+
+pub within-means : (low high n : ℕ) → within low high n ≡ true → Within low high n
+within-means low high n e = let r = and-yes (leb low n) (leb n high) e in (leb-true low n (r .0), leb-true n high (r .1))
+
+pub means-within : (low high n : ℕ) → Within low high n → within low high n ≡ true
+means-within low high n r = sym (within-inside low high n (r .0) (r .1))
+
+given-means : (next n : ℕ) → given next n ≡ true → (1 ≤ n) × (n < next)
+given-means next n e = let r = and-yes (leb 1 n) (ltb n next) e in (leb-true 1 n (r .0), ltb-true n next (r .1))
+
+means-given : (next n : ℕ) → 1 ≤ n → n < next → given next n ≡ true
+means-given next n p q = both (le-leb 1 n p) (lt-ltb n next q)
+
+-- One record alone
+
+pub value-means : (v : Value) → valueSound v ≡ true → Fine v
+value-means v e = let r = and-yes (leb (length v) valueMax) (every (λ i. ltb (getD v i 0) 256) (length v)) e in
+    record { short = leb-true (length v) valueMax (r .0); bytes = λ i. ltb-true (getD v i 0) 256 (every-place v 0 (λ b. ltb b 256) (length v) refl refl (r .1) i) }
+
+pub means-value : (v : Value) → Fine v → valueSound v ≡ true
+means-value v f = both (le-leb (length v) valueMax (f .short)) (all-every (λ i. ltb (getD v i 0) 256) (length v) (λ i h. lt-ltb (getD v i 0) 256 (f .bytes i)))
+
+means-cached : (o : Option Value) → ((v : Value) → o ≡ some v → Fine v) → cachedSound o ≡ true
+means-cached none f = refl
+means-cached (some v) f = means-value v (f v refl)
+
+staged-means : (d : ℕ) (u : Staged) → stagedSound d u ≡ true → StagedFits d u
+staged-means d nothing e = tt
+staged-means d (staged v) e = let r = and-yes (leb 2 d) (valueSound v) e in (leb-true 2 d (r .0), value-means v (r .1))
+staged-means d DROP e = eqb-true d 3 e
+
+means-staged : (d : ℕ) (u : Staged) → StagedFits d u → stagedSound d u ≡ true
+means-staged d nothing f = refl
+means-staged d (staged v) f = both (le-leb 2 d (f .0)) (means-value v (f .1))
+means-staged d DROP f = eq-eqb d 3 f
+
+row-means : (n k d : ℕ) (u : Staged) → rowSound (row n k d u) ≡ true → (1 ≤ n) × Within 1 3 d × RowFits k d u
+unfolding rowSound
+row-means n k d u e =
+    let a = and-yes (leb 1 n) (ltb k keyCount && (isKind d && stagedSound d u)) e in
+    let b = and-yes (ltb k keyCount) (isKind d && stagedSound d u) (a .1) in
+    let c = and-yes (isKind d) (stagedSound d u) (b .1) in
+    (leb-true 1 n (a .0), within-means 1 3 d (c .0), record { key = ltb-true k keyCount (b .0); what = staged-means d u (c .1) })
+
+means-row : (r : Row) → ((n k d : ℕ) (u : Staged) → r ≡ row n k d u → (1 ≤ n) × Within 1 3 d × RowFits k d u) → rowSound r ≡ true
+unfolding rowSound
+means-row noRow f = refl
+means-row (row n k d u) f = let g = f n k d u refl in
+    both (le-leb 1 n (g .0)) (both (lt-ltb k keyCount (g .2 .key)) (both (means-within 1 3 d (g .1)) (means-staged d u (g .2 .what))))
+
+module _ (h : Head) where
+  LeaseOf : Lease → Type 0
+  LeaseOf l = (l .token < h .nextToken) × LeaseFits (h .clock + h .readLife) l
+
+  SessionOf : Session → Type 0
+  SessionOf x = (x .number < h .nextSession) × SessionFits (h .clock + h .writeLife) x
+
+  lease-means : (l : Lease) → leaseSound h (some l) ≡ true → LeaseOf l
+  unfolding LeaseOf
+  lease-means l e =
+      let a = and-yes (given (h .nextToken) (l .token)) (leb (l .until) (h .clock + h .readLife)) e in
+      let b = given-means (h .nextToken) (l .token) (a .0) in
+      (b .1, record { positive = b .0; deadline = leb-true (l .until) (h .clock + h .readLife) (a .1) })
+
+  means-lease : (o : Option Lease) → ((l : Lease) → o ≡ some l → LeaseOf l) → leaseSound h o ≡ true
+  unfolding LeaseOf
+  means-lease none f = refl
+  means-lease (some l) f = let g = f l refl in both (means-given (h .nextToken) (l .token) (g .1 .positive) (g .0)) (le-leb (l .until) (h .clock + h .readLife) (g .1 .deadline))
+
+  means-life : (p : Life) → ((t : ℕ) → p ≡ Life.Open t → t ≤ h .clock + h .writeLife) → lifeSound h p ≡ true
+  means-life (Life.Open t) f = le-leb t (h .clock + h .writeLife) (f t refl)
+  means-life Life.Sealed f = refl
+
+  session-means : (x : Session) → sessionSound h (session x) ≡ true → SessionOf x
+  unfolding sessionSound SessionOf
+  session-means x e =
+      let a = and-yes (given (h .nextSession) (x .number)) (leb (x .count) stepMax && lifeSound h (x .life)) e in
+      let b = given-means (h .nextSession) (x .number) (a .0) in
+      let c = and-yes (leb (x .count) stepMax) (lifeSound h (x .life)) (a .1) in
+      (b .1, record { positive = b .0; steps = leb-true (x .count) stepMax (c .0); deadline = λ t q. leb-true t (h .clock + h .writeLife) (rw q at (c .1)) })
+
+  means-session : (e : Slot) → ((x : Session) → e ≡ session x → SessionOf x) → sessionSound h e ≡ true
+  unfolding sessionSound SessionOf
+  means-session noSession f = refl
+  means-session (session x) f = let g = f x refl in
+      both (means-given (h .nextSession) (x .number) (g .1 .positive) (g .0)) (both (le-leb (x .count) stepMax (g .1 .steps)) (means-life (x .life) (g .1 .deadline)))
+
+-- Two rows
+
+once-means : (r t : Row) {n k d e : ℕ} {u v : Staged} → once r t ≡ true → r ≡ row n k d u → t ≡ row n k e v → ⊥
+once-means r t {n} {k} h p q = clash false (rw (p, q, eq-eqb n n refl, eq-eqb k k refl) at h) refl
+
+means-once : (r t : Row) → ((n k d e : ℕ) (u v : Staged) → r ≡ row n k d u → t ≡ row n k e v → ⊥) → once r t ≡ true
+means-once noRow t f = refl
+means-once (row m j d u) noRow f = refl
+means-once (row m j d u) (row n k e v) f = go (caseOf (eqb m n && eqb j k))
+  where
+    go : ((eqb m n && eqb j k) ≡ true) ⊎ ((eqb m n && eqb j k) ≡ false) → not (eqb m n && eqb j k) ≡ true
+    go (inl h) = let r = and-yes (eqb m n) (eqb j k) h in
+        let p : row n k e v ≡ row m j e v = rw (eqb-true m n (r .0), eqb-true j k (r .1)) in absurd (f m j d e u v refl p)
+    go (inr h) = rw h
+
+shares-means : (r t : Row) {m n k d e : ℕ} {u v : Staged} → shares r t ≡ true → r ≡ row m k d u → t ≡ row n k e v → (d ≡ 1) × (e ≡ 1)
+shares-means r t {k} {d} {e} h p q = let x = and-yes (eqb d 1) (eqb e 1) (rw (p, q, eq-eqb k k refl) at h) in (eqb-true d 1 (x .0), eqb-true e 1 (x .1))
+
+means-shares : (r t : Row) → ((m n k d e : ℕ) (u v : Staged) → r ≡ row m k d u → t ≡ row n k e v → (d ≡ 1) × (e ≡ 1)) → shares r t ≡ true
+means-shares noRow t f = refl
+means-shares (row m j d u) noRow f = refl
+means-shares (row m j d u) (row n k e v) f = go (caseOf (eqb j k))
+  where
+    go : (eqb j k ≡ true) ⊎ (eqb j k ≡ false) → (if eqb j k then eqb d 1 && eqb e 1 else true) ≡ true
+    go (inl h) = let p : row n k e v ≡ row n j e v = rw (eqb-true j k h) in let x = f m n j d e u v refl p in rw h (both (eq-eqb d 1 (x .0)) (eq-eqb e 1 (x .1)))
+    go (inr h) = rw h
+
+-- What stands in the tables
+
+named : (e : Slot) (n : ℕ) → numberIn e ≡ n → 1 ≤ n → (x : Session) × (e ≡ session x) × (x .number ≡ n)
+named noSession n p h = absurd (omega arith)
+named (session x) n p h = (x, refl, p)
+
+tokened : (o : Option Lease) (n : ℕ) → tokenIn o ≡ n → 1 ≤ n → (l : Lease) × (o ≡ some l) × (l .token ≡ n)
+tokened none n p h = absurd (omega arith)
+tokened (some l) n p h = (l, refl, p)
+
+module _ (s : State) where
+  key-inside : (k : ℕ) (l : Lease) → length (s .keys) ≡ keyCount → leaseOn s k ≡ some l → k < keyCount
+  key-inside k l n e = let z = place-inside (s .keys) blank k (λ z. no-some l (sym (ap (λ (x : Key). x .lease) z) ∙ e)) in omega (arith, n, z)
+
+  pub session-inside : (i : ℕ) (x : Session) → length (s .sessions) ≡ sessionCount → sessionAt s i ≡ session x → i < sessionCount
+  session-inside i x n e = let z = place-inside (s .sessions) noSession i (λ z. no-session x (sym z ∙ e)) in omega (arith, n, z)
+
+  pub row-inside : (i n k d : ℕ) (u : Staged) → length (s .rows) ≡ rowCount → rowAt s i ≡ row n k d u → i < rowCount
+  row-inside i n k d u c e = let z = place-inside (s .rows) noRow i (λ z. no-row n k d u (sym z ∙ e)) in omega (arith, c, z)
+
+  live-means : (n : ℕ) → 1 ≤ n → someAt (λ j. eqb (numberAt s j) n) sessionCount ≡ true → LiveAs (s .sessions) n
+  live-means n h e =
+      let r = some-is (λ j. eqb (numberAt s j) n) sessionCount e in
+      let x = named (sessionAt s (r .0)) n (eqb-true (numberAt s (r .0)) n (r .2)) h in
+      record { place = r .0; live = x .0; is = x .1; number = x .2 }
+
+  means-live : (n : ℕ) → length (s .sessions) ≡ sessionCount → LiveAs (s .sessions) n → someAt (λ j. eqb (numberAt s j) n) sessionCount ≡ true
+  means-live n c x = some-at (λ j. eqb (numberAt s j) n) sessionCount (x .place) (session-inside (x .place) (x .live) c (x .is)) (eq-eqb (numberAt s (x .place)) n (ap numberIn (x .is) ∙ x .number))
+
+-- A sound state, part by part
+
+module _ (s : State) (e : sound s ≡ true) where
+  sound-parts : (i : ℕ) → getD (sized s ∷ headSound (s .head) ∷ every (λ k. keySound (s .head) (keyOf s k)) keyCount ∷ every (λ i. rowSound (rowAt s i)) rowCount ∷ every (λ j. sessionSound (s .head) (sessionAt s j)) sessionCount ∷ joined s ∷ []) i true ≡ true
+  unfolding sound
+  sound-parts = parts (sized s ∷ headSound (s .head) ∷ every (λ k. keySound (s .head) (keyOf s k)) keyCount ∷ every (λ i. rowSound (rowAt s i)) rowCount ∷ every (λ j. sessionSound (s .head) (sessionAt s j)) sessionCount ∷ joined s ∷ []) e
+
+  sizes : (i : ℕ) → getD (eqb (length (s .keys)) keyCount ∷ eqb (length (s .sessions)) sessionCount ∷ eqb (length (s .rows)) rowCount ∷ []) i true ≡ true
+  unfolding sized
+  sizes = parts (eqb (length (s .keys)) keyCount ∷ eqb (length (s .sessions)) sessionCount ∷ eqb (length (s .rows)) rowCount ∷ []) (sound-parts 0)
+
+  heads : (i : ℕ) → getD (clockSound (s .head) ∷ lifetime (s .head .readLife) ∷ lifetime (s .head .writeLife) ∷ nextSound (s .head .nextSession) ∷ nextSound (s .head .nextToken) ∷ []) i true ≡ true
+  unfolding headSound
+  heads = parts (clockSound (s .head) ∷ lifetime (s .head .readLife) ∷ lifetime (s .head .writeLife) ∷ nextSound (s .head .nextSession) ∷ nextSound (s .head .nextToken) ∷ []) (sound-parts 1)
+
+  joins : (i : ℕ) → getD (numbersDistinct s ∷ tokensDistinct s ∷ rowsLive s ∷ rowsOnce s ∷ rowsAlone s ∷ rowsLeaseless s ∷ []) i true ≡ true
+  unfolding joined
+  joins = parts (numbersDistinct s ∷ tokensDistinct s ∷ rowsLive s ∷ rowsOnce s ∷ rowsAlone s ∷ rowsLeaseless s ∷ []) (sound-parts 5)
+
+  keys-length : length (s .keys) ≡ keyCount
+  keys-length = eqb-true (length (s .keys)) keyCount (sizes 0)
+
+  sessions-length : length (s .sessions) ≡ sessionCount
+  sessions-length = eqb-true (length (s .sessions)) sessionCount (sizes 1)
+
+  rows-length : length (s .rows) ≡ rowCount
+  rows-length = eqb-true (length (s .rows)) rowCount (sizes 2)
+
+  key-at : (k : ℕ) → (cachedSound (keyOf s k .value) ≡ true) × (leaseSound (s .head) (leaseOn s k) ≡ true)
+  unfolding keySound
+  key-at k = and-yes (cachedSound (keyOf s k .value)) (leaseSound (s .head) (leaseOn s k)) (every-place (s .keys) blank (keySound (s .head)) keyCount keys-length refl (sound-parts 2) k)
+
+  lease-at : (k : ℕ) (l : Lease) → leaseOn s k ≡ some l → LeaseOf (s .head) l
+  lease-at k l p = lease-means (s .head) l (rw p at (key-at k .1))
+
+  session-at : (i : ℕ) (x : Session) → sessionAt s i ≡ session x → SessionOf (s .head) x
+  unfolding sessionSound
+  session-at i x p = session-means (s .head) x (rw p at (every-place (s .sessions) noSession (sessionSound (s .head)) sessionCount sessions-length refl (sound-parts 4) i))
+
+  row-at : (i n k d : ℕ) (u : Staged) → rowAt s i ≡ row n k d u → (1 ≤ n) × Within 1 3 d × RowFits k d u
+  unfolding rowSound
+  row-at i n k d u p = row-means n k d u (rw p at (every-place (s .rows) noRow rowSound rowCount rows-length refl (sound-parts 3) i))
+
+  row-joined : (i n k d : ℕ) (u : Staged) → rowAt s i ≡ row n k d u → (someAt (λ j. eqb (numberAt s j) n) sessionCount ≡ true) × (tokenAt s k ≡ 0)
+  unfolding rowsLive rowsLeaseless
+  row-joined i n k d u p = (rw p at (every-place (s .rows) noRow (liveRow s) rowCount rows-length refl (joins 2) i), eqb-true (tokenAt s k) 0 (rw p at (every-place (s .rows) noRow (leaseless s) rowCount rows-length refl (joins 5) i)))
+
+  -- two rows, the lower place first
+  row-pair : (i j n k d : ℕ) (u : Staged) → rowAt s i ≡ row n k d u → j < i → (once (rowAt s j) (rowAt s i) ≡ true) × (shares (rowAt s j) (rowAt s i) ≡ true)
+  unfolding rowsOnce rowsAlone
+  row-pair i j n k d u p l = (
+    pairs-all (λ j i. once (rowAt s j) (rowAt s i)) rowCount i j (joins 3) (row-inside s i n k d u rows-length p) l,
+    pairs-all (λ j i. shares (rowAt s j) (rowAt s i)) rowCount i j (joins 4) (row-inside s i n k d u rows-length p) l,
+  )
+
+  tokens-differ : (k j : ℕ) (l m : Lease) → leaseOn s k ≡ some l → leaseOn s j ≡ some m → l .token ≡ m .token → k ≡ j
+  unfolding tokensDistinct LeaseOf
+  tokens-differ k j l m a b t =
+      let x : tokenAt s k ≡ l .token = ap tokenIn a in
+      let y : tokenAt s j ≡ m .token = ap tokenIn b in
+      distinct-same (tokenAt s) keyCount k j (joins 1) (key-inside s k l keys-length a) (key-inside s j m keys-length b) (rw x (lease-at k l a .1 .positive)) (x ∙ t ∙ sym y)
+
+  numbers-differ : (i j : ℕ) (x y : Session) → sessionAt s i ≡ session x → sessionAt s j ≡ session y → x .number ≡ y .number → i ≡ j
+  unfolding numbersDistinct SessionOf
+  numbers-differ i j x y a b t =
+      let v : numberAt s i ≡ x .number = ap numberIn a in
+      let w : numberAt s j ≡ y .number = ap numberIn b in
+      distinct-same (numberAt s) sessionCount i j (joins 0) (session-inside s i x sessions-length a) (session-inside s j y sessions-length b) (rw v (session-at i x a .1 .positive)) (v ∙ t ∙ sym w)
+
+  -- what is sound is well formed at its own clock
+  pub sound-means : WellFormed s (s .head .clock)
+  unfolding LeaseOf SessionOf
+  sound-means = record {
+    orderly = record {
+      leases = λ k l p. (lease-at k l p .0, λ i n d v q. let a = lease-at k l p .1 .positive in let b = row-joined i n k d v q .1 in let c : tokenAt s k ≡ l .token = ap tokenIn p in omega arith);
+      numbers = λ i x p. session-at i x p .0;
+      unique = numbers-differ;
+      kinds = λ i n k d v p. row-at i n k d v p .1;
+      alone = λ i j n m k d c u v p q. elim (order i j) [
+        | inl a ↦ inr a
+        | inr a ↦ inl (elim a [
+          | inl b ↦ shares-means (rowAt s i) (rowAt s j) (row-pair j i m k c v q b .1) p q .0
+          | inr b ↦ shares-means (rowAt s j) (rowAt s i) (row-pair i j n k d u p b .1) q p .1
+        ])
+      ];
+      plain = λ i n k v p. omega (arith, row-at i n k 1 (staged v) p .2 .what .0);
+    };
+    head = record {
+      time = leb-true (s .head .clock) timeMax (heads 0);
+      readLife = within-means 1 lifeMax (s .head .readLife) (heads 1);
+      writeLife = within-means 1 lifeMax (s .head .writeLife) (heads 2);
+      nextSession = within-means 1 numberMax (s .head .nextSession) (heads 3);
+      nextToken = within-means 1 numberMax (s .head .nextToken) (heads 4);
+    };
+    keys = record { length = keys-length; values = λ k {v} p. value-means v (rw p at (key-at k .0)); leases = λ k {l} p. lease-at k l p .1; distinct = λ k j {l} {m} a b t. tokens-differ k j l m a b t };
+    sessions = record { length = sessions-length; each = λ i {x} p. session-at i x p .1 };
+    rows = record {
+      length = rows-length;
+      each = λ i {n} {k} {d} {u} p. row-at i n k d u p .2;
+      once = λ i j {n} {k} {d} {c} {u} {v} p q. elim (order i j) [
+        | inl a ↦ a
+        | inr a ↦ absurd (elim a [ inl b ↦ once-means (rowAt s i) (rowAt s j) (row-pair j i n k c v q b .0) p q | inr b ↦ once-means (rowAt s j) (rowAt s i) (row-pair i j n k d u p b .0) q p ])
+      ];
+    };
+    live = λ i {n} {k} {d} {u} p. live-means s n (row-at i n k d u p .0) (row-joined i n k d u p .0);
+  }
+
+-- and what is well formed at its own clock is sound
+module _ (s : State) (h : WellFormed s (s .head .clock)) where
+  named-by : (i n k d : ℕ) (u : Staged) → rowAt s i ≡ row n k d u → 1 ≤ n
+  named-by i n k d u p = let x = h .live i p in let z = h .sessions .each (x .place) (x .is) .positive in omega (arith, z, x .number)
+
+  same-number : (i j n : ℕ) → numberAt s i ≡ n → numberAt s j ≡ n → 1 ≤ n → i ≡ j
+  same-number i j n p q a = let x = named (sessionAt s i) n p a in let y = named (sessionAt s j) n q a in h .orderly .unique i j (x .0) (y .0) (x .1) (y .1) (x .2 ∙ sym (y .2))
+
+  same-token : (i j n : ℕ) → tokenAt s i ≡ n → tokenAt s j ≡ n → 1 ≤ n → i ≡ j
+  same-token i j n p q a = let x = tokened (leaseOn s i) n p a in let y = tokened (leaseOn s j) n q a in h .keys .distinct i j (x .1) (y .1) (x .2 ∙ sym (y .2))
+
+  lives : (i : ℕ) (r : Row) → rowAt s i ≡ r → liveRow s r ≡ true
+  lives i noRow p = refl
+  lives i (row n k d u) p = means-live s n (h .sessions .length) (h .live i p)
+
+  bare : (i : ℕ) (r : Row) → rowAt s i ≡ r → leaseless s r ≡ true
+  bare i noRow p = refl
+  bare i (row n k d u) p = eq-eqb (tokenAt s k) 0 (go (leaseOn s k) refl)
+    where
+      go : (o : Option Lease) → leaseOn s k ≡ o → tokenIn o ≡ 0
+      go none q = refl
+      go (some l) q = absurd (h .orderly .leases k l q .1 i n d u p)
+
+  both-one : (i j m n k d e : ℕ) (u v : Staged) → j < i → rowAt s j ≡ row m k d u → rowAt s i ≡ row n k e v → (d ≡ 1) × (e ≡ 1)
+  both-one i j m n k d e u v l p q = (elim (h .orderly .alone j i m n k d e u v p q) [ inl z ↦ z | inr z ↦ absurd (omega arith) ], elim (h .orderly .alone i j n m k e d v u q p) [ inl z ↦ z | inr z ↦ absurd (omega arith) ])
+
+  joined-sound : joined s ≡ true
+  unfolding joined rowsLive rowsOnce rowsAlone rowsLeaseless numbersDistinct tokensDistinct
+  joined-sound =
+      both (same-distinct (numberAt s) sessionCount (λ i j a q. same-number i j (numberAt s i) refl (sym q) a))
+      (both (same-distinct (tokenAt s) keyCount (λ i j a q. same-token i j (tokenAt s i) refl (sym q) a))
+      (both (all-every (λ i. liveRow s (rowAt s i)) rowCount (λ i l. lives i (rowAt s i) refl))
+      (both (all-pairs (λ j i. once (rowAt s j) (rowAt s i)) rowCount (λ i j l a. means-once (rowAt s j) (rowAt s i) (λ n k d e u v p q. let z = h .rows .once j i p q in omega arith)))
+      (both (all-pairs (λ j i. shares (rowAt s j) (rowAt s i)) rowCount (λ i j l a. means-shares (rowAt s j) (rowAt s i) (λ m n k d e u v p q. both-one i j m n k d e u v a p q)))
+      (all-every (λ i. leaseless s (rowAt s i)) rowCount (λ i l. bare i (rowAt s i) refl))))))
+
+  pub means-sound : sound s ≡ true
+  unfolding sound sized headSound keySound LeaseOf SessionOf
+  means-sound =
+      both (both (eq-eqb (length (s .keys)) keyCount (h .keys .length)) (both (eq-eqb (length (s .sessions)) sessionCount (h .sessions .length)) (eq-eqb (length (s .rows)) rowCount (h .rows .length))))
+      (both (both (le-leb (s .head .clock) timeMax (h .head .time)) (both (means-within 1 lifeMax (s .head .readLife) (h .head .readLife)) (both (means-within 1 lifeMax (s .head .writeLife) (h .head .writeLife)) (both (means-within 1 numberMax (s .head .nextSession) (h .head .nextSession)) (means-within 1 numberMax (s .head .nextToken) (h .head .nextToken))))))
+      (both (all-every (λ k. keySound (s .head) (keyOf s k)) keyCount (λ k l. both (means-cached (keyOf s k .value) (λ v p. h .keys .values k p)) (means-lease (s .head) (leaseOn s k) (λ l p. (h .orderly .leases k l p .0, h .keys .leases k p)))))
+      (both (all-every (λ i. rowSound (rowAt s i)) rowCount (λ i l. means-row (rowAt s i) (λ n k d u p. (named-by i n k d u p, h .orderly .kinds i n k d u p, h .rows .each i p))))
+      (both (all-every (λ j. sessionSound (s .head) (sessionAt s j)) sessionCount (λ j l. means-session (s .head) (sessionAt s j) (λ x p. (h .orderly .numbers j x p, h .sessions .each j p)))) joined-sound))))

@@ -1,0 +1,88 @@
+-- The decision table, once over all of it: the twenty entries are those of a rule in words (`verdictBy`), which antt computes
+-- over the whole table, and what the rule says of sharing, of the I lease on a quarantined key, and of voiding follows from it.
+use mathlib.Core.Path.{_≡_, refl, sym, ap, _∙_}
+use mathlib.Core.Bool.{Bool, true, false, _&&_}
+use mathlib.Core.List.{List, [], _∷_, map}
+use Prim.Native.Nat.{ℕ, zero, suc, _+_, _≤_, _<_}
+use native.Mathlib.Omega.{arith}
+use lib.Dec.{eqb}
+use borrow.Author.Tests.{eqb-true, ne-eqb}
+use lib.ListN.{length, getD, length-map, List·getD-map}
+use Rattle.lent.specs.Tables.{if_then_else_}
+use Rattle.machine.specs.Decision.{decisions, decision, grants}
+use Rattle.machine.specs.declared.Verdict.{Verdict}
+use Rattle.machine.specs.declared.Verdict.the-variants.{Grant, Void, BackOff, Abort}
+use Rattle.machine.proofs.Views.{caseOf, clash, and-true₁, and-true₂}
+use Rattle.machine.proofs.Decided.{getD-any}
+use mathlib.Core.Logic.{_⊎_, inl, inr}
+
+-- nothing held: granted; an I lease asked where anything is held: back off; a Q where an I lease is held: granted and the I lease voided;
+-- Q1 where Q1 is held: granted; every other Q: the asker is aborted
+abbrev pub verdictBy : ℕ → ℕ → Verdict
+verdictBy held asked =
+    if eqb held 0 then Grant
+    else if eqb asked 0 then BackOff
+    else if eqb held 1 then Void
+    else if eqb held 2 && eqb asked 1 then Grant
+    else Abort
+
+abbrev from : ℕ → ℕ → List ℕ
+from i zero = []
+from i (suc n) = i ∷ from (suc i) n
+
+from-at : (n i j d : ℕ) → j < n → getD (from i n) j d ≡ i + j
+from-at zero i j d h = absurd (omega arith)
+from-at (suc n) i zero d h = omega arith
+from-at (suc n) i (suc j) d h = from-at n (suc i) j d (omega arith) ∙ omega arith
+
+-- from 0 the entry is the place
+upto-at : (n j : ℕ) → j < n → getD (from 0 n) j 0 ≡ j
+upto-at n j h = from-at n 0 j 0 h ∙ omega arith
+
+from-length : (n i : ℕ) → length (from i n) ≡ n
+from-length zero i = refl
+from-length (suc n) i = ap suc (from-length n (suc i))
+
+-- the table, row by row, as the rule computes it
+abbrev rowBy : ℕ → List Verdict
+rowBy held = map (verdictBy held) (from 0 4)
+
+computed : decisions ≡ map rowBy (from 0 5)
+computed = refl
+
+at-map : {A B : Type 0} (f : A → B) (l : List A) (i : ℕ) (d : A) (e : B) → i < length l → getD (map f l) i e ≡ f (getD l i d)
+at-map f l i d e h = getD-any (map f l) i e (f d) (rw (length-map l f) h) ∙ List·getD-map f l i d
+
+pub decision-by : (held asked : ℕ) → held < 5 → asked < 4 → decision held asked ≡ verdictBy held asked
+unfolding decision
+decision-by held asked h a =
+    ap (λ (l : List (List Verdict)). getD (getD l held []) asked Abort) computed
+    ∙ ap (λ (l : List Verdict). getD l asked Abort) (at-map rowBy (from 0 5) held 0 [] (rw (from-length 5 0) h) ∙ ap rowBy (upto-at 5 held h))
+    ∙ (at-map (verdictBy held) (from 0 4) asked 0 Abort (rw (from-length 4 0) a) ∙ ap (verdictBy held) (upto-at 4 asked a))
+
+-- of two Q leases on one key, held (one more than its kind) and asked, only Q1 shares with Q1
+pub only-Q1-shares : (held asked : ℕ) → 2 ≤ held → held < 5 → 1 ≤ asked → asked < 4 → grants (decision held asked) ≡ true → (held ≡ 2) × (asked ≡ 1)
+only-Q1-shares held asked l h m a e = go (caseOf (eqb held 2 && eqb asked 1))
+  where
+    here : grants (verdictBy held asked) ≡ true
+    here = rw (decision-by held asked h a) at e
+
+    go : ((eqb held 2 && eqb asked 1) ≡ true) ⊎ ((eqb held 2 && eqb asked 1) ≡ false) → (held ≡ 2) × (asked ≡ 1)
+    go (inl q) = (eqb-true held 2 (and-true₁ (eqb held 2) (eqb asked 1) q), eqb-true asked 1 (and-true₂ (eqb held 2) (eqb asked 1) q))
+    go (inr q) = clash false (rw (ne-eqb held 0 (λ p. omega arith), ne-eqb asked 0 (λ p. omega arith), ne-eqb held 1 (λ p. omega arith), q) at here) refl
+
+pub Q1-shares : decision 2 1 ≡ Grant
+unfolding decision
+Q1-shares = refl
+
+-- a quarantined key, and one with an I lease, grants no I lease
+pub quarantined-backs-off : (held : ℕ) → 1 ≤ held → held < 5 → decision held 0 ≡ BackOff
+quarantined-backs-off held l h = decision-by held 0 h (omega arith) ∙ rw (ne-eqb held 0 (λ p. omega arith))
+
+-- any Q voids an I lease
+pub Q-voids-I : (asked : ℕ) → 1 ≤ asked → asked < 4 → decision 1 asked ≡ Void
+Q-voids-I asked m a = decision-by 1 asked (omega arith) a ∙ rw (ne-eqb asked 0 (λ p. omega arith))
+
+-- where nothing is held everything is granted
+pub free-grants : (asked : ℕ) → asked < 4 → decision 0 asked ≡ Grant
+free-grants asked a = decision-by 0 asked (omega arith) a

@@ -1,0 +1,97 @@
+-- What QUAR answers and leaves, case by case in the code's order: its arguments, its session, a row that it has, the decision table, a free row.
+-- Each test of the definition's list is decided where the code decides it; ROOM, the last, only where a row would be taken.
+-- Assumes nothing.
+use mathlib.Core.Path.{_≡_, refl}
+use mathlib.Core.Bool.{Bool, true, false, not, _&&_, or-true}
+use mathlib.Core.List.{[], _∷_}
+use mathlib.Core.Option.{none}
+use Prim.Native.Nat.{ℕ, _≤_, _<_}
+use lib.Dec.{eqb}
+use lib.ListN.{length, set}
+use borrow.Author.Tests.{le-leb, lt-leb, eq-eqb, eqb-true}
+use Rattle.lent.specs.Tables.{if_then_else_}
+use Rattle.lent.proofs.Choices.{clash}
+use Rattle.machine.specs.Sizes.{keyCount, rowCount}
+use Rattle.machine.specs.Tables.{place, first}
+use Rattle.machine.specs.Words.{isKind}
+use Rattle.machine.specs.Decision.{decision, grants}
+use Rattle.machine.specs.State.{noRow, row, Slot, noSession, session, nothing, State, freeRow, kindOf, rowOf, numbered, sessionAt}
+use Rattle.machine.specs.Expiry.{withKeys, withRows, setLease}
+use Rattle.machine.specs.Refusals.{heldOn, decide, badKey, rowsFull, wouldGrant, refusals}
+use Rattle.machine.specs.Effects.{told, asks, effect}
+use Rattle.machine.specs.declared.Session.{Session}
+use Rattle.machine.specs.declared.Verdict.{Verdict}
+use Rattle.machine.specs.declared.Answer.{Answer}
+use Rattle.machine.specs.declared.Command.the-variants.{Quar}
+use Rattle.layout.specs.Holds.{SlotFits}
+use Rattle.layout.specs.Search.{found}
+use Rattle.layout.specs.declared.Found.{Found}
+use Rattle.layout.proofs.Search.{found-at, found-full, found-room}
+use Rattle.outcome.specs.Outcome.{unless, tried}
+use Rattle.askers.specs.Asker.{askerOf}
+use Rattle.askers.specs.declared.Asker.{Asker}
+use Rattle.askers.proofs.Asked.{Asks, first-asker}
+use Rattle.quars.specs.Asking.{granted, grant, abort, ask, hold}
+
+pub number-given : (n : ℕ) (e : Slot) → SlotFits e → numbered n e ≡ true → 1 ≤ n
+number-given n noSession f q = clash false q refl
+number-given n (session x) f q = rw (← eqb-true (x .number) n q) (f .given)
+
+pub stands : (s : State) (n i : ℕ) (x : Session) → Asks s n i x → numbered (x .number) (sessionAt s i) ≡ true
+stands s n i x a = rw (a .at) (eq-eqb (x .number) (x .number) refl)
+
+module _ (s : State) (n k kind : ℕ) where
+  -- ---- a free row
+
+  module _ (l : length (s .rows) ≡ rowCount) where
+    pub grant-full : found rowCount (place freeRow (s .rows)) ≡ Found.Nothing → grant s n k kind ≡ told (Answer.Refused 12) s
+    grant-full f = rw (found-full freeRow noRow (s .rows) rowCount l f)
+
+    pub grant-room : (i : ℕ) → found rowCount (place freeRow (s .rows)) ≡ Found.At i
+        → grant s n k kind ≡ told Answer.Granted (withKeys (withRows s (set (s .rows) i (row n k kind nothing))) (setLease (s .keys) k none))
+    grant-room i f = rw (found-room freeRow noRow (s .rows) rowCount i l f, found-at rowCount (place freeRow (s .rows)) i f .0)
+
+  -- ---- the decision table
+
+  pub ask-by : (v : Verdict) (held : ℕ) → held ≡ heldOn s k → decision held kind ≡ v → ask s n k kind ≡ (if grants v then grant s n k kind else abort s n)
+  unfolding ask decide
+  ask-by v held p e = rw (← p, e)
+
+  -- ---- a row that it has
+
+  pub hold-own : eqb (kindOf (rowOf s n k)) kind ≡ true → hold s n k kind ≡ told Answer.Held s
+  unfolding hold
+  hold-own e = rw e
+
+  pub hold-asks : eqb (kindOf (rowOf s n k)) kind ≡ false → hold s n k kind ≡ ask s n k kind
+  unfolding hold
+  hold-asks e = rw e
+
+  -- ---- its arguments and its session
+
+  pub quar-key : keyCount ≤ k → tried s 0 (Quar n k kind) [] ≡ told (Answer.Refused 3) s
+  unfolding tried refusals
+  quar-key h = rw (le-leb keyCount k h)
+
+  pub quar-kind : isKind kind ≡ false → tried s 0 (Quar n k kind) [] ≡ told (Answer.Refused 3) s
+  unfolding tried refusals
+  quar-kind e = rw (e, or-true (badKey k))
+
+  module _ (a : k < keyCount) (d : isKind kind ≡ true) where
+    pub quar-refused : (e : ℕ) → askerOf s n ≡ Asker.Refused e → tried s 0 (Quar n k kind) [] ≡ told (Answer.Refused e) s
+    unfolding tried refusals
+    quar-refused e q = rw (lt-leb keyCount k a, d, first-asker s n ((wouldGrant s n k kind && rowsFull s, 12) ∷ []), q)
+
+    pub quar-open : (i : ℕ) (x : Session) → askerOf s n ≡ Asker.Open i x → tried s 0 (Quar n k kind) [] ≡ hold s n k kind
+    unfolding tried refusals effect hold ask wouldGrant asks
+    quar-open i x q =
+        rw (lt-leb keyCount k a, d, first-asker s n ((wouldGrant s n k kind && rowsFull s, 12) ∷ []), q)
+        (go (eqb (kindOf (rowOf s n k)) kind) (grants (decide s k kind)) (rowsFull s))
+      where
+        go : (t u f : Bool)
+            → unless (first ((not t && u && f, 12) ∷ [])) s (if t then told Answer.Held s else if u then granted s n k kind else abort s n)
+            ≡ (if t then told Answer.Held s else if u then (if f then told (Answer.Refused 12) s else granted s n k kind) else abort s n)
+        go true u f = refl
+        go false true true = refl
+        go false true false = refl
+        go false false f = refl

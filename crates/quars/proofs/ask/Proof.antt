@@ -1,0 +1,86 @@
+-- Each verdict of the table is the definition's, since what is held is.
+-- Assumes nothing.
+use mathlib.Core.Path.{sym, _∙_}
+use Rattle.layout.proofs.Held.{session-fits}
+use Rattle.machine.specs.State.{sessionAt}
+use Rattle.quars.proofs.Asked.{ask-by, number-given}
+use borrow.Author.Needs.{needs}
+use Rattle.quars.proofs.ask.Statement.{statement}
+use Rattle.quars.proofs.ask.Tie as tie
+
+held-requires : tie.Need-held-requires
+held-requires c κs = search needs
+
+decide-requires : tie.Need-decide-requires
+decide-requires c κs = search needs
+
+enum-told : tie.Need-enum-told
+enum-told c = search needs
+
+grant-requires : tie.Need-grant-requires
+grant-requires c κs = search needs
+
+enum-told-2 : tie.Need-enum-told-2
+enum-told-2 c = search needs
+
+grant-requires-2 : tie.Need-grant-requires-2
+grant-requires-2 c κs = search needs
+
+enum-told-3 : tie.Need-enum-told-3
+enum-told-3 c = search needs
+
+abort-requires : tie.Need-abort-requires
+abort-requires c κs = search needs
+
+enum-told-4 : tie.Need-enum-told-4
+enum-told-4 c = search needs
+
+abort-requires-2 : tie.Need-abort-requires-2
+abort-requires-2 c κs = search needs
+
+same-length : tie.Need-same-length
+same-length c = search needs
+
+returns : tie.Need-returns
+returns c = λ σ h ok here. rw (ask-by σ (c .before .before .before .before .before .before .before .before .before .before .args .n) (c .before .before .before .before .before .before .before .before .before .before .args .k) (c .before .before .before .before .before .before .before .before .before .before .args .kind) _ (c .before .before .before .before .before .before .before .held .result) (c .before .before .before .before .before .before .before .held .ensures .0 σ h ok) (sym (c .before .before .before .before .before .before .decide .ensures) ∙ c .before .before .before .before .enum-told .given .1)) (c .before .before .grant .ensures σ h (number-given (c .before .before .before .before .before .before .before .before .before .before .args .n) (sessionAt σ (c .before .before .before .before .before .before .before .before .before .before .args .place)) (session-fits h (c .before .before .before .before .before .before .before .before .before .before .args .place) (c .before .before .before .before .before .before .before .before .before .before .pre .1 .0)) here))
+
+same-length-2 : tie.Need-same-length-2
+same-length-2 c = search needs
+
+returns-2 : tie.Need-returns-2
+returns-2 c = λ σ h ok here. rw (ask-by σ (c .before .before .before .before .before .before .before .before .before .before .args .n) (c .before .before .before .before .before .before .before .before .before .before .args .k) (c .before .before .before .before .before .before .before .before .before .before .args .kind) _ (c .before .before .before .before .before .before .before .held .result) (c .before .before .before .before .before .before .before .held .ensures .0 σ h ok) (sym (c .before .before .before .before .before .before .decide .ensures) ∙ c .before .before .before .before .enum-told2 .given .1)) (c .before .before .grant2 .ensures σ h (number-given (c .before .before .before .before .before .before .before .before .before .before .args .n) (sessionAt σ (c .before .before .before .before .before .before .before .before .before .before .args .place)) (session-fits h (c .before .before .before .before .before .before .before .before .before .before .args .place) (c .before .before .before .before .before .before .before .before .before .before .pre .1 .0)) here))
+
+same-length-3 : tie.Need-same-length-3
+same-length-3 c = search needs
+
+returns-3 : tie.Need-returns-3
+returns-3 c = λ σ h ok here. rw (ask-by σ (c .before .before .before .before .before .before .before .before .before .before .args .n) (c .before .before .before .before .before .before .before .before .before .before .args .k) (c .before .before .before .before .before .before .before .before .before .before .args .kind) _ (c .before .before .before .before .before .before .before .held .result) (c .before .before .before .before .before .before .before .held .ensures .0 σ h ok) (sym (c .before .before .before .before .before .before .decide .ensures) ∙ c .before .before .before .before .enum-told3 .given .1)) (c .before .before .abort .ensures σ h ok here)
+
+same-length-4 : tie.Need-same-length-4
+same-length-4 c = search needs
+
+returns-4 : tie.Need-returns-4
+returns-4 c = λ σ h ok here. rw (ask-by σ (c .before .before .before .before .before .before .before .before .before .before .args .n) (c .before .before .before .before .before .before .before .before .before .before .args .k) (c .before .before .before .before .before .before .before .before .before .before .args .kind) _ (c .before .before .before .before .before .before .before .held .result) (c .before .before .before .before .before .before .before .held .ensures .0 σ h ok) (sym (c .before .before .before .before .before .before .decide .ensures) ∙ c .before .before .before .before .enum-told4 .given .1)) (c .before .before .abort2 .ensures σ h ok here)
+
+pub ask-spec : {M : Type 1} → statement M
+ask-spec =
+    tie.close
+    (tie.spec
+    held-requires
+    decide-requires
+    enum-told
+    grant-requires
+    enum-told-2
+    grant-requires-2
+    enum-told-3
+    abort-requires
+    enum-told-4
+    abort-requires-2
+    same-length
+    returns
+    same-length-2
+    returns-2
+    same-length-3
+    returns-3
+    same-length-4
+    returns-4)

@@ -1,0 +1,139 @@
+// QUAR: a session asks for a quarantine of a key, and the decision table answers.
+ghost use mathlib.Core.Path.{_≡_};
+ghost use mathlib.Core.Bool.{true};
+ghost use mathlib.Core.List.{[]};
+ghost use mathlib.Core.Option.{none};
+ghost use Prim.Native.Nat.{_≤_, _<_};
+ghost use lib.Dec.{eqb};
+ghost use lib.ListN.{length};
+ghost use Rattle.machine.specs.Sizes.{stateSize, keyCount, sessionCount};
+ghost use Rattle.machine.specs.State.{State, kindOf, rowOf, numbered, sessionAt};
+ghost use Rattle.machine.specs.Expiry.{withKeys, setLease};
+ghost use Rattle.machine.specs.Refusals.{heldOn};
+ghost use Rattle.machine.specs.Sound.{sound};
+ghost use Rattle.machine.specs.declared.Command.the-variants.{Quar};
+ghost use Rattle.layout.specs.Holds.{Holds};
+ghost use Rattle.outcome.specs.Outcome.{tried, Gives, Does};
+ghost use Rattle.quars.specs.Asking.{leaseHeld, grant, abort, ask, hold};
+use askers::Asker;
+use layout::Found;
+use machine::Answer;
+use machine::Verdict;
+
+// The bytes of an I lease: token and deadline.
+const LEASE_SIZE: usize = 12;
+
+// Whether session n has a row of this kind on key k.
+fn holds(s: &[u8], n: u32, k: u8, kind: u8) -> bool
+    requires { ⌜ (length (now s) ≡ stateSize) × (1 ≤ kind) ⌝ }
+    ensures { λ r. ⌜ ((σ : State) → Holds (now (s .entry)) σ → r ≡ eqb (kindOf (rowOf σ n k)) kind) ⌝ }
+{
+    let Found::At(i) = rows::find(s, n as u64, k as usize) else {
+        return false;
+    };
+    rows::kind(s, i) == kind
+}
+
+// 1 if an I lease is on key k, else 0.
+fn lease_held(s: &[u8], k: usize) -> usize
+    requires { ⌜ (length (now s) ≡ stateSize) × (k < keyCount) ⌝ }
+    ensures { λ r. ⌜ ((σ : State) → Holds (now (s .entry)) σ → r ≡ leaseHeld σ k) × (r < 5) ⌝ }
+{
+    if keys::lease_token(s, k) == 0 {
+        return 0;
+    }
+    1
+}
+
+// What is held on key k, by its place in the decision table. A row's kind is 1 to 3.
+fn held(s: &[u8], k: usize) -> usize
+    requires { ⌜ (length (now s) ≡ stateSize) × (k < keyCount) ⌝ }
+    ensures { λ r. ⌜ ((σ : State) → Holds (now (s .entry)) σ → sound σ ≡ true → r ≡ heldOn σ k) × (r < 5) ⌝ }
+{
+    let Found::At(i) = rows::first_on(s, k) else {
+        return lease_held(s, k);
+    };
+    let kind = rows::kind(s, i);
+    match kind {
+        1 => 2,
+        2 => 3,
+        _ => 4,
+    }
+}
+
+// The I lease on key k is voided.
+fn void_lease(s: &mut [u8], k: usize)
+    requires { ⌜ (length (now s) ≡ stateSize) × (k < keyCount) ⌝ }
+    ensures { λ _. ⌜ ((σ : State) → Holds (now (s .entry)) σ → Holds (now (s .exit)) (withKeys σ (setLease (σ .keys) k none))) ⌝ }
+{
+    lent::clear(
+        s,
+        layout::KEYS_FROM + k * layout::KEY_WIDTH + layout::KEY_TOKEN,
+        LEASE_SIZE,
+    );
+}
+
+// The lowest free row is taken; where there is none, the refusal is ROOM.
+fn grant(s: &mut [u8], n: u32, k: u8, kind: u8) -> Answer
+    requires { ⌜ length (now s) ≡ stateSize ⌝ }
+    ensures { λ r. ⌜ ((σ : State) → Holds (now (s .entry)) σ → 1 ≤ n → Gives (grant σ n k kind) r (now (s .exit))) ⌝ }
+{
+    let Found::At(i) = rows::free_place(s) else {
+        return Answer::Refused(12);
+    };
+    rows::put(s, i, n, k, kind);
+    void_lease(s, k as usize);
+    Answer::Granted
+}
+
+fn abort(s: &mut [u8], n: u32, place: usize) -> Answer
+    requires { ⌜ (length (now s) ≡ stateSize) × (place < sessionCount) ⌝ }
+    ensures { λ r. ⌜ ((σ : State) → Holds (now (s .entry)) σ → sound σ ≡ true → numbered n (sessionAt σ place) ≡ true → Gives (abort σ n) r (now (s .exit))) ⌝ }
+{
+    sweep::leave(s, n, place);
+    Answer::Aborted
+}
+
+// The decision table answers session n, which stands at this place.
+fn ask(s: &mut [u8], n: u32, place: usize, k: u8, kind: u8) -> Answer
+    requires { ⌜ (length (now s) ≡ stateSize) × ((place < sessionCount) × (kind < 4)) ⌝ }
+    ensures { λ r. ⌜ ((σ : State) → Holds (now (s .entry)) σ → sound σ ≡ true → numbered n (sessionAt σ place) ≡ true → Gives (ask σ n k kind) r (now (s .exit))) ⌝ }
+{
+    let held = held(s, k as usize);
+    match machine::decide(held, kind as usize) {
+        Verdict::Grant => grant(s, n, k, kind),
+        Verdict::Void => grant(s, n, k, kind),
+        Verdict::BackOff => abort(s, n, place),
+        Verdict::Abort => abort(s, n, place),
+    }
+}
+
+// HELD if session n has such a row already.
+fn hold(s: &mut [u8], n: u32, place: usize, k: u8, kind: u8) -> Answer
+    requires { ⌜ (length (now s) ≡ stateSize) × ((place < sessionCount) × ((1 ≤ kind) × (kind < 4))) ⌝ }
+    ensures { λ r. ⌜ ((σ : State) → Holds (now (s .entry)) σ → sound σ ≡ true → numbered n (sessionAt σ place) ≡ true → Gives (hold σ n k kind) r (now (s .exit))) ⌝ }
+{
+    if holds(s, n, k, kind) {
+        return Answer::Held;
+    }
+    ask(s, n, place, k, kind)
+}
+
+pub fn quar(s: &mut [u8], session: u64, key: u64, kind: u64) -> Answer
+    requires { ⌜ length (now s) ≡ stateSize ⌝ }
+    ensures { λ r. ⌜ Does (now (s .entry)) (λ σ. tried σ 0 (Quar session key kind) []) r (now (s .exit)) ⌝ }
+{
+    if layout::KEY_COUNT as u64 <= key {
+        return Answer::Refused(3);
+    }
+    if !machine::is_kind(kind) {
+        return Answer::Refused(3);
+    }
+    match askers::find(s, session) {
+        Asker::Refused(e) => Answer::Refused(e),
+        Asker::Open {
+            place,
+            session: asker,
+        } => hold(s, asker.number, place, key as u8, kind as u8),
+    }
+}

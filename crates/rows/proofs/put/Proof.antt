@@ -1,0 +1,52 @@
+-- The three pieces make up the row.
+use Rattle.rows.proofs.Tests.{row-put}
+use mathlib.Core.Path.{_≡_, sym, ap, _∙_}
+-- The three pieces make up the row.
+use borrow.Author.Needs.{needs}
+use Rattle.rows.proofs.put.Statement.{statement}
+use Rattle.rows.proofs.put.Tie as tie
+
+mul-at : tie.Need-mul-at
+mul-at c = search needs
+
+add-at : tie.Need-add-at
+add-at c = search needs
+
+store-u32-requires : tie.Need-store-u32-requires
+store-u32-requires c κs = search needs
+
+add-store-pair : tie.Need-add-store-pair
+add-store-pair c = search needs
+
+store-pair-requires : tie.Need-store-pair-requires
+store-pair-requires c κs = search needs
+
+add-clear : tie.Need-add-clear
+add-clear c = search needs
+
+sub-clear : tie.Need-sub-clear
+sub-clear c = search needs
+
+clear-requires : tie.Need-clear-requires
+clear-requires c κs = search needs
+
+same-length : tie.Need-same-length
+same-length c = search needs
+
+returns : tie.Need-returns
+returns c = λ σ h g. rw (c .before .before .clear .ensures, c .before .before .before .before .before .before .store-pair .ensures, c .before .before .before .before .before .before .before .before .before .before .store-u32 .ensures) (row-put h (c .before .before .before .before .before .before .before .before .before .before .before .before .before .args .i) (search needs) (c .before .before .before .before .before .before .before .before .before .before .before .before .before .args .session) (c .before .before .before .before .before .before .before .before .before .before .before .before .before .args .key) (c .before .before .before .before .before .before .before .before .before .before .before .before .before .args .kind) g (search needs))
+
+pub put-spec : {M : Type 1} → statement M
+put-spec =
+    tie.close
+    (tie.spec
+    mul-at
+    add-at
+    store-u32-requires
+    add-store-pair
+    store-pair-requires
+    add-clear
+    sub-clear
+    clear-requires
+    same-length
+    returns)

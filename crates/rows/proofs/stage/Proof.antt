@@ -1,0 +1,49 @@
+-- The two pieces make up what is staged.
+use Rattle.rows.proofs.Tests.{value-staged}
+use mathlib.Core.Path.{_≡_, sym, ap, _∙_}
+-- The two pieces make up what is staged.
+-- The two pieces make up what is staged.
+use borrow.Author.Needs.{needs}
+use Rattle.rows.proofs.stage.Statement.{statement}
+use Rattle.rows.proofs.stage.Tie as tie
+
+mul-at : tie.Need-mul-at
+mul-at c = search needs
+
+add-at : tie.Need-add-at
+add-at c = search needs
+
+cast-n : tie.Need-cast-n
+cast-n c = search needs
+
+add-store-pair : tie.Need-add-store-pair
+add-store-pair c = search needs
+
+store-pair-requires : tie.Need-store-pair-requires
+store-pair-requires c κs = search needs
+
+add-store-value : tie.Need-add-store-value
+add-store-value c = search needs
+
+store-value-requires : tie.Need-store-value-requires
+store-value-requires c κs = search needs
+
+same-length : tie.Need-same-length
+same-length c = search needs
+
+returns : tie.Need-returns
+returns c = λ σ h g. rw (c .before .before .store-value .ensures, c .before .before .before .before .before .before .store-pair .ensures) (value-staged h (c .before .before .before .before .before .before .before .before .before .before .args .i) (search needs) (c .before .before .before .before .before .before .before .before .before .before .args .v .now) (search needs) g)
+
+pub stage-spec : {M : Type 1} → statement M
+stage-spec =
+    tie.close
+    (tie.spec
+    mul-at
+    add-at
+    cast-n
+    add-store-pair
+    store-pair-requires
+    add-store-value
+    store-value-requires
+    same-length
+    returns)

@@ -1,0 +1,29 @@
+-- The byte behind the mark is the length.
+use Rattle.layout.proofs.Held.{staged-long}
+use mathlib.Core.Path.{_≡_, sym, ap, _∙_}
+use borrow.Author.Needs.{needs}
+use Rattle.rows.proofs.staged_length.Statement.{statement}
+use Rattle.rows.proofs.staged_length.Tie as tie
+
+mul-index : tie.Need-mul-index
+mul-index c = search needs
+
+add-index : tie.Need-add-index
+add-index c = search needs
+
+add-index-2 : tie.Need-add-index-2
+add-index-2 c = search needs
+
+shared-slice-read-index : tie.Need-shared-slice-read-index
+shared-slice-read-index c = search needs
+
+index-requires : tie.Need-index-requires
+index-requires c κs = search needs
+
+returns : tie.Need-returns
+returns c = (λ σ h. c .index .ensures .0 ∙ staged-long h (c .before .before .before .args .i) (search needs), c .index .ensures .1)
+
+pub staged-length-spec : {M : Type 1} → statement M
+staged-length-spec =
+    tie.close
+    (tie.spec mul-index add-index add-index-2 shared-slice-read-index index-requires returns)

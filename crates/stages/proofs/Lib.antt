@@ -1,0 +1,3 @@
+pub mod Found
+pub mod Staged
+pub mod Tried

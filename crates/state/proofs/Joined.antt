@@ -1,0 +1,106 @@
+-- What joins records, on the bytes: the numbers and tokens that the conditions compare are those of the bytes, and the four conditions on rows
+-- are one test of each row beside the sessions, its key and the rows before it.
+-- Assumes nothing.
+use Prim.Native.Nat.{ℕ, _+_, _*_, _<_}
+use mathlib.Core.Path.{_≡_, refl, sym, ap, _∙_}
+use mathlib.Core.Bool.{Bool, true, false, not, _&&_, and-true, and-false}
+use mathlib.Core.List.{List}
+use native.Mathlib.Omega.{arith}
+use lib.Dec.{eqb}
+use Rattle.lent.specs.Bytes.{Bytes, le32}
+use Rattle.lent.specs.Tables.{if_then_else_, every, some}
+use Rattle.lent.proofs.Walks.{all-every, every-both, every-cong, some-cong}
+use Rattle.machine.specs.Sizes.{keyCount, keysFrom, keyWidth, rowCount, rowsFrom, rowWidth, sessionCount, sessionsFrom, sessionWidth}
+use Rattle.machine.specs.State.{Staged, Row, noRow, row, State, rowAt}
+use Rattle.machine.specs.Sound.{newAt, distinct, numberAt, tokenAt, numbersDistinct, tokensDistinct, liveRow, rowsLive, once, rowsOnce, shares, rowsAlone, leaseless, rowsLeaseless, joined}
+use Rattle.layout.specs.Layout.{decStaged, decode}
+use Rattle.joins.specs.Joins.{numbers, rowSession, rowKey, rowKind, isLive, pairOk, joinOk}
+use Rattle.state.specs.Forms.{recordsJoin}
+use Rattle.state.proofs.Fields.{rowBytes, number-at, token-at, rowOr, row-is}
+
+distinct-cong : (f g : ℕ → ℕ) (n : ℕ) → ((i : ℕ) → i < n → f i ≡ g i) → distinct f n ≡ distinct g n
+unfolding distinct newAt
+distinct-cong f g n e =
+    every-cong (newAt f) (newAt g) n
+    (λ i h. rw (e i h, every-cong (λ j. not (eqb (f j) (g i))) (λ j. not (eqb (g j) (g i))) i (λ j l. rw (e j (omega arith)))))
+
+-- a free row agrees with any row
+once-free : (r : Row) → once r noRow ≡ true
+once-free noRow = refl
+once-free (row n k d u) = refl
+
+shares-free : (r : Row) → shares r noRow ≡ true
+shares-free noRow = refl
+shares-free (row n k d u) = refl
+
+module _ (s : List ℕ) where
+  abbrev σ : State
+  σ = decode s
+
+  numbers-law : numbersDistinct σ ≡ distinct (numbers s sessionsFrom sessionWidth) sessionCount
+  unfolding numbersDistinct
+  numbers-law = distinct-cong (numberAt σ) (numbers s sessionsFrom sessionWidth) sessionCount (number-at s)
+
+  tokens-law : tokensDistinct σ ≡ distinct (numbers s (keysFrom + 4) keyWidth) keyCount
+  unfolding tokensDistinct
+  tokens-law =
+      distinct-cong (tokenAt σ) (numbers s (keysFrom + 4) keyWidth) keyCount
+      (λ k h. let q : keysFrom + k * keyWidth + 4 ≡ keysFrom + 4 + k * keyWidth = omega arith in token-at s k h ∙ ap (le32 s) q)
+
+  live-law : (n : ℕ) → some (λ j. eqb (numberAt σ j) n) sessionCount ≡ isLive s n
+  unfolding isLive
+  live-law n = some-cong _ _ sessionCount (λ j h. ap (λ (m : ℕ). eqb m n) (number-at s j h))
+
+  -- row j beside one of session n on key k
+  pair-law : (n k d : ℕ) (u : Staged) (j : ℕ) → pairOk s n k d j ≡ once (rowOr s (eqb (rowSession s j) 0) j) (row n k d u) && shares (rowOr s (eqb (rowSession s j) 0) j) (row n k d u)
+  unfolding pairOk
+  pair-law n k d u j = go (eqb (rowSession s j) 0)
+    where
+      mix : (a b c : Bool) → (if b then not a && c else true) ≡ not (a && b) && (if b then c else true)
+      mix true true c = refl
+      mix true false c = refl
+      mix false true c = refl
+      mix false false c = refl
+
+      go : (t : Bool) → (if t then true else if eqb (rowKey s j) k then not (eqb (rowSession s j) n) && (eqb (rowKind s j) 1 && eqb d 1) else true)
+          ≡ once (rowOr s t j) (row n k d u) && shares (rowOr s t j) (row n k d u)
+      go true = refl
+      go false = mix (eqb (rowSession s j) n) (eqb (rowKey s j) k) (eqb (rowKind s j) 1 && eqb d 1)
+
+  -- row r, at place i, beside the sessions, the rows before it and its key
+  abbrev agrees : ℕ → Row → Bool
+  agrees i r = liveRow σ r && (every (λ j. once (rowAt σ j) r) i && (every (λ j. shares (rowAt σ j) r) i && leaseless σ r))
+
+  module _ (f : Bytes s) where
+    row-law : (i : ℕ) → i < rowCount → agrees i (rowAt σ i) ≡ joinOk s i
+    unfolding joinOk
+    row-law i h = rw (row-is s i h) (go (eqb (rowSession s i) 0))
+      where
+        mix : (a o b c : Bool) → a && (o && (b && c)) ≡ (if c then if a then o && b else false else false)
+        mix true o b true = ap (λ (t : Bool). o && t) (and-true b)
+        mix true o b false = ap (λ (t : Bool). o && t) (and-false b) ∙ and-false o
+        mix false o b true = refl
+        mix false o b false = refl
+
+        pairs : every (pairOk s (rowSession s i) (rowKey s i) (rowKind s i)) i ≡ every (λ j. once (rowAt σ j) (rowOr s false i)) i && every (λ j. shares (rowAt σ j) (rowOr s false i)) i
+        pairs =
+            every-cong _ _ i (λ j b. pair-law (rowSession s i) (rowKey s i) (rowKind s i) (decStaged (rowBytes s i)) j ∙ rw (row-is s j (omega arith)))
+            ∙ sym (every-both _ _ i)
+
+        go : (t : Bool) → agrees i (rowOr s t i)
+            ≡ (if t then true else if eqb (le32 s (keysFrom + rowKey s i * keyWidth + 4)) 0 then if isLive s (rowSession s i) then every (pairOk s (rowSession s i) (rowKey s i) (rowKind s i)) i else false else false)
+        go true =
+            rw (all-every (λ j. once (rowAt σ j) noRow) i (λ j b. once-free (rowAt σ j)), all-every (λ j. shares (rowAt σ j) noRow) i (λ j b. shares-free (rowAt σ j)))
+        go false =
+            rw (live-law (rowSession s i), token-at s (rowKey s i) (f (rowsFrom + i * rowWidth + 4)), pairs)
+            (mix (isLive s (rowSession s i)) (every (λ j. once (rowAt σ j) (rowOr s false i)) i) (every (λ j. shares (rowAt σ j) (rowOr s false i)) i) (eqb (le32 s (keysFrom + rowKey s i * keyWidth + 4)) 0))
+
+    rows-law : rowsLive σ && (rowsOnce σ && (rowsAlone σ && rowsLeaseless σ)) ≡ every (joinOk s) rowCount
+    unfolding rowsLive rowsOnce rowsAlone rowsLeaseless
+    rows-law =
+        rw (every-both (λ i. every (λ j. shares (rowAt σ j) (rowAt σ i)) i) (λ i. leaseless σ (rowAt σ i)) rowCount, every-both (λ i. every (λ j. once (rowAt σ j) (rowAt σ i)) i) (λ i. every (λ j. shares (rowAt σ j) (rowAt σ i)) i && leaseless σ (rowAt σ i)) rowCount, every-both (λ i. liveRow σ (rowAt σ i)) (λ i. every (λ j. once (rowAt σ j) (rowAt σ i)) i && (every (λ j. shares (rowAt σ j) (rowAt σ i)) i && leaseless σ (rowAt σ i))) rowCount)
+        (every-cong (λ i. agrees i (rowAt σ i)) (joinOk s) rowCount row-law)
+
+    pub joined-law : joined σ ≡ recordsJoin s
+    unfolding joined recordsJoin
+    joined-law = rw (numbers-law, tokens-law, rows-law)

@@ -1,0 +1,24 @@
+-- What a call says of its definition's test, by the branch on its result: of the test itself, or of a test of one record of a table.
+-- Assumes nothing.
+use Prim.Native.Nat.{ℕ, _+_, _-_}
+use mathlib.Core.Path.{_≡_, sym, ap, _∙_}
+use mathlib.Core.Bool.{Bool, true, false, not}
+use mathlib.Core.List.{List}
+use lib.ListN.{take, drop}
+use borrow.Author.Tests.{not-true, not-false}
+use Rattle.lent.specs.Bytes.{win}
+use Rattle.lent.proofs.Splice.{part-win}
+
+pub failed : {r t : Bool} → r ≡ t → not r ≡ true → t ≡ false
+failed {r} e n = sym e ∙ not-true r n
+
+pub passed : {r t : Bool} → r ≡ t → not r ≡ false → t ≡ true
+passed {r} e n = sym e ∙ not-false r n
+
+-- the record is lent as `&s[at..at + w]`
+module _ (test : List ℕ → Bool) (s : List ℕ) (at w : ℕ) {r : Bool} (e : r ≡ test (take (at + w - at) (drop at s))) where
+  pub record-failed : not r ≡ true → test (win s at w) ≡ false
+  record-failed n = failed (e ∙ ap test (part-win s at w)) n
+
+  pub record-passed : not r ≡ false → test (win s at w) ≡ true
+  record-passed n = passed (e ∙ ap test (part-win s at w)) n

@@ -1,0 +1,117 @@
+-- The tests of the bytes, all together, are the definition of well formed: the encoding is compared table by table and record by record, `sound`
+-- goes by the same records, and each record's two conditions are its form.
+-- Assumes nothing.
+use Prim.Native.Nat.{ℕ, _+_, _*_, _≤_, _<_}
+use mathlib.Core.Path.{_≡_, refl, sym, ap, _∙_}
+use mathlib.Core.Bool.{Bool, true, false, _&&_, and-assoc}
+use mathlib.Core.List.{List, _++_}
+use native.Mathlib.Omega.{arith}
+use lib.ListN.{length, take, drop, length-drop}
+use lib.Seq.{take-all}
+use lib.Dec.{eqb}
+use borrow.Author.Tests.{eq-eqb, ne-eqb}
+use Rattle.lent.specs.Bytes.{Bytes, win, zeros}
+use Rattle.lent.specs.Tables.{every, allZero, same, tabOf, readTab}
+use Rattle.lent.proofs.Choices.{and-swap}
+use Rattle.lent.proofs.Equal.{same-split, same-zeros}
+use Rattle.lent.proofs.Splice.{bytes-win, length-win}
+use Rattle.lent.proofs.Tables.{length-read, same-tab-at}
+use Rattle.lent.proofs.Walks.{every-both, every-cong}
+use Rattle.machine.specs.Sizes.{stateSize, headSize, keyCount, keysFrom, keyWidth, rowCount, rowsFrom, rowWidth, sessionCount, sessionsFrom, sessionWidth, restFrom, restSize}
+use Rattle.machine.specs.State.{Head, State, keyOf, rowAt, sessionAt}
+use Rattle.machine.specs.Sound.{headSound, keySound, rowSound, sessionSound, joined, sized, sound}
+use Rattle.layout.specs.Layout.{encHead, decHead, encKey, decKey, encRow, decRow, encSession, decSession, encode, decode}
+use Rattle.layout.specs.WellFormed.{wellFormed}
+use Rattle.state.specs.Forms.{headFormed, keysFormed, rowsFormed, sessionsFormed, tablesFormed, recordsJoin, stateFormed}
+use Rattle.state.proofs.Widths.{key-wide, row-wide, session-wide}
+use Rattle.state.proofs.Records.{head-law, key-law, row-law, session-law}
+use Rattle.state.proofs.Fields.{keyBytes, rowBytes, sessionBytes, key-at, row-at, session-at}
+use Rattle.state.proofs.Joined.{joined-law}
+
+pub wrong-length : (s : List ℕ) → (length s ≡ stateSize → ⊥) → wellFormed s ≡ false
+unfolding wellFormed
+wrong-length s n = rw (ne-eqb (length s) stateSize n)
+
+module _ (s : List ℕ) (h : length s ≡ stateSize) (f : Bytes s) where
+  abbrev σ : State
+  σ = decode s
+
+  abbrev hd : Head
+  hd = decHead s
+
+  -- ---- the bytes, table by table
+  head-long : length (encHead hd) ≡ headSize
+  unfolding encHead
+  head-long = refl
+
+  front : take headSize s ≡ win s 0 headSize
+  unfolding win
+  front = refl
+
+  rest-law : same (drop restFrom s) (zeros restSize) ≡ allZero (win s restFrom restSize)
+  unfolding win
+  rest-law =
+      let l : length (drop restFrom s) ≡ restSize = simp length-drop (omega arith) in
+      same-zeros (drop restFrom s) restSize l ∙ ap allZero (sym (take-all restSize (drop restFrom s) (omega arith)))
+
+  bytes-law : same s (encode σ) ≡
+      same (win s 0 headSize) (encHead hd)
+      && (every (λ k. same (keyBytes s k) (encKey (decKey (keyBytes s k)))) keyCount
+      && (every (λ i. same (rowBytes s i) (encRow (decRow (rowBytes s i)))) rowCount
+      && (every (λ j. same (sessionBytes s j) (encSession (decSession (sessionBytes s j)))) sessionCount
+      && allZero (win s restFrom restSize))))
+  unfolding encode decode
+  bytes-law =
+      let q2 : List ℕ = tabOf encSession (readTab decSession sessionWidth sessionCount (drop sessionsFrom s)) ++ zeros restSize in
+      let q1 : List ℕ = tabOf encRow (readTab decRow rowWidth rowCount (drop rowsFrom s)) ++ q2 in
+      let q0 : List ℕ = tabOf encKey (readTab decKey keyWidth keyCount (drop keysFrom s)) ++ q1 in
+      same-split s (encHead hd) q0 headSize head-long (omega arith)
+      ∙ rw (front, same-tab-at encKey decKey keyWidth key-wide keyCount s keysFrom q1 (omega arith), same-tab-at encRow decRow rowWidth row-wide rowCount s rowsFrom q2 (omega arith), same-tab-at encSession decSession sessionWidth session-wide sessionCount s sessionsFrom (zeros restSize) (omega arith), rest-law)
+
+  -- ---- sound, record by record
+  sized-law : sized σ ≡ true
+  unfolding sized decode
+  sized-law =
+      rw (length-read decKey keyWidth keyCount (drop keysFrom s), length-read decSession sessionWidth sessionCount (drop sessionsFrom s), length-read decRow rowWidth rowCount (drop rowsFrom s))
+
+  sound-law : sound σ ≡
+      headSound hd
+      && (every (λ k. keySound hd (decKey (keyBytes s k))) keyCount
+      && (every (λ i. rowSound (decRow (rowBytes s i))) rowCount
+      && (every (λ j. sessionSound hd (decSession (sessionBytes s j))) sessionCount
+      && joined σ)))
+  unfolding sound decode
+  sound-law =
+      let k : every (λ i. keySound hd (keyOf σ i)) keyCount ≡ every (λ i. keySound hd (decKey (keyBytes s i))) keyCount = every-cong _ _ keyCount (λ i l. ap (keySound hd) (key-at s i l)) in
+      let r : every (λ i. rowSound (rowAt σ i)) rowCount ≡ every (λ i. rowSound (decRow (rowBytes s i))) rowCount = every-cong _ _ rowCount (λ i l. ap rowSound (row-at s i l)) in
+      let j : every (λ i. sessionSound hd (sessionAt σ i)) sessionCount ≡ every (λ i. sessionSound hd (decSession (sessionBytes s i))) sessionCount = every-cong _ _ sessionCount (λ i l. ap (sessionSound hd) (session-at s i l)) in
+      rw (sized-law, k, r, j)
+
+  -- ---- the two together, table by table
+  keys-law : every (λ k. same (keyBytes s k) (encKey (decKey (keyBytes s k)))) keyCount && every (λ k. keySound hd (decKey (keyBytes s k))) keyCount ≡ keysFormed s
+  unfolding keysFormed
+  keys-law =
+      every-both _ _ keyCount
+      ∙ every-cong _ _ keyCount (λ k l. key-law (keyBytes s k) (bytes-win s (keysFrom + k * keyWidth) keyWidth (omega arith) f) (length-win s (keysFrom + k * keyWidth) keyWidth (omega arith)) hd)
+
+  rows-law : every (λ i. same (rowBytes s i) (encRow (decRow (rowBytes s i)))) rowCount && every (λ i. rowSound (decRow (rowBytes s i))) rowCount ≡ rowsFormed s
+  unfolding rowsFormed
+  rows-law =
+      every-both _ _ rowCount
+      ∙ every-cong _ _ rowCount (λ i l. row-law (rowBytes s i) (bytes-win s (rowsFrom + i * rowWidth) rowWidth (omega arith) f) (length-win s (rowsFrom + i * rowWidth) rowWidth (omega arith)))
+
+  sessions-law : every (λ j. same (sessionBytes s j) (encSession (decSession (sessionBytes s j)))) sessionCount && every (λ j. sessionSound hd (decSession (sessionBytes s j))) sessionCount ≡ sessionsFormed s
+  unfolding sessionsFormed
+  sessions-law =
+      every-both _ _ sessionCount
+      ∙ every-cong _ _ sessionCount (λ j l. session-law (sessionBytes s j) (bytes-win s (sessionsFrom + j * sessionWidth) sessionWidth (omega arith) f) (length-win s (sessionsFrom + j * sessionWidth) sessionWidth (omega arith)) hd)
+
+  pub whole : stateFormed s ≡ wellFormed s
+  unfolding stateFormed tablesFormed wellFormed
+  whole =
+      sym
+      (rw (eq-eqb (length s) stateSize h, bytes-law, sound-law, and-swap, head-law s f h, and-swap, keys-law, and-swap, rows-law, and-swap, sessions-law, joined-law s f)
+      (line (keysFormed s) (rowsFormed s) (sessionsFormed s) (allZero (win s restFrom restSize)) (recordsJoin s)))
+    where
+      line : (k r q z j : Bool) → headFormed s && (k && (r && (q && (z && j)))) ≡ headFormed s && ((k && (r && (q && z))) && j)
+      line k r q z j = rw (and-assoc k (r && (q && z)) j, and-assoc r (q && z) j, and-assoc q z j)

@@ -1,0 +1,26 @@
+-- The length is at most 64, and then the result is that of the scan behind the value.
+-- Assumes nothing.
+use native.Mathlib.Omega.{arith}
+use borrow.Author.Tests.{le-leb, lt-leb}
+use borrow.Author.Needs.{needs}
+use Rattle.machine.specs.Sizes.{valueMax}
+use Rattle.state.specs.Forms.{fitted}
+use Rattle.state.proofs.is_fitted.Statement.{statement}
+use Rattle.state.proofs.is_fitted.Tie as tie
+
+returns : tie.Need-returns
+unfolding fitted
+returns c = rw (lt-leb (c .before .before .args .n) valueMax (omega arith))
+
+add-is-zero : tie.Need-add-is-zero
+add-is-zero c = search needs
+
+is-zero-requires : tie.Need-is-zero-requires
+is-zero-requires c κs = search needs
+
+returns-2 : tie.Need-returns-2
+unfolding fitted
+returns-2 c = rw (le-leb (c .before .before .before .args .n) valueMax (omega arith)) (c .is-zero .ensures)
+
+pub is-fitted-spec : {M : Type 1} → statement M
+is-fitted-spec = tie.close (tie.spec returns add-is-zero is-zero-requires returns-2)

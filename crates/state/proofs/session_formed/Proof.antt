@@ -1,0 +1,64 @@
+-- A session is free, or each test is the next of its conditions.
+-- Assumes nothing.
+use mathlib.Core.Path.{ap, _∙_}
+use native.Mathlib.Omega.{arith}
+use lib.ListN.{getD}
+use borrow.Author.Tests.{eq-eqb, ne-eqb, lt-ltb, le-ltb, le-leb, lt-leb}
+use borrow.Author.Needs.{needs}
+use Rattle.lent.specs.Bytes.{le16, le32}
+use Rattle.lent.specs.Tables.{allZero}
+use Rattle.lent.proofs.Splice.{win-whole}
+use Rattle.machine.specs.Sizes.{sessionWidth, stepMax}
+use Rattle.state.specs.Forms.{sessionFormed}
+use Rattle.state.proofs.session_formed.Statement.{statement}
+use Rattle.state.proofs.session_formed.Tie as tie
+
+load-u32-requires : tie.Need-load-u32-requires
+load-u32-requires c κs = search needs
+
+is-zero-requires : tie.Need-is-zero-requires
+is-zero-requires c κs = search needs
+
+returns : tie.Need-returns
+unfolding sessionFormed
+returns c = let x = c .before .before .before .before .args .r .now in rw (eq-eqb (le32 x 0) 0 (omega arith)) (c .is-zero .ensures ∙ ap allZero (win-whole x sessionWidth (omega arith)))
+
+returns-2 : tie.Need-returns-2
+unfolding sessionFormed
+returns-2 c = let x = c .before .before .before .before .args .r .now in rw (ne-eqb (le32 x 0) 0 (omega arith), le-ltb (le32 x 0) (c .before .before .before .before .args .next) (omega arith))
+
+shared-slice-read-if3 : tie.Need-shared-slice-read-if3
+shared-slice-read-if3 c = search needs
+
+returns-3 : tie.Need-returns-3
+unfolding sessionFormed
+returns-3 c = let x = c .before .before .before .before .before .before .args .r .now in rw (ne-eqb (le32 x 0) 0 (omega arith), lt-ltb (le32 x 0) (c .before .before .before .before .before .before .args .next) (omega arith), ne-eqb (getD x 5 0) 0 (omega arith))
+
+load-u16-requires : tie.Need-load-u16-requires
+load-u16-requires c κs = search needs
+
+returns-4 : tie.Need-returns-4
+unfolding sessionFormed
+returns-4 c = let x = c .before .before .before .before .before .before .before .before .args .r .now in rw (ne-eqb (le32 x 0) 0 (omega arith), lt-ltb (le32 x 0) (c .before .before .before .before .before .before .before .before .args .next) (omega arith), eq-eqb (getD x 5 0) 0 (omega arith), lt-leb (le16 x 6) stepMax (omega arith))
+
+life-formed-requires : tie.Need-life-formed-requires
+life-formed-requires c κs = search needs
+
+returns-5 : tie.Need-returns-5
+unfolding sessionFormed
+returns-5 c = let x = c .before .before .before .before .before .before .before .before .before .args .r .now in rw (ne-eqb (le32 x 0) 0 (omega arith), lt-ltb (le32 x 0) (c .before .before .before .before .before .before .before .before .before .args .next) (omega arith), eq-eqb (getD x 5 0) 0 (omega arith), le-leb (le16 x 6) stepMax (omega arith)) (c .life-formed .ensures)
+
+pub session-formed-spec : {M : Type 1} → statement M
+session-formed-spec =
+    tie.close
+    (tie.spec
+    load-u32-requires
+    is-zero-requires
+    returns
+    returns-2
+    shared-slice-read-if3
+    returns-3
+    load-u16-requires
+    returns-4
+    life-formed-requires
+    returns-5)

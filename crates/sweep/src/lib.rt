@@ -1,0 +1,195 @@
+// How sessions end on the lent state, and what expiry does. Whoever calls has checked the state: it is sound, and of 65,536 bytes.
+pub mod records;
+
+ghost use mathlib.Core.Path.{_≡_};
+ghost use mathlib.Core.Bool.{true};
+ghost use mathlib.Core.List.{List, [], _∷_, _++_, map};
+ghost use Prim.Native.Nat.{_+_, _≤_, _<_};
+ghost use lib.ListN.{length, take};
+ghost use Rattle.machine.specs.Sizes.{stateSize, keyCount, sessionCount, rowCount};
+ghost use Rattle.machine.specs.Tables.{any, mem};
+ghost use Rattle.machine.specs.Session.{isDue};
+ghost use Rattle.machine.specs.State.{State, numbered, stagedIn, sessionAt, rowAt};
+ghost use Rattle.machine.specs.Expiry.{withKeys, withSessions, lapsedLease, those, leave, finish, expire};
+ghost use Rattle.machine.specs.Effects.{toCache};
+ghost use Rattle.machine.specs.Sound.{sound};
+ghost use Rattle.layout.specs.Holds.{Holds};
+ghost use Rattle.sweep.specs.Ends.{settles, endRow, endRows};
+ghost use Rattle.sweep.specs.Lapsing.{lapsedOn, dueSlot, lapsing, lapseKey, freeDue, noted, endDue};
+
+// What becomes of the value of a row's key when the row's session ends: it stays, it is dropped, or what is staged is cached.
+pub enum Ending {
+    Leaves,
+    Lapses,
+    Caches,
+}
+
+// Whether n is one of the numbers.
+fn among(ns: &[u32], n: u32) -> bool
+    ensures { λ r. ⌜ r ≡ mem n (now (ns .entry)) ⌝ }
+{
+    let count = ns.len();
+    for j in 0..count {
+        if ns[j] == n {
+            return true;
+        }
+    }
+    false
+}
+
+// The value of key k as row i ends.
+fn settle(s: &mut [u8], k: usize, i: usize, ending: Ending)
+    requires { ⌜ (length (now s) ≡ stateSize) × ((k < keyCount) × (i < rowCount)) ⌝ }
+    ensures { λ _. ⌜ ((σ : State) → Holds (now (s .entry)) σ → Holds (now (s .exit)) (withKeys σ (settles ending k (stagedIn (rowAt σ i)) (σ .keys)))) ⌝ }
+{
+    match ending {
+        Ending::Leaves => {}
+        Ending::Lapses => {
+            records::drop_value(s, k);
+        }
+        Ending::Caches => {
+            records::cache_staged(s, k, i);
+        }
+    }
+}
+
+// Row i ends if it is of one of the sessions ns, each found by its number.
+fn end_row(s: &mut [u8], i: usize, ns: &[u32], ending: Ending)
+    requires { ⌜ (length (now s) ≡ stateSize) × (i < rowCount) ⌝ }
+    ensures { λ _. ⌜ ((σ : State) → Holds (now (s .entry)) σ → Holds (now (s .exit)) (endRow ending (now (ns .entry)) i σ)) ⌝ }
+{
+    let n = rows::session(s, i);
+    if n == 0 {
+        return;
+    }
+    if !among(ns, n) {
+        return;
+    }
+    let k = rows::key(s, i);
+    settle(s, k, i, ending);
+    records::free_row(s, i);
+}
+
+fn end_rows(s: &mut [u8], ns: &[u32], ending: Ending)
+    requires { ⌜ length (now s) ≡ stateSize ⌝ }
+    ensures { λ _. ⌜ ((σ : State) → Holds (now (s .entry)) σ → Holds (now (s .exit)) (endRows ending (now (ns .entry)) σ)) ⌝ }
+{
+    for i in 0..layout::ROW_COUNT {
+        end_row(s, i, ns, ending);
+    }
+}
+
+// The session of number n, which stands at this place, ends with its rows. The cached values stay.
+pub fn leave(s: &mut [u8], n: u32, place: usize)
+    requires { ⌜ (length (now s) ≡ stateSize) × (place < sessionCount) ⌝ }
+    ensures { λ _. ⌜ ((σ : State) → Holds (now (s .entry)) σ → sound σ ≡ true → numbered n (sessionAt σ place) ≡ true → Holds (now (s .exit)) (leave (n ∷ []) σ)) ⌝ }
+{
+    let ns = [n; 1];
+    end_rows(s, &ns, Ending::Leaves);
+    sessions::free(s, place);
+}
+
+// It ends and what its rows have staged is cached.
+pub fn finish(s: &mut [u8], n: u32, place: usize)
+    requires { ⌜ (length (now s) ≡ stateSize) × (place < sessionCount) ⌝ }
+    ensures { λ _. ⌜ ((σ : State) → Holds (now (s .entry)) σ → sound σ ≡ true → numbered n (sessionAt σ place) ≡ true → Holds (now (s .exit)) (finish (n ∷ []) toCache σ)) ⌝ }
+{
+    let ns = [n; 1];
+    end_rows(s, &ns, Ending::Caches);
+    sessions::free(s, place);
+}
+
+// Whether some I lease has lapsed.
+fn leases_lapse(s: &[u8], time: u64) -> bool
+    requires { ⌜ length (now s) ≡ stateSize ⌝ }
+    ensures { λ r. ⌜ ((σ : State) → Holds (now (s .entry)) σ → r ≡ any (lapsedOn time) (σ .keys)) ⌝ }
+{
+    for k in 0..layout::KEY_COUNT {
+        if records::lease_lapsed(s, k, time) {
+            return true;
+        }
+    }
+    false
+}
+
+// Whether some session is due.
+fn sessions_lapse(s: &[u8], time: u64) -> bool
+    requires { ⌜ length (now s) ≡ stateSize ⌝ }
+    ensures { λ r. ⌜ ((σ : State) → Holds (now (s .entry)) σ → r ≡ any (dueSlot time) (σ .sessions)) ⌝ }
+{
+    for i in 0..layout::SESSION_COUNT {
+        if records::session_due(s, i, time) {
+            return true;
+        }
+    }
+    false
+}
+
+// Whether expiry would change anything.
+pub fn lapses(s: &[u8], time: u64) -> bool
+    requires { ⌜ length (now s) ≡ stateSize ⌝ }
+    ensures { λ r. ⌜ ((σ : State) → Holds (now (s .entry)) σ → r ≡ lapsing time σ) ⌝ }
+{
+    if leases_lapse(s, time) {
+        return true;
+    }
+    sessions_lapse(s, time)
+}
+
+fn lapse_key(s: &mut [u8], k: usize, time: u64)
+    requires { ⌜ (length (now s) ≡ stateSize) × (k < keyCount) ⌝ }
+    ensures { λ _. ⌜ ((σ : State) → Holds (now (s .entry)) σ → Holds (now (s .exit)) (lapseKey time k σ)) ⌝ }
+{
+    if records::lease_lapsed(s, k, time) {
+        records::drop_lease(s, k);
+    }
+}
+
+// Every I lease with its deadline at or before time is removed.
+fn lapse_leases(s: &mut [u8], time: u64)
+    requires { ⌜ length (now s) ≡ stateSize ⌝ }
+    ensures { λ _. ⌜ ((σ : State) → Holds (now (s .entry)) σ → Holds (now (s .exit)) (withKeys σ (map (lapsedLease time) (σ .keys)))) ⌝ }
+{
+    for k in 0..layout::KEY_COUNT {
+        lapse_key(s, k, time);
+    }
+}
+
+// The session at place i ends if it is due, and its number is noted behind the `count` that are.
+fn end_due(s: &mut [u8], i: usize, time: u64, ns: &mut [u32], count: usize) -> usize
+    requires { ⌜ (length (now s) ≡ stateSize) × ((length (now ns) ≡ sessionCount) × ((i < sessionCount) × (count ≤ i))) ⌝ }
+    ensures { λ r. ⌜ (r ≤ i + 1) × ((σ : State) → Holds (now (s .entry)) σ → Holds (now (s .exit)) (endDue time i σ) × (take r (now (ns .exit)) ≡ take count (now (ns .entry)) ++ noted time (sessionAt σ i))) ⌝ }
+{
+    if !records::session_due(s, i, time) {
+        return count;
+    }
+    ns[count] = sessions::number(s, i);
+    sessions::free(s, i);
+    count + 1
+}
+
+// Every open session with its deadline at or before time ends, all but its rows. Returns how many; their numbers are noted.
+fn end_sessions(s: &mut [u8], time: u64, ns: &mut [u32]) -> usize
+    requires { ⌜ (length (now s) ≡ stateSize) × (length (now ns) ≡ sessionCount) ⌝ }
+    ensures { λ r. ⌜ (r ≤ sessionCount) × ((σ : State) → Holds (now (s .entry)) σ → Holds (now (s .exit)) (withSessions σ (map (freeDue time) (σ .sessions))) × (take r (now (ns .exit)) ≡ those (isDue time) (σ .sessions))) ⌝ }
+{
+    let mut count = 0;
+    for i in 0..layout::SESSION_COUNT {
+        count = end_due(s, i, time, ns, count);
+    }
+    count
+}
+
+// Expiry, one pass over each table: the leases, the sessions, and then the rows of the sessions that ended.
+pub fn sweep(s: &mut [u8], time: u64)
+    requires { ⌜ length (now s) ≡ stateSize ⌝ }
+    ensures { λ _. ⌜ ((σ : State) → Holds (now (s .entry)) σ → sound σ ≡ true → Holds (now (s .exit)) (expire time σ)) ⌝ }
+{
+    lapse_leases(s, time);
+    let mut ns: [u32; 128] = [0; 128];
+    let count = end_sessions(s, time, &mut ns);
+    if count == 0 {
+        return;
+    }
+    end_rows(s, &ns[..count], Ending::Lapses);
+}

@@ -1,0 +1,201 @@
+-- What BEGIN, VALIDATE, DONE and UNDO come to, case by case: the session that the search found is the one that the definitions look up, and
+-- its life and count decide each test.
+use mathlib.Core.Path.{_≡_, refl, sym, ap, _∙_, subst}
+use mathlib.Core.Bool.{Bool, true, false, not}
+use mathlib.Core.List.{List, [], _∷_}
+use Prim.Native.Nat.{ℕ, suc, _+_, _≤_, _<_}
+use native.Mathlib.Numerals.{add-one}
+use native.Mathlib.Omega.{arith}
+use lib.Dec.{eqb, leb, ltb}
+use lib.ListN.{length, set}
+use borrow.Author.Tests.{eqb-true, eq-eqb, ne-eqb, le-leb, lt-leb, lt-ltb, le-ltb}
+use Rattle.machine.specs.Sizes.{sessionCount, stepMax, numberMax}
+use Rattle.machine.specs.Tables.{place}
+use Rattle.machine.specs.Session.{opened, sealed, isSealed, validationOf}
+use Rattle.machine.specs.State.{Slot, noSession, session, State, free, numbered, sessionPlace, sessionOf, sessionAt}
+use Rattle.machine.specs.Sound.{numberIn, sound}
+use Rattle.machine.specs.Expiry.{withSessions, withNumbers, leave, finish}
+use Rattle.machine.specs.Refusals.{sessionsFull, refusals}
+use Rattle.machine.specs.Effects.{Outcome, told, begins, withSession, toCache, effect}
+use Rattle.machine.specs.declared.Session.{Session}
+use Rattle.machine.specs.declared.Validation.{Validation}
+use Rattle.machine.specs.declared.Answer.{Answer}
+use Rattle.machine.specs.declared.Command.the-variants.{Begin, Validate, Done, Undo}
+use Rattle.machine.proofs.Views.{clash}
+use Rattle.machine.proofs.SoundFacts as facts
+use Rattle.lent.specs.Tables.{if_then_else_}
+use Rattle.layout.specs.Fields.{sessionIn}
+use Rattle.layout.specs.Holds.{Holds}
+use Rattle.layout.specs.Search.{found}
+use Rattle.layout.specs.declared.Found.{Found}
+use Rattle.layout.proofs.Search.{found-at, found-nothing, found-full, found-room, nothing-entry, place-passes}
+use Rattle.outcome.specs.Outcome.{tried, Gives}
+
+-- an outcome told, held by the bytes
+pub gives : {o : Outcome} {b : List ℕ} (a : Answer) (t : State) → o ≡ told a t → Holds b t → Gives o a b
+gives a t e h = rw e (record { answer = refl; holds = h })
+
+-- ---- the session that was found
+
+pub record Located (s : State) (n i : ℕ) : Type 0 where
+  pub live : Session
+  pub is : sessionAt s i ≡ session live
+  pub number : live .number ≡ n
+  pub of : sessionOf s n ≡ session live
+
+pub located : (s : State) (n i : ℕ) → sound s ≡ true → sessionPlace s n ≡ i → i < sessionCount → Located s n i
+located s n i ok p l = go (sessionAt s i) refl (rw (← p) (place-passes (numbered n) noSession (s .sessions) (rw (facts.sessions-length s ok, p) l)))
+  where
+    go : (e : Slot) → sessionAt s i ≡ e → numbered n (sessionAt s i) ≡ true → Located s n i
+    go noSession q h = clash false (rw q at h) refl
+    go (session x) q h = record { live = x; is = q; number = eqb-true (x .number) n (rw q at h); of = ap (sessionAt s) p ∙ q }
+
+pub unlocated : (s : State) (n : ℕ) → sound s ≡ true → found sessionCount (sessionPlace s n) ≡ Found.Nothing → sessionOf s n ≡ noSession
+unlocated s n ok e = nothing-entry (numbered n) noSession (s .sessions) sessionCount (facts.sessions-length s ok) e
+
+module _ (s : State) (n : ℕ) where
+  -- ---- no session
+  pub undo-none : sessionOf s n ≡ noSession → tried s 0 (Undo n) [] ≡ told (Answer.Refused 5) s
+  unfolding tried refusals
+  undo-none e = rw e
+
+  pub done-none : sessionOf s n ≡ noSession → tried s 0 (Done n) [] ≡ told (Answer.Refused 5) s
+  unfolding tried refusals
+  done-none e = rw e
+
+  module _ (m : ℕ) where
+    pub validate-far : stepMax < m → tried s 0 (Validate n m) [] ≡ told (Answer.Refused 3) s
+    unfolding tried refusals
+    validate-far h = rw (lt-ltb stepMax m h)
+
+    pub validate-none : m ≤ stepMax → sessionOf s n ≡ noSession → tried s 0 (Validate n m) [] ≡ told (Answer.Refused 5) s
+    unfolding tried refusals
+    validate-none h e = rw (le-ltb stepMax m h, e)
+
+  -- ---- the session x
+  module _ (x : Session) (e : sessionOf s n ≡ session x) where
+    pub undo-is : tried s 0 (Undo n) [] ≡ told Answer.Undone (leave (n ∷ []) s)
+    unfolding tried refusals effect
+    undo-is = rw e
+
+    pub done-open : isSealed x ≡ false → tried s 0 (Done n) [] ≡ told (Answer.Refused 7) s
+    unfolding tried refusals effect
+    done-open q = rw (e, q)
+
+    pub done-is : isSealed x ≡ true → tried s 0 (Done n) [] ≡ told Answer.Done (finish (n ∷ []) toCache s)
+    unfolding tried refusals effect
+    done-is q = rw (e, q)
+
+    module _ (m : ℕ) (h : m ≤ stepMax) where
+      pub validate-seals : eqb m (x .count) ≡ true → tried s 0 (Validate n m) [] ≡ told Answer.Validated (withSessions s (set (s .sessions) (sessionPlace s n) (session (sealed x))))
+      unfolding tried refusals effect
+      validate-seals q = go (isSealed x) refl
+        where
+          go : (t : Bool) → isSealed x ≡ t → tried s 0 (Validate n m) [] ≡ told Answer.Validated (withSessions s (set (s .sessions) (sessionPlace s n) (session (sealed x))))
+          go true p = rw (le-ltb stepMax m h, e, p, q)
+          go false p = rw (le-ltb stepMax m h, e, p, q)
+
+      pub validate-loses : eqb m (x .count) ≡ false → isSealed x ≡ false → tried s 0 (Validate n m) [] ≡ told Answer.Lost (leave (n ∷ []) s)
+      unfolding tried refusals effect
+      validate-loses q p = rw (le-ltb stepMax m h, e, p, q)
+
+      pub validate-clashes : eqb m (x .count) ≡ false → isSealed x ≡ true → tried s 0 (Validate n m) [] ≡ told (Answer.Refused 6) s
+      unfolding tried refusals effect
+      validate-clashes q p = rw (le-ltb stepMax m h, e, p, q)
+
+-- ---- the session that was found, as the code has it
+
+pub number-in : (e : Slot) → sessionIn e .number ≡ numberIn e
+number-in noSession = refl
+number-in (session x) = refl
+
+module _ (s : State) (ok : sound s ≡ true) (n i : ℕ) (w : Located s n i) where
+  -- its number
+  pub number-is : (m : ℕ) → m ≡ numberIn (sessionAt s i) → m ≡ n
+  number-is m e = e ∙ ap numberIn (w .is) ∙ w .number
+
+  pub number-here : (m : ℕ) → m ≡ numberIn (sessionAt s i) → numbered m (sessionAt s i) ≡ true
+  number-here m e = rw (w .is) (eq-eqb (w .live .number) m (w .number ∙ sym (number-is m e)))
+
+  -- its record
+  pub live-is : (x : Session) → x ≡ sessionIn (sessionAt s i) → x ≡ w .live
+  live-is x e = e ∙ ap sessionIn (w .is)
+
+  pub live-number : 0 < w .live .number
+  live-number = facts.session-number s ok i (w .is) .0
+
+  pub live-count : w .live .count < 65536
+  live-count = let h = facts.session-count s ok i (w .is) in omega arith
+
+  -- sealed, where the code wrote it
+  pub sealed-held : {b : List ℕ} (y : Session) → y ≡ sealed (w .live) → sessionPlace s n ≡ i → Holds b (withSessions s (set (s .sessions) i (session y)))
+      → Holds b (withSessions s (set (s .sessions) (sessionPlace s n) (session (sealed (w .live)))))
+  sealed-held y e p q = rw (p, ← e) q
+
+  -- ended, by the number that the code has
+  pub left-is : (m : ℕ) → m ≡ numberIn (sessionAt s i) → leave (m ∷ []) s ≡ leave (n ∷ []) s
+  left-is m e = ap (λ (k : ℕ). leave (k ∷ []) s) (number-is m e)
+
+  pub finished-is : (m : ℕ) → m ≡ numberIn (sessionAt s i) → finish (m ∷ []) toCache s ≡ finish (n ∷ []) toCache s
+  finished-is m e = ap (λ (k : ℕ). finish (k ∷ []) toCache s) (number-is m e)
+
+-- what VALIDATE found of a record
+module _ (x : Session) (m : ℕ) where
+  pub told-seals : (y : Session) → validationOf x m ≡ Validation.Seals y → (eqb m (x .count) ≡ true) × (y ≡ sealed x)
+  told-seals y e = go (eqb m (x .count)) (isSealed x) e
+    where
+      go : (t u : Bool) → (if t then Validation.Seals (sealed x) else if u then Validation.Clashes else Validation.Loses) ≡ Validation.Seals y → (t ≡ true) × (y ≡ sealed x)
+      go true u f = (refl, cc)
+      go false true f = absurd (let z : _≡_ {A = ℕ} 0 1 = cc in omega arith)
+      go false false f = absurd (let z : _≡_ {A = ℕ} 0 1 = cc in omega arith)
+
+  pub told-loses : validationOf x m ≡ Validation.Loses → (eqb m (x .count) ≡ false) × (isSealed x ≡ false)
+  told-loses e = go (eqb m (x .count)) (isSealed x) e
+    where
+      go : (t u : Bool) → (if t then Validation.Seals (sealed x) else if u then Validation.Clashes else Validation.Loses) ≡ Validation.Loses → (t ≡ false) × (u ≡ false)
+      go true u f = absurd (let z : _≡_ {A = ℕ} 0 1 = cc in omega arith)
+      go false true f = absurd (let z : _≡_ {A = ℕ} 0 1 = cc in omega arith)
+      go false false f = (refl, refl)
+
+  pub told-clashes : validationOf x m ≡ Validation.Clashes → (eqb m (x .count) ≡ false) × (isSealed x ≡ true)
+  told-clashes e = go (eqb m (x .count)) (isSealed x) e
+    where
+      go : (t u : Bool) → (if t then Validation.Seals (sealed x) else if u then Validation.Clashes else Validation.Loses) ≡ Validation.Clashes → (t ≡ false) × (u ≡ true)
+      go true u f = absurd (let z : _≡_ {A = ℕ} 0 1 = cc in omega arith)
+      go false true f = (refl, refl)
+      go false false f = absurd (let z : _≡_ {A = ℕ} 0 1 = cc in omega arith)
+
+-- ---- BEGIN
+
+module _ (s : State) (ok : sound s ≡ true) (now : ℕ) where
+  pub begin-full : found sessionCount (place free (s .sessions)) ≡ Found.Nothing → tried s now Begin [] ≡ told (Answer.Refused 11) s
+  unfolding tried refusals
+  begin-full e = rw (found-full free noSession (s .sessions) sessionCount (facts.sessions-length s ok) e)
+
+  module _ (i : ℕ) (l : i < sessionCount) (p : place free (s .sessions) ≡ i) where
+    room : sessionsFull s ≡ false
+    room = found-room free noSession (s .sessions) sessionCount i (facts.sessions-length s ok) (rw (p, lt-ltb i sessionCount l))
+
+    pub begin-spent : (n : ℕ) → n ≡ s .head .nextSession → numberMax ≤ n → tried s now Begin [] ≡ told (Answer.Refused 13) s
+    unfolding tried refusals
+    begin-spent n e h = rw (room, ← e, le-leb numberMax n h)
+
+    begin-opens : s .head .nextSession < numberMax
+        → tried s now Begin [] ≡ told (Answer.Session (s .head .nextSession))
+        (withNumbers (withSessions s (set (s .sessions) i (session (opened (s .head .nextSession) (now + s .head .writeLife))))) (suc (s .head .nextSession)) (s .head .nextToken))
+    unfolding tried refusals effect begins
+    begin-opens h = rw (room, lt-leb numberMax (s .head .nextSession) h, p)
+
+    -- as the code has it
+    pub begin-gives : (b : List ℕ) (n life : ℕ) (x : Session) → n ≡ s .head .nextSession → life ≡ s .head .writeLife → n < numberMax → x ≡ opened n (now + life)
+        → Holds b (withNumbers (withSessions s (set (s .sessions) i (session x))) (n + 1) (s .head .nextToken)) → Gives (tried s now Begin []) (Answer.Session n) b
+    begin-gives b n life x e f h g q =
+        let opens = begin-opens (rw (← e) h) in
+        let gx : x ≡ opened (s .head .nextSession) (now + s .head .writeLife) = g ∙ ap (λ (m : ℕ). opened m (now + life)) e ∙ ap (λ (t : ℕ). opened (s .head .nextSession) (now + t)) f in
+        let gn : n + 1 ≡ suc (s .head .nextSession) = add-one n ∙ ap suc e in
+        record {
+          answer = ap Answer.Session e ∙ sym (ap (λ (o : Outcome). o .answer) opens);
+          holds = rw opens (subst (Holds b)
+              (ap (λ (y : Session). withNumbers (withSessions s (set (s .sessions) i (session y))) (n + 1) (s .head .nextToken)) gx
+              ∙ ap (λ (m : ℕ). withNumbers (withSessions s (set (s .sessions) i (session (opened (s .head .nextSession) (now + s .head .writeLife))))) m (s .head .nextToken)) gn) q);
+        }

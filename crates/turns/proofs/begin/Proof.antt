@@ -1,0 +1,48 @@
+-- What the search found decides the case; the case is a law of `Cases`.
+use mathlib.Core.Path.{_≡_, sym, ap, _∙_}
+use Rattle.machine.specs.Sizes.{sessionCount}
+use Rattle.machine.specs.Tables.{place}
+use Rattle.machine.specs.State.{free}
+use Rattle.machine.specs.declared.Answer.{Answer}
+use Rattle.layout.proofs.Search.{found-at}
+use Rattle.turns.proofs.Cases.{gives, begin-full}
+use borrow.Author.Needs.{needs}
+use Rattle.turns.proofs.begin.Statement.{statement}
+use Rattle.turns.proofs.begin.Tie as tie
+
+free-place-requires : tie.Need-free-place-requires
+free-place-requires c κs = search needs
+
+enum-known-f : tie.Need-enum-known-f
+enum-known-f c = search needs
+
+open-requires : tie.Need-open-requires
+open-requires c κs = (search needs, (rw (c .before .before .f .given .1) at (c .before .before .before .before .free-place .ensures .1), search needs))
+
+enum-told : tie.Need-enum-told
+enum-told c = search needs
+
+same-length : tie.Need-same-length
+same-length c = search needs
+
+returns : tie.Need-returns
+returns c = λ σ h ok. c .before .before .«open» .ensures σ h ok (found-at sessionCount (place free (σ .sessions)) (c .before .before .before .before .before .f .given .0 .0) (sym (c .before .before .before .before .before .before .before .free-place .ensures .0 σ h) ∙ c .before .before .before .before .before .f .given .1) .0)
+
+same-length-2 : tie.Need-same-length-2
+same-length-2 c = search needs
+
+returns-2 : tie.Need-returns-2
+returns-2 c = λ σ h ok. gives (Answer.Refused 11) σ (begin-full σ ok (c .before .before .before .before .before .args .time) (sym (c .before .before .free-place .ensures .0 σ h) ∙ c .enum-told .given .1)) h
+
+pub begin-spec : {M : Type 1} → statement M
+begin-spec =
+    tie.close
+    (tie.spec
+    free-place-requires
+    enum-known-f
+    open-requires
+    enum-told
+    same-length
+    returns
+    same-length-2
+    returns-2)

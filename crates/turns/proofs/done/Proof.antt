@@ -1,0 +1,47 @@
+-- What the search found decides the case; the case is a law of `Cases`.
+use mathlib.Core.Path.{_≡_, sym, ap, _∙_}
+use Rattle.machine.specs.Sizes.{sessionCount}
+use Rattle.machine.specs.State.{sessionPlace}
+use Rattle.machine.specs.declared.Answer.{Answer}
+use Rattle.layout.proofs.Search.{found-at}
+use Rattle.turns.proofs.Cases.{gives, unlocated, done-none}
+use borrow.Author.Needs.{needs}
+use Rattle.turns.proofs.done.Statement.{statement}
+use Rattle.turns.proofs.done.Tie as tie
+
+find-requires : tie.Need-find-requires
+find-requires c κs = search needs
+
+enum-known-f : tie.Need-enum-known-f
+enum-known-f c = search needs
+
+done-at-requires : tie.Need-done-at-requires
+done-at-requires c κs = (search needs, rw (c .before .before .f .given .1) at (c .before .before .before .before .find .ensures .1))
+
+enum-told : tie.Need-enum-told
+enum-told c = search needs
+
+same-length : tie.Need-same-length
+same-length c = search needs
+
+returns : tie.Need-returns
+returns c = λ σ h ok. c .before .before .done-at .ensures σ h ok (found-at sessionCount (sessionPlace σ (c .before .before .before .before .before .before .before .before .before .before .args .session)) (c .before .before .before .before .before .f .given .0 .0) (sym (c .before .before .before .before .before .before .before .find .ensures .0 σ h) ∙ c .before .before .before .before .before .f .given .1) .0)
+
+same-length-2 : tie.Need-same-length-2
+same-length-2 c = search needs
+
+returns-2 : tie.Need-returns-2
+returns-2 c = λ σ h ok. gives (Answer.Refused 5) σ (done-none σ (c .before .before .before .before .before .args .session) (unlocated σ (c .before .before .before .before .before .args .session) ok (sym (c .before .before .find .ensures .0 σ h) ∙ c .enum-told .given .1))) h
+
+pub done-spec : {M : Type 1} → statement M
+done-spec =
+    tie.close
+    (tie.spec
+    find-requires
+    enum-known-f
+    done-at-requires
+    enum-told
+    same-length
+    returns
+    same-length-2
+    returns-2)

@@ -1,0 +1,63 @@
+-- What the search found decides the case; the case is a law of `Cases`.
+use native.Mathlib.Omega.{arith}
+use Rattle.machine.proofs.SoundFacts as facts
+use mathlib.Core.Path.{_≡_, sym, ap, _∙_}
+use Rattle.machine.specs.declared.Answer.{Answer}
+use Rattle.machine.specs.State.{session}
+use Rattle.machine.specs.Expiry.{withSessions}
+use lib.ListN.{set}
+use Rattle.turns.proofs.Cases.{gives, begin-spent, begin-gives}
+use borrow.Author.Needs.{needs}
+use Rattle.turns.proofs.open.Statement.{statement}
+use Rattle.turns.proofs.open.Tie as tie
+
+next-session-requires : tie.Need-next-session-requires
+next-session-requires c κs = search needs
+
+same-length : tie.Need-same-length
+same-length c = search needs
+
+returns : tie.Need-returns
+returns c = λ σ h ok p. gives (Answer.Refused 13) σ (begin-spent σ ok (c .before .before .before .before .args .time) (c .before .before .before .before .args .i) (search needs) p (c .before .next-session .result) (c .before .next-session .ensures σ h) (search needs)) h
+
+write-life-requires : tie.Need-write-life-requires
+write-life-requires c κs = search needs
+
+add-until : tie.Need-add-until
+add-until c = search needs
+
+open-requires : tie.Need-open-requires
+open-requires c κs = search needs
+
+store-requires : tie.Need-store-requires
+store-requires c κs = search needs
+
+add-store-next-session : tie.Need-add-store-next-session
+add-store-next-session c = search needs
+
+store-next-session-requires : tie.Need-store-next-session-requires
+store-next-session-requires c κs = search needs
+
+same-length-2 : tie.Need-same-length-2
+same-length-2 c = search needs
+
+returns-2 : tie.Need-returns-2
+returns-2 c = λ σ h ok p.
+    begin-gives σ ok (c .before .before .before .before .before .before .before .before .before .before .before .before .before .before .before .args .time) (c .before .before .before .before .before .before .before .before .before .before .before .before .before .before .before .args .i) (search needs) p _ (c .before .before .before .before .before .before .before .before .before .before .before .before .next-session .result) (c .before .before .before .before .before .before .before .before .before .write-life .result) (c .before .before .before .before .before .before .before .«open» .result) (c .before .before .before .before .before .before .before .before .before .before .before .before .next-session .ensures σ h) (c .before .before .before .before .before .before .before .before .before .write-life .ensures .0 σ h) (search needs) (c .before .before .before .before .before .before .before .«open» .ensures)
+    (c .before .before .store-next-session .ensures (withSessions σ (set (σ .sessions) (c .before .before .before .before .before .before .before .before .before .before .before .before .before .before .before .args .i) (session (c .before .before .before .before .before .before .before .«open» .result)))) (c .before .before .before .before .before .before .store .ensures σ h (rw (c .before .before .before .before .before .before .before .«open» .ensures) (rw (c .before .before .before .before .before .before .before .before .before .before .before .before .next-session .ensures σ h) (facts.next-session σ ok .0))) (rw (c .before .before .before .before .before .before .before .«open» .ensures) (omega arith))))
+
+pub open-spec : {M : Type 1} → statement M
+open-spec =
+    tie.close
+    (tie.spec
+    next-session-requires
+    same-length
+    returns
+    write-life-requires
+    add-until
+    open-requires
+    store-requires
+    add-store-next-session
+    store-next-session-requires
+    same-length-2
+    returns-2)

@@ -1,0 +1,51 @@
+-- What the search found decides the case; the case is a law of `Cases`.
+use mathlib.Core.Path.{_≡_, sym, ap, _∙_}
+use Rattle.machine.specs.Sizes.{sessionCount}
+use Rattle.machine.specs.State.{sessionPlace}
+use Rattle.machine.specs.declared.Answer.{Answer}
+use Rattle.layout.proofs.Search.{found-at}
+use Rattle.turns.proofs.Cases.{gives, unlocated, validate-none, validate-far}
+use borrow.Author.Needs.{needs}
+use Rattle.turns.proofs.validate.Statement.{statement}
+use Rattle.turns.proofs.validate.Tie as tie
+
+returns : tie.Need-returns
+returns c = λ σ h ok. gives (Answer.Refused 3) σ (validate-far σ (c .before .before .args .session) (c .before .before .args .n) (search needs)) h
+
+find-requires : tie.Need-find-requires
+find-requires c κs = search needs
+
+enum-known-f : tie.Need-enum-known-f
+enum-known-f c = search needs
+
+validate-at-requires : tie.Need-validate-at-requires
+validate-at-requires c κs = (search needs, (rw (c .before .before .f .given .1) at (c .before .before .before .before .find .ensures .1), search needs))
+
+enum-told : tie.Need-enum-told
+enum-told c = search needs
+
+same-length : tie.Need-same-length
+same-length c = search needs
+
+returns-2 : tie.Need-returns-2
+returns-2 c = λ σ h ok. c .before .before .validate-at .ensures σ h ok (found-at sessionCount (sessionPlace σ (c .before .before .before .before .before .before .before .before .before .before .before .args .session)) (c .before .before .before .before .before .f .given .0 .0) (sym (c .before .before .before .before .before .before .before .find .ensures .0 σ h) ∙ c .before .before .before .before .before .f .given .1) .0)
+
+same-length-2 : tie.Need-same-length-2
+same-length-2 c = search needs
+
+returns-3 : tie.Need-returns-3
+returns-3 c = λ σ h ok. gives (Answer.Refused 5) σ (validate-none σ (c .before .before .before .before .before .before .args .session) (c .before .before .before .before .before .before .args .n) (search needs) (unlocated σ (c .before .before .before .before .before .before .args .session) ok (sym (c .before .before .find .ensures .0 σ h) ∙ c .enum-told .given .1))) h
+
+pub validate-spec : {M : Type 1} → statement M
+validate-spec =
+    tie.close
+    (tie.spec
+    returns
+    find-requires
+    enum-known-f
+    validate-at-requires
+    enum-told
+    same-length
+    returns-2
+    same-length-2
+    returns-3)

@@ -1,0 +1,126 @@
+// BEGIN, VALIDATE, DONE and UNDO: how a session opens, is sealed and ends, on a state on which nothing lapses.
+ghost use mathlib.Core.Path.{_≡_};
+ghost use mathlib.Core.Bool.{true};
+ghost use mathlib.Core.List.{[]};
+ghost use Prim.Native.Nat.{_≤_, _<_};
+ghost use lib.ListN.{length};
+ghost use Rattle.machine.specs.Sizes.{stateSize, sessionCount, stepMax, timeMax};
+ghost use Rattle.machine.specs.Tables.{place};
+ghost use Rattle.machine.specs.State.{State, free, sessionPlace};
+ghost use Rattle.machine.specs.Sound.{sound};
+ghost use Rattle.machine.specs.declared.Command.the-variants.{Begin, Validate, Done, Undo};
+ghost use Rattle.layout.specs.Holds.{Holds};
+ghost use Rattle.outcome.specs.Outcome.{tried, Gives, Does};
+use layout::Found;
+use machine::Answer;
+use machine::Session;
+use machine::Validation;
+
+// The largest next number.
+const NUMBER_MAX: u32 = 4294967295;
+
+// The most staging steps.
+const STEP_MAX: u64 = 1000;
+
+// A session opens in the lowest free place.
+fn open(s: &mut [u8], time: u64, i: usize) -> Answer
+    requires { ⌜ (length (now s) ≡ stateSize) × ((i < sessionCount) × (time ≤ timeMax)) ⌝ }
+    ensures { λ r. ⌜ ((σ : State) → Holds (now (s .entry)) σ → sound σ ≡ true → place free (σ .sessions) ≡ i → Gives (tried σ time Begin []) r (now (s .exit))) ⌝ }
+{
+    let n = header::next_session(s);
+    if NUMBER_MAX <= n {
+        return Answer::Refused(13);
+    }
+    let until = time + header::write_life(s);
+    sessions::store(s, i, Session::open(n, until));
+    header::store_next_session(s, n + 1);
+    Answer::Session(n)
+}
+
+pub fn begin(s: &mut [u8], time: u64) -> Answer
+    requires { ⌜ (length (now s) ≡ stateSize) × (time ≤ timeMax) ⌝ }
+    ensures { λ r. ⌜ Does (now (s .entry)) (λ σ. tried σ time Begin []) r (now (s .exit)) ⌝ }
+{
+    let f = sessions::free_place(s);
+    match f {
+        Found::At(i) => open(s, time, i),
+        Found::Nothing => Answer::Refused(11),
+    }
+}
+
+// The session at place i, which is the one of the number.
+fn validate_at(s: &mut [u8], session: u64, n: u64, i: usize) -> Answer
+    requires { ⌜ (length (now s) ≡ stateSize) × ((i < sessionCount) × (n ≤ stepMax)) ⌝ }
+    ensures { λ r. ⌜ ((σ : State) → Holds (now (s .entry)) σ → sound σ ≡ true → sessionPlace σ session ≡ i → Gives (tried σ 0 (Validate session n) []) r (now (s .exit))) ⌝ }
+{
+    let x = sessions::load(s, i);
+    let v = x.validate(n);
+    match v {
+        Validation::Seals(y) => {
+            sessions::store(s, i, y);
+            Answer::Validated
+        }
+        Validation::Loses => {
+            sweep::leave(s, x.number, i);
+            Answer::Lost
+        }
+        Validation::Clashes => Answer::Refused(6),
+    }
+}
+
+pub fn validate(s: &mut [u8], session: u64, n: u64) -> Answer
+    requires { ⌜ length (now s) ≡ stateSize ⌝ }
+    ensures { λ r. ⌜ Does (now (s .entry)) (λ σ. tried σ 0 (Validate session n) []) r (now (s .exit)) ⌝ }
+{
+    if STEP_MAX < n {
+        return Answer::Refused(3);
+    }
+    let f = sessions::find(s, session);
+    match f {
+        Found::At(i) => validate_at(s, session, n, i),
+        Found::Nothing => Answer::Refused(5),
+    }
+}
+
+fn done_at(s: &mut [u8], session: u64, i: usize) -> Answer
+    requires { ⌜ (length (now s) ≡ stateSize) × (i < sessionCount) ⌝ }
+    ensures { λ r. ⌜ ((σ : State) → Holds (now (s .entry)) σ → sound σ ≡ true → sessionPlace σ session ≡ i → Gives (tried σ 0 (Done session) []) r (now (s .exit))) ⌝ }
+{
+    let x = sessions::load(s, i);
+    if !x.is_sealed() {
+        return Answer::Refused(7);
+    }
+    sweep::finish(s, x.number, i);
+    Answer::Done
+}
+
+pub fn done(s: &mut [u8], session: u64) -> Answer
+    requires { ⌜ length (now s) ≡ stateSize ⌝ }
+    ensures { λ r. ⌜ Does (now (s .entry)) (λ σ. tried σ 0 (Done session) []) r (now (s .exit)) ⌝ }
+{
+    let f = sessions::find(s, session);
+    match f {
+        Found::At(i) => done_at(s, session, i),
+        Found::Nothing => Answer::Refused(5),
+    }
+}
+
+fn undo_at(s: &mut [u8], session: u64, i: usize) -> Answer
+    requires { ⌜ (length (now s) ≡ stateSize) × (i < sessionCount) ⌝ }
+    ensures { λ r. ⌜ ((σ : State) → Holds (now (s .entry)) σ → sound σ ≡ true → sessionPlace σ session ≡ i → Gives (tried σ 0 (Undo session) []) r (now (s .exit))) ⌝ }
+{
+    let n = sessions::number(s, i);
+    sweep::leave(s, n, i);
+    Answer::Undone
+}
+
+pub fn undo(s: &mut [u8], session: u64) -> Answer
+    requires { ⌜ length (now s) ≡ stateSize ⌝ }
+    ensures { λ r. ⌜ Does (now (s .entry)) (λ σ. tried σ 0 (Undo session) []) r (now (s .exit)) ⌝ }
+{
+    let f = sessions::find(s, session);
+    match f {
+        Found::At(i) => undo_at(s, session, i),
+        Found::Nothing => Answer::Refused(5),
+    }
+}
