@@ -7,7 +7,7 @@ ghost use Rattle.machine.specs.Sizes.{stateSize, timeMax};
 ghost use Rattle.machine.specs.Step.{step};
 ghost use Rattle.layout.specs.WellFormed.{wellFormed};
 ghost use Rattle.outcome.specs.Outcome.{tried, acted, Does};
-ghost use Rattle.cache.specs.Run.{ran};
+ghost use Rattle.cache.specs.Run.{ran, commandOf, unknown, ranBy};
 use machine::Answer;
 use machine::Command;
 
@@ -92,4 +92,82 @@ pub fn run(state: &mut [u8], time: u64, command: Command, value: &[u8]) -> Answe
         return Answer::Refused(1);
     }
     settle(state, time, command, value)
+}
+
+// A command by its number, or none.
+pub enum Numbered {
+    Is(Command),
+    Unknown,
+}
+
+// The command of a number, its place in the document's list, with its own numbers in their order.
+pub fn command_of(number: u64, a: u64, b: u64, c: u64, d: u64) -> Numbered
+    ensures { λ r. ⌜ r ≡ commandOf number a b c d ⌝ }
+{
+    match number {
+        1 => Numbered::Is(Command::Begin),
+        2 => Numbered::Is(Command::Get { session: a, key: b }),
+        3 => Numbered::Is(Command::Fill { token: a, key: b }),
+        4 => Numbered::Is(Command::Quar {
+            session: a,
+            key: b,
+            kind: c,
+        }),
+        5 => Numbered::Is(Command::Stage {
+            session: a,
+            step: b,
+            key: c,
+        }),
+        6 => Numbered::Is(Command::Delta {
+            session: a,
+            step: b,
+            key: c,
+            operation: d,
+        }),
+        7 => Numbered::Is(Command::Validate {
+            session: a,
+            count: b,
+        }),
+        8 => Numbered::Is(Command::Done { session: a }),
+        9 => Numbered::Is(Command::Undo { session: a }),
+        10 => Numbered::Is(Command::Evict { key: a }),
+        11 => Numbered::Is(Command::Tick),
+        _ => Numbered::Unknown,
+    }
+}
+
+// A number outside the list is refused after STATE and CLOCK.
+fn refuse_unknown(state: &[u8], time: u64) -> Answer
+    ensures { λ r. ⌜ r ≡ unknown (now (state .entry)) time ⌝ }
+{
+    if !state::well_formed(state) {
+        return Answer::Refused(1);
+    }
+    if time < header::clock(state) {
+        return Answer::Refused(2);
+    }
+    if TIME_MAX < time {
+        return Answer::Refused(2);
+    }
+    Answer::Refused(3)
+}
+
+// One command by its number and four numbers of its own, for callers that have no enum.
+pub fn run_numbered(
+    state: &mut [u8],
+    time: u64,
+    number: u64,
+    a: u64,
+    b: u64,
+    c: u64,
+    d: u64,
+    value: &[u8],
+) -> Answer
+    ensures { λ r. ⌜ (r ≡ ranBy (now (state .entry)) time (now (value .entry)) (commandOf number a b c d) .answer) × (now (state .exit) ≡ ranBy (now (state .entry)) time (now (value .entry)) (commandOf number a b c d) .bytes) ⌝ }
+{
+    let numbered = command_of(number, a, b, c, d);
+    match numbered {
+        Numbered::Is(command) => run(state, time, command, value),
+        Numbered::Unknown => refuse_unknown(state, time),
+    }
 }
