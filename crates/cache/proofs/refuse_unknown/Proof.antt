@@ -1,34 +1,37 @@
+-- The tests stand in the order of the definition.
+use mathlib.Core.Path.{_≡_, refl, sym, _∙_, ap}
+use borrow.Author.Tests.{not-true, not-false, lt-ltb, le-ltb}
+use Rattle.layout.specs.Layout.{decode}
+use Rattle.layout.proofs.Formed.{formed, holds-decoded}
+use Rattle.cache.specs.Run.{unknown}
 use borrow.Author.Needs.{needs}
 use Rattle.cache.proofs.refuse_unknown.Statement.{statement}
 use Rattle.cache.proofs.refuse_unknown.Tie as tie
-use Rattle.cache.proofs.refuse_unknown.Reads as reads
-use Rattle.cache.proofs.refuse_unknown.Lts as lts
-use Rattle.header.proofs.clock.Reads as clock-reads
-use Rattle.state.proofs.well_formed.Reads as well-formed-reads
 
--- src/lib.rt:143:9
 well-formed-requires : tie.Need-well-formed-requires
 well-formed-requires c κs = search needs
 
--- src/lib.rt:144:9
 returns : tie.Need-returns
-returns c = ?
+unfolding unknown
+returns c = rw (sym (c .before .well-formed .ensures) ∙ not-true _ (c .if1 .taken))
 
--- src/lib.rt:146:15
 clock-requires : tie.Need-clock-requires
-clock-requires c κs = ?
+clock-requires c κs = formed _ (sym (c .before .well-formed .ensures) ∙ not-false _ (c .if1 .left)) .size
 
--- src/lib.rt:147:9
 returns-2 : tie.Need-returns-2
-returns-2 c = ?
+unfolding unknown
+returns-2 c = let e = sym (c .before .before .before .well-formed .ensures) ∙ not-false _ (c .before .before .if1 .left) in
+    rw (e, ← c .before .clock .ensures (decode (c .before .before .before .before .before .args .state .now)) (holds-decoded (c .before .before .before .before .before .args .state .now) e), lt-ltb _ _ (c .if2 .taken))
 
--- src/lib.rt:150:9
 returns-3 : tie.Need-returns-3
-returns-3 c = ?
+unfolding unknown
+returns-3 c = let e = sym (c .before .before .before .before .well-formed .ensures) ∙ not-false _ (c .before .before .before .if1 .left) in
+    rw (e, ← c .before .before .clock .ensures (decode (c .before .before .before .before .before .before .args .state .now)) (holds-decoded (c .before .before .before .before .before .before .args .state .now) e), le-ltb _ _ (c .before .if2 .left), lt-ltb _ _ (c .if3 .taken))
 
--- src/lib.rt:140:1
 returns-4 : tie.Need-returns-4
-returns-4 c = ?
+unfolding unknown
+returns-4 c = let e = sym (c .before .before .before .before .well-formed .ensures) ∙ not-false _ (c .before .before .before .if1 .left) in
+    rw (e, ← c .before .before .clock .ensures (decode (c .before .before .before .before .before .before .args .state .now)) (holds-decoded (c .before .before .before .before .before .before .args .state .now) e), le-ltb _ _ (c .before .if2 .left), le-ltb _ _ (c .if3 .left))
 
 pub refuse-unknown-spec : {M : Type 1} → statement M
 refuse-unknown-spec =
