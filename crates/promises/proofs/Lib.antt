@@ -1,1 +1,2 @@
 pub mod Ran
+pub mod Follow
