@@ -14,7 +14,7 @@ use Rattle.layout.specs.WellFormed.{wellFormed}
 use Rattle.startup.specs.Start.{Reply, startOf}
 use Rattle.startup.proofs.Sound.{ready-formed, ready-demand-3}
 use Rattle.cache.specs.Run.{ran}
-use Rattle.promises.specs.Bytes.{ByteWorld, worldOf, begunOn, replied, nextBytes, runBytes, AllKeptBytes}
+use Rattle.promises.specs.Bytes.{ByteWorld, worldOf, begunOn, nextBytes, runBytes, AllKeptBytes}
 use Rattle.promises.proofs.Ran.{ran-formed, formed-kept, decode-ran}
 
 -- ---- one event

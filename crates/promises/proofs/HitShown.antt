@@ -1,7 +1,7 @@
 -- After a HIT, SHOW gives the value that it handed out, at the same place: a GET that hits leaves the state after expiry with its clock moved, the tests
 -- that it passed are those of SHOW, and what is in sight does not depend on the clock. Over bytes this is what the next SHOW on the buffer answers.
 use mathlib.Core.Path.{_≡_, refl, sym, ap, _∙_}
-use mathlib.Core.Bool.{Bool, true, false}
+use mathlib.Core.Bool.{true, false}
 use mathlib.Core.Logic.{_⊎_, inl, inr}
 use mathlib.Core.List.{List}
 use mathlib.Core.Option.{Option, none, some}
