@@ -1,0 +1,4 @@
+pub mod Ran
+pub mod Follow
+pub mod OneAnswer
+pub mod HitShown

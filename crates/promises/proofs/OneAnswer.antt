@@ -1,0 +1,41 @@
+-- One answer: each public contract says what is returned, and what the buffer then is, by an equation whose right side is fixed by what the caller
+-- lent. Two returns that satisfy a contract are equal to the same thing, so they are equal.
+use mathlib.Core.Path.{_≡_, sym, _∙_}
+use mathlib.Core.Bool.{Bool}
+use mathlib.Core.List.{List}
+use Prim.Native.Nat.{ℕ}
+use denote.Ref.{RefT}
+use Rattle.machine.specs.State.{Value}
+use Rattle.machine.specs.declared.Answer.{Answer}
+use Rattle.machine.specs.declared.Command.{Command}
+use Rattle.layout.specs.WellFormed.{wellFormed}
+use Rattle.startup.specs.Start.{Reply, startOf}
+use Rattle.gets.specs.Stretch.{Stretch}
+use Rattle.show.specs.Show.{showOf}
+use Rattle.cache.specs.Run.{ran}
+
+pub one-answer : {A : Type 0} (f x y : A) → x ≡ f → y ≡ f → x ≡ y
+one-answer f x y p q = p ∙ sym q
+
+-- an answer and the buffer after it, as a contract gives them
+abbrev pub Given : Reply → Answer → List ℕ → Type 0
+Given f r x = (r ≡ f .answer) × (x ≡ f .bytes)
+
+pub one-reply : (f : Reply) (r t : Answer) (x y : List ℕ) → Given f r x → Given f t y → (r ≡ t) × (x ≡ y)
+one-reply f r t x y p q = (one-answer (f .answer) r t (p .0) (q .0), one-answer (f .bytes) x y (p .1) (q .1))
+
+pub one-run : (b : List ℕ) (time : ℕ) (c : Command) (v : Value) (r t : Answer) (x y : List ℕ) → Given (ran b time c v) r x → Given (ran b time c v) t y → (r ≡ t) × (x ≡ y)
+one-run b time c v = one-reply (ran b time c v)
+
+pub one-start : (b : List ℕ) (readLife writeLife : ℕ) (r t : Answer) (x y : List ℕ) → Given (startOf b readLife writeLife) r x → Given (startOf b readLife writeLife) t y → (r ≡ t) × (x ≡ y)
+one-start b readLife writeLife = one-reply (startOf b readLife writeLife)
+
+pub one-formed : (b : List ℕ) (x y : Bool) → x ≡ wellFormed b → y ≡ wellFormed b → x ≡ y
+one-formed b = one-answer (wellFormed b)
+
+pub one-show : (b : List ℕ) (n k : ℕ) (r t : Answer) → r ≡ showOf b n k .answer → t ≡ showOf b n k .answer → r ≡ t
+one-show b n k = one-answer (showOf b n k .answer)
+
+-- the stretch that SHOW hands back, by its place and its bytes
+pub one-stretch : (s r t : RefT (List ℕ)) (n k : ℕ) → Stretch s r (showOf (s .now) n k) → Stretch s t (showOf (s .now) n k) → (r .ptr ≡ t .ptr) × (r .now ≡ t .now)
+one-stretch s r t n k p q = (one-answer _ (r .ptr) (t .ptr) (p .place) (q .place), one-answer _ (r .now) (t .now) (p .value) (q .value))

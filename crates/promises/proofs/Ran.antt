@@ -1,0 +1,72 @@
+-- Demands 1 and 2 over the lent bytes: on a buffer that is not well formed nothing happens, and a well-formed one is the encoding of a sound
+-- state. A refused command keeps that state, so its encoding is the same bytes; every command leaves a sound state, so its encoding is well formed
+-- and says that state.
+use mathlib.Core.Path.{_≡_, refl, sym, ap, _∙_}
+use mathlib.Core.Bool.{true, false}
+use mathlib.Core.Logic.{_⊎_, inl, inr}
+use mathlib.Core.List.{List}
+use Prim.Native.Nat.{ℕ}
+use lib.Dec.{eqb}
+use lib.ListN.{length}
+use borrow.Author.Tests.{eqb-true, eqb-false}
+use Rattle.lent.specs.Bytes.{Bytes}
+use Rattle.machine.specs.State.{Value}
+use Rattle.machine.specs.Sizes.{stateSize}
+use Rattle.machine.specs.Words.{wordOf}
+use Rattle.machine.specs.Sound.{lifetime, sound}
+use Rattle.machine.specs.Step.{step}
+use Rattle.machine.specs.declared.Answer.{Answer}
+use Rattle.machine.specs.declared.Command.{Command}
+use Rattle.machine.proofs.Views.{caseOf, clash}
+use Rattle.machine.proofs.Refused.{refused-keeps}
+use Rattle.machine.proofs.KeepsSound.{step-sound}
+use Rattle.layout.specs.Layout.{encode, decode}
+use Rattle.layout.specs.WellFormed.{wellFormed}
+use Rattle.layout.proofs.Fitting.{sound-fits}
+use Rattle.layout.proofs.Formed.{formed, sound-formed, holds-encoded, holds-is}
+use Rattle.startup.specs.Start.{Reply, startOf}
+use Rattle.startup.proofs.Started.{started-size, started-read, started-write, started-ready}
+use Rattle.cache.specs.Run.{encoded, ran}
+
+module _ (b : List ℕ) (now : ℕ) (c : Command) (v : Value) where
+  pub ran-formed : wellFormed b ≡ true → ran b now c v ≡ encoded (step (decode b) now c v)
+  unfolding ran
+  ran-formed f = rw f
+
+  pub ran-unformed : wellFormed b ≡ false → ran b now c v ≡ record { answer = Answer.Refused 1; bytes = b }
+  unfolding ran
+  ran-unformed f = rw f
+
+  -- demand 1: a refusal leaves every byte
+  pub refused-bytes : (e : ℕ) → ran b now c v .answer ≡ Answer.Refused e → ran b now c v .bytes ≡ b
+  refused-bytes e p = go (caseOf (wellFormed b))
+    where
+      go : (wellFormed b ≡ true) ⊎ (wellFormed b ≡ false) → ran b now c v .bytes ≡ b
+      go (inl f) =
+          let q : step (decode b) now c v .answer ≡ Answer.Refused e = sym (ap (λ (r : Reply). r .answer) (ran-formed f)) ∙ p in
+          ap (λ (r : Reply). r .bytes) (ran-formed f) ∙ ap encode (refused-keeps (decode b) now c v e q) ∙ sym (formed b f .bytes)
+      go (inr f) = ap (λ (r : Reply). r .bytes) (ran-unformed f)
+
+  -- demand 2: what a command leaves
+  module _ (x : Bytes v) (f : wellFormed b ≡ true) where
+    after-sound : sound (step (decode b) now c v .after) ≡ true
+    after-sound = step-sound (decode b) now c v x (formed b f .sound)
+
+    pub formed-kept : wellFormed (ran b now c v .bytes) ≡ true
+    formed-kept = ap (λ (r : Reply). wellFormed (r .bytes)) (ran-formed f) ∙ sound-formed (step (decode b) now c v .after) after-sound
+
+    pub decode-ran : decode (ran b now c v .bytes) ≡ step (decode b) now c v .after
+    decode-ran = ap (λ (r : Reply). decode (r .bytes)) (ran-formed f) ∙ holds-is (holds-encoded (step (decode b) now c v .after) (sound-fits (step (decode b) now c v .after) after-sound))
+
+-- demand 1 of START
+pub refused-start : (b : List ℕ) (readLife writeLife e : ℕ) → startOf b readLife writeLife .answer ≡ Answer.Refused e → startOf b readLife writeLife .bytes ≡ b
+refused-start b readLife writeLife e p = sized (caseOf (eqb (length b) stateSize))
+  where
+    lives : length b ≡ stateSize → (lifetime readLife ≡ true) ⊎ (lifetime readLife ≡ false) → (lifetime writeLife ≡ true) ⊎ (lifetime writeLife ≡ false) → startOf b readLife writeLife .bytes ≡ b
+    lives l (inl r) (inl w) = clash (eqb (wordOf (startOf b readLife writeLife .answer)) 0) (rw p refl) (rw (started-ready b readLife writeLife l r w) refl)
+    lives l (inl r) (inr w) = ap (λ (x : Reply). x .bytes) (started-write b readLife writeLife l w)
+    lives l (inr r) w = ap (λ (x : Reply). x .bytes) (started-read b readLife writeLife l r)
+
+    sized : (eqb (length b) stateSize ≡ true) ⊎ (eqb (length b) stateSize ≡ false) → startOf b readLife writeLife .bytes ≡ b
+    sized (inl l) = lives (eqb-true (length b) stateSize l) (caseOf (lifetime readLife)) (caseOf (lifetime writeLife))
+    sized (inr l) = ap (λ (x : Reply). x .bytes) (started-size b readLife writeLife (eqb-false (length b) stateSize l))
