@@ -12,7 +12,8 @@ use Rattle.layout.specs.WellFormed.{wellFormed}
 use Rattle.startup.specs.Start.{Reply, startOf}
 use Rattle.gets.specs.Stretch.{Stretch}
 use Rattle.show.specs.Show.{showOf}
-use Rattle.cache.specs.Run.{ran}
+use Rattle.cache.specs.Run.{ran, ranBy}
+use Rattle.cache.specs.declared.Numbered.{Numbered}
 
 pub one-answer : {A : Type 0} (f x y : A) → x ≡ f → y ≡ f → x ≡ y
 one-answer f x y p q = p ∙ sym q
@@ -39,3 +40,6 @@ one-show b n k = one-answer (showOf b n k .answer)
 -- the stretch that SHOW hands back, by its place and its bytes
 pub one-stretch : (s r t : RefT (List ℕ)) (n k : ℕ) → Stretch s r (showOf (s .now) n k) → Stretch s t (showOf (s .now) n k) → (r .ptr ≡ t .ptr) × (r .now ≡ t .now)
 one-stretch s r t n k p q = (one-answer _ (r .ptr) (t .ptr) (p .place) (q .place), one-answer _ (r .now) (t .now) (p .value) (q .value))
+
+pub one-numbered : (b : List ℕ) (time : ℕ) (v : Value) (n : Numbered) (r t : Answer) (x y : List ℕ) → Given (ranBy b time v n) r x → Given (ranBy b time v n) t y → (r ≡ t) × (x ≡ y)
+one-numbered b time v n = one-reply (ranBy b time v n)
