@@ -1,8 +1,9 @@
-//! The proved library beside the second program, from a seed: `compare check [SEED [MORE]]`.
+//! The proved library beside the second program, from a seed: `compare check|run [SEED [MORE]]`.
 
 mod check;
 mod proved;
 mod random;
+mod run;
 mod states;
 
 use std::process::ExitCode;
@@ -16,8 +17,16 @@ fn main() -> ExitCode {
             println!("check: {} buffers, {} well formed, {} differences", tally.cases, tally.formed, tally.differences);
             ExitCode::from(u8::from(tally.differences != 0))
         }
+        Some("run") => {
+            let tally = run::compare(number(1, 1), number(2, 1));
+            println!("run: {} commands, {} differences", tally.commands, tally.differences);
+            for (name, times) in &tally.seen {
+                println!("  {name:<12} {times}");
+            }
+            ExitCode::from(u8::from(tally.differences != 0))
+        }
         _ => {
-            eprintln!("compare check [SEED [MORE]]");
+            eprintln!("compare check|run [SEED [MORE]]");
             ExitCode::from(2)
         }
     }

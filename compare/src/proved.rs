@@ -3,11 +3,44 @@
 mod exported {
     extern "C" {
         pub fn basalekko_well_formed(state: *const u8, length: usize) -> bool;
+        #[allow(clippy::too_many_arguments)]
+        pub fn basalekko_run(
+            state: *mut u8,
+            length: usize,
+            time: u64,
+            number: u64,
+            a: u64,
+            b: u64,
+            c: u64,
+            d: u64,
+            value: *const u8,
+            value_length: usize,
+            told: *mut u64,
+        ) -> u64;
     }
 }
+
+/// The words by number.
+const WORDS: [&str; 24] = [
+    "REFUSED", "READY", "SESSION", "HIT", "ASK", "BACKOFF", "LEASE", "STORED", "IGNORED", "HELD", "GRANTED", "ABORTED", "STAGED",
+    "REPEATED", "DROPPED", "VALIDATED", "LOST", "DONE", "UNDONE", "EVICTED", "EMPTY", "TICKED", "VALUE", "NONE",
+];
 
 /// Whether the buffer holds a well-formed state, as the proved check says.
 pub fn well_formed(state: &[u8]) -> bool {
     // The function reads `length` bytes from `state`, which the slice has, and keeps nothing.
     unsafe { exported::basalekko_well_formed(state.as_ptr(), state.len()) }
+}
+
+/// One command on the buffer: the answer's word, what goes with it, and where a HIT's value stands.
+pub fn run(state: &mut [u8], time: u64, number: u64, numbers: [u64; 4], value: &[u8]) -> (&'static str, u64, u64) {
+    let [a, b, c, d] = numbers;
+    let mut told = [0; 2];
+    // The function reads and writes the slices within their lengths and two numbers in `told`, and keeps nothing.
+    let word = unsafe {
+        exported::basalekko_run(
+            state.as_mut_ptr(), state.len(), time, number, a, b, c, d, value.as_ptr(), value.len(), told.as_mut_ptr(),
+        )
+    };
+    (WORDS[word as usize], told[0], told[1])
 }
