@@ -48,15 +48,38 @@ impl Tally {
         *self.seen.entry(name).or_default() += 1;
     }
 
+    /// A whole session on one key: opened, quarantined, staged with a repeat, read, validated and finished.
+    fn session(&mut self, random: &mut Random, ours: &mut [u8], theirs: &mut [u8], now: u64, near: u64) {
+        let session = u64::from(u32::from_le_bytes(theirs[16..20].try_into().unwrap_or_default()));
+        let (key, kind) = (random.below(near), 2 + random.below(2));
+        self.step(ours, theirs, now, Command::Begin, b"");
+        self.step(ours, theirs, now, Command::Quar { session, key, kind }, b"");
+        for step in [0, 0, 1, 2] {
+            let width = 8 * random.below(4);
+            let value = random.below(1 << width).to_string();
+            let command = match kind {
+                2 => Command::Stage { session, step, key },
+                _ => Command::Delta { session, step, key, operation: 1 + random.below(4) },
+            };
+            self.step(ours, theirs, now, command, value.as_bytes());
+        }
+        self.step(ours, theirs, now, Command::Get { session, key }, b"");
+        self.step(ours, theirs, now, Command::Validate { session, n: 3 }, b"");
+        self.step(ours, theirs, now, Command::Done { session }, b"");
+    }
+
     /// A sequence from one state, its clock moving on by small and by large steps.
     fn sequence(&mut self, random: &mut Random, from: &[u8], commands: u64, near: u64) {
         let (mut ours, mut theirs) = (from.to_vec(), from.to_vec());
         let mut now = u64::from_le_bytes(from[..8].try_into().unwrap_or_default());
         for _ in 0..commands {
             let (command, value) = command(random, &theirs, near);
+            if random.below(40) == 0 {
+                self.session(random, &mut ours, &mut theirs, now, near);
+            }
             let late = random.below(60) == 0;
             self.step(&mut ours, &mut theirs, if late { now.saturating_sub(1) } else { now }, command, &value);
-            now += match random.below(200) {
+            now += match random.below(900) {
                 0 => 1_000,
                 1 => 5_000,
                 2 => 4_999,
@@ -84,7 +107,7 @@ pub fn compare(seed: u64, more: u64) -> Tally {
             3 => last_time(fresh()),
             _ => used(&mut random, 200, near),
         };
-        tally.sequence(&mut random, &from, 2_000, near.max(3) * 4);
+        tally.sequence(&mut random, &from, 2_000, 2 + round % 7);
     }
     let mut damaged = vec![0; STATE_SIZE];
     let mut other = damaged.clone();
