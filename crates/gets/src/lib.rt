@@ -21,6 +21,11 @@ use machine::Answer;
 
 mod waiting;
 
+// The tokens that are given: the number after the last may stand as the next one, and is not given.
+const FIRST_TOKEN: u32 = 1;
+
+const LAST_TOKEN: u32 = 4294967294;
+
 // Where the value stands with which a GET would be answered HIT, and its length.
 pub enum Sight {
     At { at: usize, length: usize },
@@ -110,7 +115,7 @@ fn absent(s: &mut [u8], time: u64, k: usize) -> Answer
     }
     let token = header::next_token(s);
     match token {
-        1..=4294967294 => lease(s, time, k, token),
+        FIRST_TOKEN..=LAST_TOKEN => lease(s, time, k, token),
         _ => Answer::Refused(13),
     }
 }
@@ -137,6 +142,7 @@ fn asked(sight: Sight) -> Answer
     }
 }
 
+// The caller has tested the state and the clock, so the deadline of a lease fits.
 pub fn get(s: &mut [u8], time: u64, session: u64, key: u64) -> Answer
     requires { ⌜ (length (now s) ≡ stateSize) × (time ≤ timeMax) ⌝ }
     ensures { λ r. ⌜ Does (now (s .entry)) (λ σ. tried σ time (Get session key) []) r (now (s .exit)) ⌝ }
