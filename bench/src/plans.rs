@@ -15,12 +15,21 @@ pub struct Plan {
     apart: u64,
 }
 
-pub const PLANS: [Plan; 4] = [
+/// Multiples of this, modulo 2^32, are the numbers that share one slot of the proved check's marks.
+const ONE_SLOT: u64 = 340_573_321;
+
+pub const PLANS: [Plan; 5] = [
     Plan { name: "fresh", sessions: 0, rows: 0, values: 0, leases: 0, apart: 1 },
     Plan { name: "light", sessions: 10, rows: 20, values: 100, leases: 10, apart: 1 },
     Plan { name: "full", sessions: 128, rows: 384, values: 256, leases: 253, apart: 1 },
     Plan { name: "colliding", sessions: 128, rows: 384, values: 256, leases: 253, apart: 1 << 24 },
+    Plan { name: "one-slot", sessions: 128, rows: 384, values: 256, leases: 253, apart: ONE_SLOT },
 ];
+
+/// The number of a place.
+fn spaced(place: u64, apart: u64) -> u64 {
+    (place + 1) * apart % (1 << 32)
+}
 
 /// A well-formed state of the plan; its first keys have the rows, its last the leases.
 pub fn state(plan: &Plan) -> Vec<u8> {
@@ -30,19 +39,19 @@ pub fn state(plan: &Plan) -> Vec<u8> {
         let value = (spread < plan.values)
             .then(|| Value::of(&[b'v'; 64][..(spread * 37 % 65) as usize]).unwrap_or(Value::EMPTY));
         let lease = (key >= KEYS as u64 - plan.leases && key >= held_keys)
-            .then_some(Lease { token: (key + 1) * plan.apart.min(1 << 23), deadline: 900 });
+            .then_some(Lease { token: spaced(key, if plan.apart == 1 << 24 { 1 << 23 } else { plan.apart }), deadline: 900 });
         KeyRecord { value, lease }
     });
     let sessions = (0..SESSIONS as u64).map(|place| {
         (place < plan.sessions).then_some(SessionRecord {
-            number: (place + 1) * plan.apart,
+            number: spaced(place, plan.apart),
             standing: Standing::Open { deadline: 5_000 },
             count: place,
         })
     });
     let rows = (0..ROWS as u64).map(|place| {
         (place < plan.rows).then(|| RowRecord {
-            session: (place % plan.sessions + 1) * plan.apart,
+            session: spaced(place % plan.sessions, plan.apart),
             key: (place % held_keys) as u8,
             kind: if plan.rows > 128 { 1 } else { 2 },
             staged: match plan.rows > 128 {
