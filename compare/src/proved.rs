@@ -3,6 +3,7 @@
 mod exported {
     extern "C" {
         pub fn basalekko_well_formed(state: *const u8, length: usize) -> bool;
+        pub fn basalekko_start(state: *mut u8, length: usize, read: u64, write: u64) -> u64;
         #[allow(clippy::too_many_arguments)]
         pub fn basalekko_run(
             state: *mut u8,
@@ -30,6 +31,12 @@ const WORDS: [&str; 24] = [
 pub fn well_formed(state: &[u8]) -> bool {
     // The function reads `length` bytes from `state`, which the slice has, and keeps nothing.
     unsafe { exported::basalekko_well_formed(state.as_ptr(), state.len()) }
+}
+
+/// START on the buffer: the answer's word.
+pub fn start(state: &mut [u8], read: u64, write: u64) -> &'static str {
+    // The function reads and writes the slice within its length, and keeps nothing.
+    WORDS[unsafe { exported::basalekko_start(state.as_mut_ptr(), state.len(), read, write) } as usize]
 }
 
 /// One command on the buffer: the answer's word, what goes with it, and where a HIT's value stands.
