@@ -2,3 +2,4 @@ pub mod Ran
 pub mod Follow
 pub mod OneAnswer
 pub mod HitShown
+pub mod Linked
