@@ -44,7 +44,7 @@ fn recent(random: &mut Random, next: u64, near: u64) -> u64 {
 }
 
 /// A record that is taken, looked for from a random place on; `number` is where its number stands.
-fn taken<'a, const BYTES: usize>(random: &mut Random, records: &'a [[u8; BYTES]], number: usize) -> Option<&'a [u8; BYTES]> {
+pub fn taken<'a, const BYTES: usize>(random: &mut Random, records: &'a [[u8; BYTES]], number: usize) -> Option<&'a [u8; BYTES]> {
     let (before, behind) = records.split_at(random.below(records.len() as u64) as usize);
     behind.iter().chain(before).find(|record| u32_at(*record, number) != 0)
 }

@@ -5,6 +5,7 @@ mod commands;
 mod proved;
 mod random;
 mod run;
+mod show;
 mod start;
 mod states;
 mod tally;
@@ -22,8 +23,10 @@ fn main() -> ExitCode {
             tally.differences == 0
         }
         Some("run") => {
-            let start = start::compare(seed, more).report("START", &start::answers());
-            run::compare(seed, more).report("commands", &run::answers()) && start
+            let started = start::compare(seed, more).report("START", &start::answers());
+            let (ran, shown) = run::compare(seed, more);
+            let ran = ran.report("commands", &run::answers());
+            shown.report("SHOW", &show::answers()) && ran && started
         }
         _ => {
             eprintln!("compare check|run [SEED [MORE]]");

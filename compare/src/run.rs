@@ -1,14 +1,15 @@
 //! The commands: the same sequences to both, the answer and all 65,536 bytes compared after every one.
 
-use crate::commands::command;
+use crate::commands::{self, command};
 use crate::proved;
 use crate::random::Random;
+use crate::show;
 use crate::states::{at_last_step, at_last_time, at_the_end, crowded, fresh, full, stands_at, used, ENDS};
-use crate::tally::{wanted, Tally};
-use second::lent::layout::{u32_at, u64_at, CLOCK, NEXT_SESSION};
+use crate::tally::{told, wanted, Tally};
 use second::lent;
+use second::lent::layout::{rows, u32_at, u64_at, Bytes, CLOCK, NEXT_SESSION, ROW_KEY, ROW_SESSION};
 use second::numbers::LAST_TIME;
-use second::{Answer, Command};
+use second::Command;
 
 /// What the commands can answer, and the ends they are to be run at.
 pub fn answers() -> Vec<String> {
@@ -24,14 +25,6 @@ pub fn answers() -> Vec<String> {
 
 /// A command whose number is none of the list.
 const OUTSIDE: &str = "a number outside";
-
-/// An answer's word, what goes with it, and where a HIT's value stands.
-fn told(answer: Answer) -> (&'static str, u64, u64) {
-    match answer {
-        Answer::Hit { at, length } => ("HIT", length, at),
-        other => (other.word(), other.detail().unwrap_or(0), 0),
-    }
-}
 
 /// A command's own numbers, in their order.
 fn numbers(command: Command) -> Vec<u64> {
@@ -51,6 +44,7 @@ fn numbers(command: Command) -> Vec<u64> {
 /// The same state twice, one for each, and what was seen of them.
 struct Pair<'a> {
     tally: &'a mut Tally,
+    shown: &'a mut Tally,
     random: &'a mut Random,
     ours: Vec<u8>,
     theirs: Vec<u8>,
@@ -65,7 +59,7 @@ impl Pair<'_> {
         let proved = proved::run(&mut self.ours, now, command.number(), four, value);
         let second = told(lent::run(&mut self.theirs, now, command, value));
         self.tally.look((now, command, value), proved, second, self.ours == self.theirs);
-        self.tally.answered(second.0, second.1);
+        self.tally.answered(second);
         for (end, _) in ENDS.iter().zip(stands_at(&self.theirs)).filter(|(_, there)| *there) {
             self.tally.saw(&format!("at {end}"));
         }
@@ -92,8 +86,33 @@ impl Pair<'_> {
                 state[at] ^= 1 << self.random.below(8);
             }
         }
-        let mut other = Pair { tally: self.tally, random: self.random, ours: state.clone(), theirs: state };
+        let mut other = Pair { tally: self.tally, shown: self.shown, random: self.random, ours: state.clone(), theirs: state };
         other.step(now, command, value);
+        other.show(256);
+    }
+
+    /// Both calls of SHOW on the state as it stands.
+    fn show(&mut self, near: u64) {
+        let (session, key) = self.asked(near);
+        show::compare(self.shown, &self.theirs, session, key);
+    }
+
+    /// A session and a key to be shown: those of a row half the time, else anyone's.
+    fn asked(&mut self, near: u64) -> (u64, u64) {
+        let Ok(state) = <&Bytes>::try_from(&self.theirs[..]) else {
+            return (0, self.random.below(near));
+        };
+        let row = commands::taken(self.random, rows(state), ROW_SESSION);
+        let (session, key) = row.map_or((1, 0), |row| (u32_at(row, ROW_SESSION), u64::from(row[ROW_KEY])));
+        match self.random.below(16) {
+            0..=7 => (session, key),
+            8..=10 => (0, self.random.below(near)),
+            11 => (session, self.random.below(near)),
+            12 => (0, key),
+            13 => (u32_at(state, NEXT_SESSION), key),
+            14 => (self.random.next(), self.random.below(258)),
+            _ => (session, 256 + self.random.below(2) * self.random.next() / 2),
+        }
     }
 
     /// A whole session on one key: opened, quarantined, staged with a repeat, read, validated and finished.
@@ -143,6 +162,7 @@ impl Pair<'_> {
                 _ => {}
             }
             self.step(now, command, &value);
+            self.show(near);
         }
     }
 }
@@ -162,14 +182,15 @@ fn beginning(random: &mut Random, round: u64, near: u64) -> Vec<u8> {
     }
 }
 
-pub fn compare(seed: u64, more: u64) -> Tally {
+/// The tallies of the commands and of SHOW, which is asked after each of them.
+pub fn compare(seed: u64, more: u64) -> (Tally, Tally) {
     let mut random = Random::new(seed);
-    let mut tally = Tally::default();
+    let (mut tally, mut shown) = (Tally::default(), Tally::default());
     for round in 0..200 * more {
         let near = 2 + round % 40;
         let from = beginning(&mut random, round, near);
-        let mut pair = Pair { tally: &mut tally, random: &mut random, ours: from.clone(), theirs: from };
+        let mut pair = Pair { tally: &mut tally, shown: &mut shown, random: &mut random, ours: from.clone(), theirs: from };
         pair.sequence(2_000, 2 + round % 11);
     }
-    tally
+    (tally, shown)
 }

@@ -3,7 +3,7 @@
 use crate::proved;
 use crate::random::Random;
 use crate::states::full;
-use crate::tally::{wanted, Tally};
+use crate::tally::{told, wanted, Tally};
 use second::lent;
 use second::numbers::{LONGEST_LIFETIME, STATE_BYTES};
 
@@ -51,8 +51,8 @@ pub fn compare(seed: u64, more: u64) -> Tally {
         let (read, write) = (lifetime(&mut random), lifetime(&mut random));
         let proved = proved::start(&mut ours, read, write);
         let second = lent::start(&mut theirs, read, write);
-        tally.look(("START", ours.len(), read, write), proved, second.word(), ours == theirs);
-        tally.answered(second.word(), second.detail().unwrap_or(0));
+        tally.look(("START", ours.len(), read, write), proved, told(second), ours == theirs);
+        tally.answered(told(second));
     }
     tally
 }

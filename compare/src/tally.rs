@@ -1,5 +1,7 @@
 //! What was compared, what was seen of it, and what was never seen.
 
+use crate::proved::Told;
+use second::Answer;
 use std::collections::BTreeMap;
 use std::fmt::Debug;
 
@@ -28,7 +30,7 @@ impl Tally {
     }
 
     /// Counts an answer by its word, a refusal by its number.
-    pub fn answered(&mut self, word: &str, detail: u64) {
+    pub fn answered(&mut self, (word, detail, _): Told) {
         match word {
             "REFUSED" => self.saw(&refused(detail)),
             _ => self.saw(word),
@@ -64,4 +66,12 @@ pub fn refused(number: u64) -> String {
 /// These words, and the refusals of these numbers.
 pub fn wanted(words: &[&str], refusals: impl IntoIterator<Item = u64>) -> Vec<String> {
     words.iter().map(|word| word.to_string()).chain(refusals.into_iter().map(refused)).collect()
+}
+
+/// An answer of the second program, as the proved library tells its own.
+pub fn told(answer: Answer) -> Told {
+    match answer {
+        Answer::Hit { at, length } => ("HIT", length, at),
+        other => (other.word(), other.detail().unwrap_or(0), 0),
+    }
 }
