@@ -4,9 +4,9 @@
 //! else, for a counter of instructions (`bench/measure` runs them under callgrind).
 
 mod plans;
-mod proved;
 mod works;
 
+use compare::proved;
 use plans::{named, state, PLANS};
 use std::hint::black_box;
 use std::time::Instant;

@@ -1,7 +1,7 @@
 //! The commands that are measured, each piece of work on a state to which it comes again and again.
 
 use crate::plans::{tables, Plan, CLOCK, SESSIONS_END};
-use crate::proved;
+use compare::proved;
 use second::lent;
 use second::tables::Tables;
 use second::value::Value;
@@ -62,6 +62,10 @@ fn with_room(tables: &mut Tables) {
     }
 }
 
+fn run_proved(state: &mut [u8], now: u64, command: Command, value: &[u8]) -> proved::Told {
+    proved::run(state, now, command.number(), proved::numbers(command), value)
+}
+
 /// A piece of work on a state: the states that its commands meet, and what has to be put back behind it.
 pub struct Trial {
     state: Vec<u8>,
@@ -85,7 +89,7 @@ impl Trial {
         for ((now, command, value), word) in work.calls.iter().zip(work.words) {
             met.push(theirs.clone());
             let answer = lent::run(&mut theirs, *now, *command, value);
-            proved::run(&mut ours, *now, *command, value);
+            run_proved(&mut ours, *now, *command, value);
             assert!(answer.word() == *word && ours == theirs, "{} on {}: {answer:?}", work.name, plan.name);
         }
         let changed = (0..state.len() / BLOCK).map(|n| n * BLOCK).filter(|at| state[*at..at + BLOCK] != theirs[*at..at + BLOCK]);
@@ -101,7 +105,7 @@ impl Trial {
     pub fn repeat(&mut self, part: Part, times: u64) {
         for _ in 0..times {
             match part {
-                Part::Proved => self.work(|state, (now, command, value)| proved::run(state, now, command, value)),
+                Part::Proved => self.work(|state, (now, command, value)| run_proved(state, now, command, value)),
                 Part::Second => self.work(|state, (now, command, value)| lent::run(state, now, command, value)),
                 Part::ProvedCheck => self.check(proved::well_formed),
                 Part::SecondCheck => self.check(lent::well_formed),

@@ -1,8 +1,8 @@
 //! The well-formed check: the same buffers to both.
 
-use crate::proved;
 use crate::random::Random;
 use crate::states::{at_last_step, at_last_time, at_the_end, crowded, fresh, full, used};
+use compare::proved;
 use second::lent::well_formed;
 use second::numbers::STATE_BYTES;
 

@@ -2,7 +2,6 @@
 
 mod check;
 mod commands;
-mod proved;
 mod random;
 mod run;
 mod show;

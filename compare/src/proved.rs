@@ -1,5 +1,7 @@
 //! The proved functions, as C sees them.
 
+use second::Command;
+
 mod exported {
     extern "C" {
         pub fn basalekko_well_formed(state: *const u8, length: usize) -> bool;
@@ -81,4 +83,19 @@ pub fn run(state: &mut [u8], time: u64, number: u64, numbers: [u64; 4], value: &
         )
     };
     said(word, told)
+}
+
+/// A command's own numbers in their order, and 0 behind them.
+pub fn numbers(command: Command) -> [u64; 4] {
+    match command {
+        Command::Begin | Command::Tick => [0; 4],
+        Command::Get { session, key } => [session, key, 0, 0],
+        Command::Fill { token, key } => [token, key, 0, 0],
+        Command::Quar { session, key, kind } => [session, key, kind, 0],
+        Command::Stage { session, step, key } => [session, step, key, 0],
+        Command::Delta { session, step, key, operation } => [session, step, key, operation],
+        Command::Validate { session, n } => [session, n, 0, 0],
+        Command::Done { session } | Command::Undo { session } => [session, 0, 0, 0],
+        Command::Evict { key } => [key, 0, 0, 0],
+    }
 }

@@ -1,11 +1,11 @@
 //! The commands: the same sequences to both, the answer and all 65,536 bytes compared after every one.
 
 use crate::commands::{self, command};
-use crate::proved;
 use crate::random::Random;
 use crate::show;
 use crate::states::{at_last_step, at_last_time, at_the_end, crowded, fresh, full, stands_at, used, ENDS};
 use crate::tally::{told, wanted, Tally};
+use compare::proved;
 use second::lent;
 use second::lent::layout::{rows, u32_at, u64_at, Bytes, CLOCK, NEXT_SESSION, ROW_KEY, ROW_SESSION};
 use second::numbers::LAST_TIME;
@@ -26,21 +26,6 @@ pub fn answers() -> Vec<String> {
 /// A command whose number is none of the list.
 const OUTSIDE: &str = "a number outside";
 
-/// A command's own numbers, in their order.
-fn numbers(command: Command) -> Vec<u64> {
-    match command {
-        Command::Begin | Command::Tick => vec![],
-        Command::Get { session, key } => vec![session, key],
-        Command::Fill { token, key } => vec![token, key],
-        Command::Quar { session, key, kind } => vec![session, key, kind],
-        Command::Stage { session, step, key } => vec![session, step, key],
-        Command::Delta { session, step, key, operation } => vec![session, step, key, operation],
-        Command::Validate { session, n } => vec![session, n],
-        Command::Done { session } | Command::Undo { session } => vec![session],
-        Command::Evict { key } => vec![key],
-    }
-}
-
 /// The same state twice, one for each, and what was seen of them.
 struct Pair<'a> {
     tally: &'a mut Tally,
@@ -53,10 +38,9 @@ struct Pair<'a> {
 impl Pair<'_> {
     /// One command on both. The numbers that it doesn't have are anything.
     fn step(&mut self, now: u64, command: Command, value: &[u8]) {
-        let mut four = [0; 4].map(|_: u64| self.random.next());
-        let own = numbers(command);
-        four[..own.len()].copy_from_slice(&own);
-        let proved = proved::run(&mut self.ours, now, command.number(), four, value);
+        let mut numbers = proved::numbers(command);
+        numbers[Command::fields(command.number())..].fill_with(|| self.random.next());
+        let proved = proved::run(&mut self.ours, now, command.number(), numbers, value);
         let second = told(lent::run(&mut self.theirs, now, command, value));
         self.tally.look((now, command, value), proved, second, self.ours == self.theirs);
         self.tally.answered(second);

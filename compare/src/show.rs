@@ -1,7 +1,7 @@
 //! SHOW in its two calls: the answer, and the place and length of the stretch.
 
-use crate::proved;
 use crate::tally::{told, wanted, Tally};
+use compare::proved;
 use second::lent;
 
 /// What SHOW can answer, and what else is to be seen of it.

@@ -1,9 +1,9 @@
 //! START: buffers of every kind and length, lifetimes in and out of range.
 
-use crate::proved;
 use crate::random::Random;
 use crate::states::full;
 use crate::tally::{told, wanted, Tally};
+use compare::proved;
 use second::lent;
 use second::numbers::{LONGEST_LIFETIME, STATE_BYTES};
 

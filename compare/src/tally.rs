@@ -1,6 +1,6 @@
 //! What was compared, what was seen of it, and what was never seen.
 
-use crate::proved::Told;
+use compare::proved::Told;
 use second::Answer;
 use std::collections::BTreeMap;
 use std::fmt::Debug;
