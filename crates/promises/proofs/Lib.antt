@@ -3,3 +3,4 @@ pub mod Follow
 pub mod OneAnswer
 pub mod HitShown
 pub mod ExamplesRun
+pub mod Linked
