@@ -1,10 +1,10 @@
 // Values in lower-case hex, two digits a byte, with `-` for the empty value.
 ghost use mathlib.Core.Path.{_≡_};
 ghost use mathlib.Core.Bool.{true};
-ghost use Prim.Native.Nat.{_/_, _≤_};
+ghost use Prim.Native.Nat.{_*_, _/_, _≤_, _<_};
 ghost use lib.ListN.{length};
 ghost use Rattle.lent.specs.Bytes.{splice};
-ghost use Rattle.hex.specs.Hex.{digitValue, allDigits, isDash, isHex, bytesOf, readHex, answered, held};
+ghost use Rattle.hex.specs.Hex.{digitOf, digitsOf, hexOf, digitValue, allDigits, isDash, isHex, bytesOf, readHex, answered, held};
 
 // How many bytes a text says, or that it says none.
 pub enum Hex {
@@ -109,4 +109,40 @@ pub fn read(text: &[u8], out: &mut [u8]) -> Hex
     }
     fill(text, &mut *out);
     Hex::Is(text.len() / 2)
+}
+
+// The digit that says n.
+fn digit_of(n: u8) -> u8
+    requires { ⌜ n < 16 ⌝ }
+    ensures { λ r. ⌜ r ≡ digitOf n ⌝ }
+{
+    if n < 10 {
+        return b'0' + n;
+    }
+    b'a' + (n - 10)
+}
+
+// Two digits for each byte of v, at the front of out.
+fn print(v: &[u8], out: &mut [u8])
+    requires { ⌜ 2 * length (now v) ≤ length (now out) ⌝ }
+    ensures { λ _. ⌜ now (out .exit) ≡ splice (now (out .entry)) 0 (digitsOf (now (v .entry))) ⌝ }
+{
+    let n = v.len();
+    for i in 0..n {
+        out[2 * i] = digit_of(v[i] / 16);
+        out[2 * i + 1] = digit_of(v[i] % 16);
+    }
+}
+
+// What is printed of v, at the front of out, and its length.
+pub fn write(v: &[u8], out: &mut [u8]) -> usize
+    requires { ⌜ length (hexOf (now v)) ≤ length (now out) ⌝ }
+    ensures { λ r. ⌜ (r ≡ length (hexOf (now (v .entry)))) × (now (out .exit) ≡ splice (now (out .entry)) 0 (hexOf (now (v .entry)))) ⌝ }
+{
+    if v.len() == 0 {
+        out[0] = DASH;
+        return 1;
+    }
+    print(v, &mut *out);
+    2 * v.len()
 }
