@@ -1,0 +1,42 @@
+-- `end` meets its contract: the three fields stand one behind the other.
+-- Assumes nothing.
+use Rattle.replies.proofs.Lines.{put-then, put-front, number-most, printed-most}
+use lib.ListN.{length-append}
+use Rattle.replies.specs.Replies.{ended}
+use Rattle.replies.proofs.Lines.{put-then, put-front, number-most}
+use native.Mathlib.Omega.{arith}
+use borrow.Author.Needs.{needs}
+use Rattle.replies.proofs.end.Statement.{statement}
+use Rattle.replies.proofs.end.Tie as tie
+
+slice-aggregate-text : tie.Need-slice-aggregate-text
+slice-aggregate-text c = search needs
+
+text-requires : tie.Need-text-requires
+text-requires c κs = search needs
+
+number-requires : tie.Need-number-requires
+number-requires c κs = search needs
+
+number-requires-2 : tie.Need-number-requires-2
+number-requires-2 c κs = omega (arith, number-most (c .before .before .before .before .before .before .before .before .before .before .before .args .lines) 32)
+
+same-length : tie.Need-same-length
+same-length c = search needs
+
+returns : tie.Need-returns
+unfolding ended
+returns c = let h = printed-most (c .before .before .before .before .before .before .before .before .before .before .before .before .before .before .args .lines) in
+    let g = printed-most (c .before .before .before .before .before .before .before .before .before .before .before .before .before .before .args .broken) in
+    put-front (put-then (c .before .before .before .before .before .before .before .before .before .before .text .ensures) (put-then (c .before .before .before .before .before .before .number .ensures) (c .before .before .number2 .ensures) (simp length-append (omega arith))) (simp length-append (omega arith)))
+
+pub end-spec : {M : Type 1} → statement M
+end-spec =
+    tie.close
+    (tie.spec
+    slice-aggregate-text
+    text-requires
+    number-requires
+    number-requires-2
+    same-length
+    returns)
