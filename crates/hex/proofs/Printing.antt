@@ -75,10 +75,10 @@ pub length-some : (v : List ℕ) → (length v ≡ 0 → ⊥) → length (hexOf 
 length-some v e = ap length (hex-some v e) ∙ length-digits v
 
 -- two digits for each byte, or the dash
-pub hex-most : (v : List ℕ) → length (hexOf v) ≤ 2 * length v + 1
+pub hex-most : (v : List ℕ) (m : ℕ) → 1 ≤ m → length v ≤ m → length (hexOf v) ≤ 2 * m
 unfolding hexOf
-hex-most [] = omega arith
-hex-most (b ∷ v) = omega (arith, length-digits v)
+hex-most [] m p h = omega arith
+hex-most (b ∷ v) m p h = omega (arith, length-digits v)
 
 -- ---- the round trip
 

@@ -1,37 +1,32 @@
 -- A line is written field by field: what is put at the place behind what was put is one longer stretch, and the tail of a buffer that is lent and comes back with bytes at its front is the buffer with them at the tail's place.
 -- Assumes nothing.
-use mathlib.Core.Path.{_≡_, refl, sym, ap, _∙_}
+use mathlib.Core.Path.{_≡_, refl, ap, _∙_}
+use mathlib.Core.Logic.{_⊎_, inl, inr, ⊎-elim}
+use mathlib.Core.Bool.{true, false}
 use mathlib.Core.List.{List, [], _∷_, _++_, append-nil}
 use Prim.Native.Nat.{ℕ, _+_, _-_, _≤_, _<_}
-use native.Mathlib.Nat.{zero-add}
+use native.Mathlib.Nat.{zero-add, eq-or-lt-of-le}
 use native.Mathlib.Omega.{arith}
-use lib.ListN.{length, take, drop, set, length-append, length-drop, drop-of-length-le}
+use lib.ListN.{length, take, drop, length-append, length-take, length-drop, drop-of-length-le}
 use lib.Seq.{drop-drop, take-length}
+use borrow.Author.Tests.{ne-eqb}
 use Rattle.lent.specs.Bytes.{splice}
-use Rattle.lent.proofs.Splice.{length-splice, splice-then}
-use Rattle.lent.proofs.Stores.{splice-snoc}
-use Rattle.counts.specs.Count.{digitsMax, decimal, written}
+use Rattle.lent.proofs.Choices.{if-ind}
+use Rattle.lent.proofs.Splice.{splice-then}
+use Rattle.counts.specs.Count.{digitsMax, written}
 use Rattle.counts.proofs.Decimal.{decimal-most}
 use Rattle.counts.proofs.Laws.{written-room}
-use Rattle.replies.specs.Replies.{printed, field, Put}
+use Rattle.machine.specs.Sizes.{valueMax}
+use Rattle.hex.proofs.Printing.{hex-most}
+use Rattle.replies.specs.Replies.{detailMax, printed, numbered, valued, detailed, field, Put}
 
 -- ---- one field behind the other
 
 module _ {s t : List ℕ} {a b : ℕ} {x : List ℕ} (p : Put s a x b t) where
-  pub put-length : a + length x ≤ length s → length t ≡ length s
-  put-length h = ap length (p .bytes) ∙ length-splice s a x h
-
   pub put-then : {u y : List ℕ} {c : ℕ} → Put t b y c u → a + length x + length y ≤ length s → Put s a (x ++ y) c u
   put-then {u} {y} {c} q h = record {
     place = q .place ∙ rw (p .place, length-append x y) (omega arith);
     bytes = splice-then s t u x y a (length x) (p .bytes) (rw (← p .place) (q .bytes)) refl h;
-  }
-
-  -- the byte behind what was put
-  pub put-after : (v : ℕ) → a + length x < length s → Put s a (field x v) (b + 1) (set t b v)
-  put-after v h = record {
-    place = rw (p .place, length-append x (v ∷ [])) (omega arith);
-    bytes = rw (p .bytes, p .place) (splice-snoc s a x (length x) v refl h);
   }
 
 pub put-front : {s t x : List ℕ} {b : ℕ} → Put s 0 x b t → (b ≡ length x) × (t ≡ splice s 0 x)
@@ -39,11 +34,20 @@ put-front {s} {t} {x} {b} p = (p .place ∙ zero-add (length x), p .bytes)
 
 -- ---- in the tail of a buffer
 
-pub tail-put : (s x y : List ℕ) (a : ℕ) → a + length y ≤ length s → x ≡ splice (drop a s) 0 y → take a s ++ (x ++ drop (length s - a) (drop a s)) ≡ splice s a y
+-- x is what came back of the tail
+pub tail-put : (s x y : List ℕ) (a w : ℕ) → a + length y ≤ length s → w ≡ length y → x ≡ splice (take (length s - a) (drop a s)) 0 y
+    → Put s a y (a + w) (take a s ++ (x ++ drop (length s - a) (drop a s)))
 unfolding splice
-tail-put s x y a h e =
-    let g : drop (length s - a) (drop a s) ≡ [] = drop-of-length-le (drop a s) {i = length s - a} (simp length-drop (omega arith)) in
-    rw (g, append-nil, e, zero-add, drop-drop)
+tail-put s x y a w h e f =
+    let l : length (drop a s) ≡ length s - a = length-drop a s in
+    let t : take (length s - a) (drop a s) ≡ drop a s = rw (← l) (take-length (drop a s)) in
+    let g : drop (length s - a) (drop a s) ≡ [] = drop-of-length-le (drop a s) {i = length s - a} (omega arith) in
+    record { place = ap (λ (k : ℕ). a + k) e; bytes = rw (g, append-nil, f, t, zero-add, drop-drop) }
+
+-- ---- lengths
+
+pub field-length : (x : List ℕ) (v : ℕ) → length (field x v) ≡ length x + 1
+field-length x v = length-append x (v ∷ [])
 
 -- ---- numbers
 
@@ -68,11 +72,26 @@ module _ (n : ℕ) (s : List ℕ) (h : digitsMax ≤ length s) where
 pub number-put : (s x : List ℕ) (a n w : ℕ) → a + digitsMax ≤ length s → w ≡ written n (take (length s - a) (drop a s)) .number → x ≡ written n (take (length s - a) (drop a s)) .bytes
     → Put s a (printed n) (a + w) (take a s ++ (x ++ drop (length s - a) (drop a s)))
 number-put s x a n w h e f =
-    let l : length (drop a s) ≡ length s - a = length-drop a s in
-    let g : take (length s - a) (drop a s) ≡ drop a s = rw (← l) (take-length (drop a s)) in
-    let e′ : w ≡ written n (drop a s) .number = rw g at e in
-    let f′ : x ≡ written n (drop a s) .bytes = rw g at f in
-    record {
-      place = ap (λ (k : ℕ). a + k) (e′ ∙ printed-number n (drop a s) (omega arith));
-      bytes = tail-put s x (printed n) a (omega (arith, printed-most n)) (f′ ∙ printed-bytes n (drop a s) (omega arith));
-    }
+    let l : length (take (length s - a) (drop a s)) ≡ length s - a = simp (length-take, length-drop) (omega arith) in
+    tail-put s x (printed n) a w (omega (arith, printed-most n)) (e ∙ printed-number n (take (length s - a) (drop a s)) (omega arith)) (f ∙ printed-bytes n (take (length s - a) (drop a s)) (omega arith))
+
+-- ---- details
+
+pub detail-most : (word detail : ℕ) (value : List ℕ) → length value ≤ valueMax → length (detailed word detail value) ≤ detailMax
+unfolding detailed
+detail-most word detail value h =
+    if-ind (λ (x : List ℕ). length x ≤ detailMax) (numbered word) (λ e. omega (arith, printed-most detail))
+    (λ e. if-ind (λ (x : List ℕ). length x ≤ detailMax) (valued word) (λ f. omega (arith, hex-most value valueMax (omega arith) h)) (λ f. omega arith))
+
+module _ (word : ℕ) where
+  pub numbered-first : (word ≡ 0) ⊎ (word ≡ 2) → numbered word ≡ true
+  numbered-first h = ⊎-elim (λ e. rw e) (λ e. rw e) h
+
+  pub numbered-last : 5 ≤ word → word < 7 → numbered word ≡ true
+  numbered-last h l = ⊎-elim (λ e. rw (← e)) (λ m. let e : word ≡ 6 = omega arith in rw e) (eq-or-lt-of-le h)
+
+  pub numbered-none : ((word ≡ 0) ⊎ (word ≡ 2) → ⊥) → (word < 5) ⊎ (7 ≤ word) → numbered word ≡ false
+  numbered-none f h =
+      let c : word ≡ 5 → ⊥ = λ e. ⊎-elim (λ l. omega arith) (λ l. omega arith) h in
+      let d : word ≡ 6 → ⊥ = λ e. ⊎-elim (λ l. omega arith) (λ l. omega arith) h in
+      rw (ne-eqb word 0 (λ e. f (inl e)), ne-eqb word 2 (λ e. f (inr e)), ne-eqb word 5 c, ne-eqb word 6 d)

@@ -9,68 +9,97 @@ use lib.ListN.{length, getD}
 use Rattle.lent.specs.Bytes.{splice}
 use Rattle.lent.specs.Tables.{if_then_else_}
 use Rattle.counts.specs.Count.{decimal}
-use Rattle.replies.specs.Letters.{space, newline, dash, A, B, C, D, E, F, G, H, I, K, L, M, N, O, P, R, S, T, U, «V», W, Y}
+use Rattle.hex.specs.Hex.{hexOf}
+use Rattle.replies.specs.Text.{ascii, space, newline}
 
--- the number of UNREADABLE, how many words there are, and the most bytes of a word
-abbrev pub unreadable : ℕ
-unreadable = 25
+-- the room that a line is given; none takes more
+abbrev pub lineRoom : ℕ
+lineRoom = 256
 
+-- ---- words
+
+-- how many words there are, the most bytes of one, and the number of the last
 abbrev pub wordCount : ℕ
 wordCount = 26
 
 abbrev pub wordMax : ℕ
 wordMax = 10
 
--- the room that a line is given; none takes more
-abbrev pub lineRoom : ℕ
-lineRoom = 256
+abbrev pub unreadable : ℕ
+unreadable = 25
+
+-- by number: those of the answers as `wordOf` has them, and those of a register write and of a line that can't be read
+unfoldable pub words : List (List ℕ)
+words =
+    ascii "REFUSED"
+    ∷ ascii "READY"
+    ∷ ascii "SESSION"
+    ∷ ascii "HIT"
+    ∷ ascii "ASK"
+    ∷ ascii "BACKOFF"
+    ∷ ascii "LEASE"
+    ∷ ascii "STORED"
+    ∷ ascii "IGNORED"
+    ∷ ascii "HELD"
+    ∷ ascii "GRANTED"
+    ∷ ascii "ABORTED"
+    ∷ ascii "STAGED"
+    ∷ ascii "REPEATED"
+    ∷ ascii "DROPPED"
+    ∷ ascii "VALIDATED"
+    ∷ ascii "LOST"
+    ∷ ascii "DONE"
+    ∷ ascii "UNDONE"
+    ∷ ascii "EVICTED"
+    ∷ ascii "EMPTY"
+    ∷ ascii "TICKED"
+    ∷ ascii "VALUE"
+    ∷ ascii "NONE"
+    ∷ ascii "WRITTEN"
+    ∷ ascii "UNREADABLE"
+    ∷ []
+
+-- any other number is as the last
+unfoldable pub nameOf : ℕ → List ℕ
+nameOf word = getD words word (ascii "UNREADABLE")
+
+-- ---- numbers and details
+
+-- the most bytes of what is printed of a number or a value
+abbrev pub detailMax : ℕ
+detailMax = 128
 
 -- a number in decimal
 unfoldable pub printed : ℕ → List ℕ
 printed n = decimal n
 
--- the words by number: a refusal, those of the answers in the order of `wordOf`, and that of a register write
-unfoldable pub words : List (List ℕ)
-words =
-    (R ∷ E ∷ F ∷ U ∷ S ∷ E ∷ D ∷ []) ∷
-    (R ∷ E ∷ A ∷ D ∷ Y ∷ []) ∷
-    (S ∷ E ∷ S ∷ S ∷ I ∷ O ∷ N ∷ []) ∷
-    (H ∷ I ∷ T ∷ []) ∷
-    (A ∷ S ∷ K ∷ []) ∷
-    (B ∷ A ∷ C ∷ K ∷ O ∷ F ∷ F ∷ []) ∷
-    (L ∷ E ∷ A ∷ S ∷ E ∷ []) ∷
-    (S ∷ T ∷ O ∷ R ∷ E ∷ D ∷ []) ∷
-    (I ∷ G ∷ N ∷ O ∷ R ∷ E ∷ D ∷ []) ∷
-    (H ∷ E ∷ L ∷ D ∷ []) ∷
-    (G ∷ R ∷ A ∷ N ∷ T ∷ E ∷ D ∷ []) ∷
-    (A ∷ B ∷ O ∷ R ∷ T ∷ E ∷ D ∷ []) ∷
-    (S ∷ T ∷ A ∷ G ∷ E ∷ D ∷ []) ∷
-    (R ∷ E ∷ P ∷ E ∷ A ∷ T ∷ E ∷ D ∷ []) ∷
-    (D ∷ R ∷ O ∷ P ∷ P ∷ E ∷ D ∷ []) ∷
-    («V» ∷ A ∷ L ∷ I ∷ D ∷ A ∷ T ∷ E ∷ D ∷ []) ∷
-    (L ∷ O ∷ S ∷ T ∷ []) ∷
-    (D ∷ O ∷ N ∷ E ∷ []) ∷
-    (U ∷ N ∷ D ∷ O ∷ N ∷ E ∷ []) ∷
-    (E ∷ «V» ∷ I ∷ C ∷ T ∷ E ∷ D ∷ []) ∷
-    (E ∷ M ∷ P ∷ T ∷ Y ∷ []) ∷
-    (T ∷ I ∷ C ∷ K ∷ E ∷ D ∷ []) ∷
-    («V» ∷ A ∷ L ∷ U ∷ E ∷ []) ∷
-    (N ∷ O ∷ N ∷ E ∷ []) ∷
-    (W ∷ R ∷ I ∷ T ∷ T ∷ E ∷ N ∷ []) ∷
-    []
+-- REFUSED, SESSION, BACKOFF and LEASE go with a number
+abbrev pub numbered : ℕ → Bool
+numbered word = eqb word 0 || eqb word 2 || eqb word 5 || eqb word 6
 
--- any other number is that of a line that can't be read
-unfoldable pub nameOf : ℕ → List ℕ
-nameOf word = getD words word (U ∷ N ∷ R ∷ E ∷ A ∷ D ∷ A ∷ B ∷ L ∷ E ∷ [])
+-- HIT with a value
+abbrev pub valued : ℕ → Bool
+valued word = eqb word 3
+
+-- and the others with nothing
+unfoldable pub detailed : ℕ → ℕ → List ℕ → List ℕ
+detailed word detail value =
+    if numbered word then printed detail else if valued word then hexOf value else ascii "-"
+
+-- ---- lines
 
 -- a field and the byte behind it
 abbrev pub field : List ℕ → ℕ → List ℕ
 field x after = x ++ (after ∷ [])
 
+-- an output line
+unfoldable pub replied : ℕ → ℕ → ℕ → List ℕ → ℕ → List ℕ
+replied line word detail value rule =
+    field (printed line) space ++ field (nameOf word) space ++ field (detailed word detail value) space ++ field (printed rule) newline
+
 -- the end line
 unfoldable pub ended : ℕ → ℕ → List ℕ
-ended lines broken =
-    field (101 ∷ 110 ∷ 100 ∷ []) space ++ (field (printed lines) space ++ field (printed broken) newline)
+ended lines broken = field (ascii "end") space ++ field (printed lines) space ++ field (printed broken) newline
 
 -- s with x at place `at` is t, and the place behind it is `next`
 pub record Put (s : List ℕ) (at : ℕ) (x : List ℕ) (next : ℕ) (t : List ℕ) : Type 0 where

@@ -1,21 +1,39 @@
 // The rehearsal's output lines.
 ghost use mathlib.Core.Path.{_≡_};
+ghost use mathlib.Core.List.{[], _∷_};
 ghost use Prim.Native.Nat.{_+_, _≤_, _<_};
 ghost use lib.ListN.{length, take};
 ghost use Rattle.lent.specs.Bytes.{splice};
-ghost use Rattle.replies.specs.Letters.{space};
+ghost use Rattle.replies.specs.Text.{space};
 ghost use Rattle.counts.specs.Count.{digitsMax};
-ghost use Rattle.replies.specs.Replies.{wordCount, wordMax, lineRoom, printed, nameOf, field, ended, Put};
+ghost use Rattle.hex.specs.Hex.{hexOf};
+ghost use Rattle.machine.specs.Sizes.{valueMax};
+ghost use Rattle.replies.specs.Replies.{lineRoom, wordCount, wordMax, detailMax, nameOf, printed, numbered, detailed, field, replied, ended, Put};
 
-const SPACE: u8 = 32;
+const SPACE: u8 = b' ';
 
-const NEWLINE: u8 = 10;
+const NEWLINE: u8 = b'\n';
 
-// The number of UNREADABLE, the last word.
+const DASH: u8 = b'-';
+
+// The words that a number goes with, and the one that a value goes with.
+const REFUSED: u64 = 0;
+
+const SESSION: u64 = 2;
+
+const BACKOFF: u64 = 5;
+
+const LEASE: u64 = 6;
+
+const HIT: u64 = 3;
+
+// How many words there are, and the number of UNREADABLE, the last.
+const WORDS: usize = 26;
+
 const UNREADABLE: usize = 25;
 
 // The words by number, each in ten bytes, and their lengths.
-const NAMES: [[u8; 10]; 26] = [
+const NAMES: [[u8; 10]; WORDS] = [
     *b"REFUSED   ",
     *b"READY     ",
     *b"SESSION   ",
@@ -44,7 +62,7 @@ const NAMES: [[u8; 10]; 26] = [
     *b"UNREADABLE",
 ];
 
-const LENGTHS: [usize; 26] = [
+const LENGTHS: [usize; WORDS] = [
     7,
     5,
     7,
@@ -73,6 +91,15 @@ const LENGTHS: [usize; 26] = [
     10,
 ];
 
+// One byte at a place; the next place.
+fn byte(out: &mut [u8], at: usize, b: u8) -> usize
+    requires { ⌜ at < length (now out) ⌝ }
+    ensures { λ r. ⌜ Put (now (out .entry)) at (b ∷ []) r (now (out .exit)) ⌝ }
+{
+    out[at] = b;
+    at + 1
+}
+
 // v and a byte behind it, at a place; the next place.
 fn text(out: &mut [u8], at: usize, v: &[u8], after: u8) -> usize
     requires { ⌜ at + length (now v) + 1 ≤ length (now out) ⌝ }
@@ -80,8 +107,7 @@ fn text(out: &mut [u8], at: usize, v: &[u8], after: u8) -> usize
 {
     let last = at + v.len();
     lent::copy_in(out, at, v);
-    out[last] = after;
-    last + 1
+    byte(out, last, after)
 }
 
 // A number at a place; the next place.
@@ -99,15 +125,14 @@ fn number(out: &mut [u8], at: usize, n: u64, after: u8) -> usize
     ensures { λ r. ⌜ Put (now (out .entry)) at (field (printed n) after) r (now (out .exit)) ⌝ }
 {
     let last = decimal(out, at, n);
-    out[last] = after;
-    last + 1
+    byte(out, last, after)
 }
 
 // A word's place in the table.
 fn listed(word: u64) -> usize
     ensures { λ r. ⌜ (r < wordCount) × (nameOf r ≡ nameOf word) ⌝ }
 {
-    if word < UNREADABLE as u64 {
+    if word < WORDS as u64 {
         return word as usize;
     }
     UNREADABLE
@@ -137,6 +162,59 @@ fn name(out: &mut [u8], at: usize, word: u64) -> usize
     let word = padded(w);
     let n = name_length(w);
     text(out, at, &word[..n], SPACE)
+}
+
+// A value in hex at a place; the next place.
+fn hexed(out: &mut [u8], at: usize, value: &[u8]) -> usize
+    requires { ⌜ at + length (hexOf (now value)) ≤ length (now out) ⌝ }
+    ensures { λ r. ⌜ Put (now (out .entry)) at (hexOf (now (value .entry))) r (now (out .exit)) ⌝ }
+{
+    let w = hex::write(value, &mut out[at..]);
+    at + w
+}
+
+// Whether a number goes with a word.
+fn numbered(word: u64) -> bool
+    ensures { λ r. ⌜ r ≡ numbered word ⌝ }
+{
+    match word {
+        REFUSED | SESSION | BACKOFF | LEASE => true,
+        _ => false,
+    }
+}
+
+// What goes with a word, at a place; the next place.
+fn details(out: &mut [u8], at: usize, word: u64, detail: u64, value: &[u8]) -> usize
+    requires { ⌜ (at + detailMax ≤ length (now out)) × (length (now value) ≤ valueMax) ⌝ }
+    ensures { λ r. ⌜ Put (now (out .entry)) at (detailed word detail (now (value .entry))) r (now (out .exit)) ⌝ }
+{
+    if numbered(word) {
+        return decimal(out, at, detail);
+    }
+    if word == HIT {
+        return hexed(out, at, value);
+    }
+    byte(out, at, DASH)
+}
+
+// What goes with a word, and a space.
+fn detail_field(out: &mut [u8], at: usize, word: u64, detail: u64, value: &[u8]) -> usize
+    requires { ⌜ (at + detailMax + 1 ≤ length (now out)) × (length (now value) ≤ valueMax) ⌝ }
+    ensures { λ r. ⌜ Put (now (out .entry)) at (field (detailed word detail (now (value .entry))) space) r (now (out .exit)) ⌝ }
+{
+    let last = details(out, at, word, detail, value);
+    byte(out, last, SPACE)
+}
+
+// An output line at the front of out; its length.
+pub fn reply(out: &mut [u8], line: u64, word: u64, detail: u64, value: &[u8], rule: u64) -> usize
+    requires { ⌜ (lineRoom ≤ length (now out)) × (length (now value) ≤ valueMax) ⌝ }
+    ensures { λ r. ⌜ (r ≡ length (replied line word detail (now (value .entry)) rule)) × (now (out .exit) ≡ splice (now (out .entry)) 0 (replied line word detail (now (value .entry)) rule)) ⌝ }
+{
+    let a = number(out, 0, line, SPACE);
+    let b = name(out, a, word);
+    let c = detail_field(out, b, word, detail, value);
+    number(out, c, rule, NEWLINE)
 }
 
 // The end line at the front of out; its length.

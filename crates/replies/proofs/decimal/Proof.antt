@@ -2,7 +2,6 @@
 -- Assumes nothing.
 use Rattle.replies.proofs.Lines.{number-put, printed-most}
 use native.Mathlib.Omega.{arith}
-use mathlib.Core.Path.{_≡_}
 use borrow.Author.Needs.{needs}
 use Rattle.replies.proofs.decimal.Statement.{statement}
 use Rattle.replies.proofs.decimal.Tie as tie

@@ -6,6 +6,7 @@ use Rattle.replies.specs.Replies.{ended}
 use Rattle.replies.proofs.Lines.{put-then, put-front, number-most}
 use native.Mathlib.Omega.{arith}
 use borrow.Author.Needs.{needs}
+use Rattle.replies.specs.Text.{space}
 use Rattle.replies.proofs.end.Statement.{statement}
 use Rattle.replies.proofs.end.Tie as tie
 
@@ -19,7 +20,7 @@ number-requires : tie.Need-number-requires
 number-requires c κs = search needs
 
 number-requires-2 : tie.Need-number-requires-2
-number-requires-2 c κs = omega (arith, number-most (c .before .before .before .before .before .before .before .before .before .before .before .args .lines) 32)
+number-requires-2 c κs = omega (arith, number-most (c .before .before .before .before .before .before .before .before .before .before .before .args .lines) space)
 
 same-length : tie.Need-same-length
 same-length c = search needs
@@ -28,7 +29,7 @@ returns : tie.Need-returns
 unfolding ended
 returns c = let h = printed-most (c .before .before .before .before .before .before .before .before .before .before .before .before .before .before .args .lines) in
     let g = printed-most (c .before .before .before .before .before .before .before .before .before .before .before .before .before .before .args .broken) in
-    put-front (put-then (c .before .before .before .before .before .before .before .before .before .before .text .ensures) (put-then (c .before .before .before .before .before .before .number .ensures) (c .before .before .number2 .ensures) (simp length-append (omega arith))) (simp length-append (omega arith)))
+    put-front (put-then (put-then (c .before .before .before .before .before .before .before .before .before .before .text .ensures) (c .before .before .before .before .before .before .number .ensures) (simp length-append (omega arith))) (c .before .before .number2 .ensures) (simp length-append (omega arith)))
 
 pub end-spec : {M : Type 1} → statement M
 end-spec =

@@ -1,4 +1,4 @@
--- `listed` meets its contract: every number from that of UNREADABLE on has its name.
+-- `listed` meets its contract: a number behind the table has the name of UNREADABLE.
 -- Assumes nothing.
 use Rattle.replies.proofs.Names.{name-other}
 use native.Mathlib.Omega.{arith}

@@ -1,6 +1,6 @@
 -- `name_length` meets its contract: the code's table is `lengths`.
 -- Assumes nothing.
-use Rattle.replies.proofs.Names.{names, lengths, length-at}
+use Rattle.replies.proofs.Names.{lengths, length-at}
 use Rattle.replies.specs.Replies.{nameOf, words}
 use Rattle.replies.proofs.Names.{lengths, length-at}
 use borrow.Author.Needs.{needs}
@@ -14,7 +14,7 @@ array-read-result : tie.Need-array-read-result
 array-read-result c = search needs
 
 returns : tie.Need-returns
-unfolding lengths names nameOf words
+unfolding lengths nameOf words
 returns c = length-at _ (c .pre)
 
 pub name-length-spec : {M : Type 1} → statement M

@@ -1,6 +1,6 @@
 -- `padded` meets its contract: the code's table is `rows`, whose fronts are the words.
 -- Assumes nothing.
-use Rattle.replies.proofs.Names.{names, rows, front-at}
+use Rattle.replies.proofs.Names.{rows, front-at}
 use Rattle.replies.specs.Replies.{nameOf, words}
 use Rattle.replies.proofs.Names.{rows, front-at}
 use borrow.Author.Needs.{needs}
@@ -14,7 +14,7 @@ array-copy-out-result : tie.Need-array-copy-out-result
 array-copy-out-result c = search needs
 
 returns : tie.Need-returns
-unfolding rows names nameOf words
+unfolding rows nameOf words
 returns c = front-at _ (c .before .pre)
 
 pub padded-spec : {M : Type 1} → statement M
