@@ -12,7 +12,6 @@ use Rattle.machine.specs.Words.{wordOf, detailOf}
 use Rattle.machine.specs.State.{Value, freeRow, sessionPlace, rowOf}
 use Rattle.machine.specs.Refusals.{sealedIn}
 use Rattle.machine.specs.Test.{differs}
-use Rattle.machine.specs.declared.Answer.{Answer}
 use Rattle.machine.specs.declared.Command.{Command}
 use Rattle.machine.specs.declared.Command.the-variants.{Begin, Get, Fill, Quar, Stage, Delta, Validate, Done, Undo, Evict, Tick}
 use Rattle.layout.specs.Layout.{decode}
