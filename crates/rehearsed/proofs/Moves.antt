@@ -1,7 +1,7 @@
 -- What every command does to leases and sessions, under no rule of the clients: a lease stood before on its key, or it is the one that a GET was
 -- answered with; a session stands at its place with its number, or its number is new. Each effect reads its tables back to those before it.
 use mathlib.Core.Path.{_≡_, refl, sym, ap, _∙_}
-use mathlib.Core.Bool.{Bool, true, false}
+use mathlib.Core.Bool.{false}
 use mathlib.Core.Logic.{_⊎_, inl, inr}
 use mathlib.Core.List.{List, [], _∷_}
 use mathlib.Core.Option.{Option, none, some}

@@ -1,21 +1,21 @@
 -- What expiry leaves of a session that is live after it: it was not due, so it was live before, and its rows stand. So what a command's rule reads of
 -- it before expiry is what the machine reads after.
 use mathlib.Core.Path.{_≡_, refl, sym, ap, _∙_}
-use mathlib.Core.Bool.{Bool, true, false, not, _&&_}
+use mathlib.Core.Bool.{true, false, not, _&&_}
 use mathlib.Core.Logic.{_⊎_, inl, inr}
 use mathlib.Core.List.{List, [], _∷_, map}
 use mathlib.Core.Option.{Option, none, some}
 use Prim.Native.Nat.{ℕ}
 use borrow.Author.Tests.{eqb-true}
 use lib.Dec.{eqb}
-use Rattle.lent.specs.Tables.{if_then_else_, same}
+use Rattle.lent.specs.Tables.{same}
 use Rattle.machine.specs.Tables.{any, mem}
 use Rattle.machine.specs.Words.{wordOf}
 use Rattle.machine.specs.Session.{isDue}
 use Rattle.machine.specs.State.{Value, nothing, staged, DROP, Row, noRow, row, State, sessionPlace}
 use Rattle.machine.specs.Expiry.{freeIfOf, leave, finish, those, expire}
 use Rattle.machine.specs.Refusals.{notLive, refusals, refusal}
-use Rattle.machine.specs.Effects.{Outcome, effect}
+use Rattle.machine.specs.Effects.{effect}
 use Rattle.machine.specs.Step.{settled, step}
 use Rattle.machine.specs.Test.{differs}
 use Rattle.machine.specs.declared.Command.{Command}

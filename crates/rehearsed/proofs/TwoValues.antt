@@ -3,25 +3,25 @@
 -- only a key with one. So both forms then say the same of every event.
 use mathlib.Core.Path.{_≡_, refl, sym, ap, _∙_}
 use mathlib.Core.Bool.{Bool, true, false, not, _&&_, _||_}
-use mathlib.Core.Logic.{_⊎_, inl, inr}
+use mathlib.Core.Logic.{inl, inr}
 use mathlib.Core.List.{List, [], _∷_, List·Memᴰ, List·Memᴰ·head, List·Memᴰ·tail, List·Memᴰ·eq-of-singleton}
 use mathlib.Core.Option.{Option, none, some}
 use Prim.Native.Nat.{ℕ, _≤_}
 use native.Mathlib.Omega.{arith}
 use borrow.Author.Tests.{eqb-true, eq-eqb, ne-eqb}
 use lib.Dec.{eqb}
-use lib.ListN.{length, getD}
+use lib.ListN.{length}
 use Rattle.lent.specs.Tables.{if_then_else_, same, allZero}
 use Rattle.machine.specs.Sizes.{keyCount}
 use Rattle.machine.specs.Tables.{any}
-use Rattle.machine.specs.Words.{wordOf, detailOf}
+use Rattle.machine.specs.Words.{wordOf}
 use Rattle.machine.specs.State.{Value, Lease, Key, blank, State, fresh, leaseOn}
 use Rattle.machine.specs.Expiry.{expire}
 use Rattle.machine.specs.Refusals.{refusal}
 use Rattle.machine.specs.Effects.{Outcome, matches, fills, effect}
 use Rattle.machine.specs.Step.{settled, step}
 use Rattle.machine.specs.World.{Event, command, write, World, begun, sinceGrant, commanded, written, next, run, Holds, Kept, AllKept}
-use Rattle.machine.specs.Test.{broken, verdicts}
+use Rattle.machine.specs.Test.{broken}
 use Rattle.machine.specs.declared.Answer.{Answer}
 use Rattle.machine.specs.declared.Command.{Command}
 use Rattle.machine.specs.declared.Command.the-variants.{Begin, Get, Fill, Quar, Stage, Delta, Validate, Done, Undo, Evict, Tick}

@@ -1,11 +1,13 @@
 -- The rehearsal's run: the cache's bytes and the book, through the lines of a run after START, and the column of the rules that they break.
 use mathlib.Core.Path.{_≡_}
+use mathlib.Core.Bool.{true}
 use mathlib.Core.List.{List, [], _∷_}
 use Prim.Native.Nat.{ℕ, _≤_, _<_}
 use lib.ListN.{length}
 use Rattle.machine.specs.Sizes.{keyCount, sessionCount, valueMax}
 use Rattle.machine.specs.World.{Event, command, write, World, Consistent}
 use Rattle.layout.specs.Layout.{decode}
+use Rattle.layout.specs.WellFormed.{wellFormed}
 use Rattle.book.specs.Book.{bookSize, registered, mark, counted}
 use Rattle.rules.specs.Rules.{Said, begins, writes, commands}
 
@@ -56,8 +58,9 @@ abbrev pub AllReadable : List Event → Type 0
 AllReadable [] = Unit {0}
 AllReadable (e ∷ es) = Readable e × AllReadable es
 
--- demand 3 at one moment: the world is consistent, its cache is what the bytes say, and its register what the book says
+-- demand 3 at one moment: the world is consistent, its cache is what the well-formed bytes say, and its register what the book says
 pub record Promised (p : Pair) (w : World) : Type 0 where
   pub consistent : Consistent w
+  pub formed : wellFormed (p .cache) ≡ true
   pub cache : decode (p .cache) ≡ w .state
   pub register : (k : ℕ) → registered (p .book) k ≡ w .register k
