@@ -2,7 +2,7 @@
 -- machine's state, and the book records what the rules speak of; so each line prints the rule that its event breaks, and keeps this.
 -- A column of zeros is a run that keeps the rules, and such a run has demand 3 at each moment.
 use mathlib.Core.Path.{_≡_, refl, sym, ap, _∙_}
-use mathlib.Core.Bool.{Bool, true, false, not, _||_}
+use mathlib.Core.Bool.{Bool, true, false, not, _||_, or-false}
 use mathlib.Core.List.{List, [], _∷_, _++_}
 use Prim.Native.Nat.{ℕ}
 use native.Mathlib.Omega.{arith}
@@ -71,10 +71,6 @@ module _ (p : Pair) (w : World) (h : Tied p w) where
       let y = h .records .grants k (x .0) (x .1) in
       let old : granted (p .book) k ≡ oldest (w .register k) (w .since t k) = (y .1 ∙ oldest-any [] (w .register k) (w .since (x .0 .token) k) (y .0)) ∙ ap (λ (u : ℕ). oldest (w .register k) (w .since u k)) (x .2) in
       rw (h .records .register k, old) (ap not (ap (λ (b : Bool). same v (w .register k) || b) (sym (or-false (same v (oldest (w .register k) (w .since t k)))))))
-    where
-      or-false : (b : Bool) → (b || false) ≡ b
-      or-false true = refl
-      or-false false = refl
 
   -- rule 3: a live session is marked if the register has written for it
   wrote-as : (n : ℕ) → notLive (w .state) n ≡ false → wroteFor (p .cache) (p .book) n ≡ w .wrote n

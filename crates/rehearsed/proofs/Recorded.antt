@@ -2,7 +2,7 @@
 -- and a live session is marked exactly if the register has written for it. A mark is of a number that was given, so a session that begins at a marked
 -- place is unmarked. Each line keeps this: a command notes at most the grant that it is answered with, a write marks the session where it is live.
 use mathlib.Core.Path.{_≡_, refl, sym, ap, _∙_}
-use mathlib.Core.Bool.{Bool, true, false, not, _&&_, _||_}
+use mathlib.Core.Bool.{Bool, true, false, not, _&&_, _||_, and-false}
 use mathlib.Core.Logic.{_⊎_, inl, inr}
 use mathlib.Core.List.{List, [], _∷_}
 use mathlib.Core.Option.{some}
@@ -176,10 +176,6 @@ module _ (b : List ℕ) (w : World) (h : Recorded b w) (state-sound : sound (w .
     wrote = λ m p. h .wrote m (sym (was m) ∙ p);
   }
     where
-      and-false : (t : Bool) → (t && false) ≡ false
-      and-false true = refl
-      and-false false = refl
-
       was : (m : ℕ) → wroteNow m ≡ w .wrote m
       was m = rw (e, and-false (eqb m n))
 

@@ -2,7 +2,7 @@
 -- by every write so far, all that the register has held since a live lease's grant is what it holds now: a leased key has no row, and rule 2 writes
 -- only a key with one. So both forms then say the same of every event.
 use mathlib.Core.Path.{_≡_, refl, sym, ap, _∙_}
-use mathlib.Core.Bool.{Bool, true, false, not, _&&_, _||_}
+use mathlib.Core.Bool.{Bool, true, false, not, _&&_, or-false, or-self}
 use mathlib.Core.Logic.{inl, inr}
 use mathlib.Core.List.{List, [], _∷_, List·Memᴰ, List·Memᴰ·head, List·Memᴰ·tail, List·Memᴰ·eq-of-singleton}
 use mathlib.Core.Option.{Option, none, some}
@@ -67,15 +67,7 @@ level-oldest r v (x ∷ l) e f = level-oldest r x l (f x (List·Memᴰ·head ref
 level-any : (v r : Value) (l : List Value) → 1 ≤ length l → Level r l → any (same v) l ≡ same v r
 level-any v r [] h f = absurd (omega arith)
 level-any v r (x ∷ []) h f = rw (f x (List·Memᴰ·head refl)) (or-false (same v r))
-  where
-    or-false : (b : Bool) → (b || false) ≡ b
-    or-false true = refl
-    or-false false = refl
-level-any v r (x ∷ (y ∷ l)) h f = rw (f x (List·Memᴰ·head refl), level-any v r (y ∷ l) (omega arith) (λ u m. f u (List·Memᴰ·tail m))) (twice (same v r))
-  where
-    twice : (b : Bool) → (b || b) ≡ b
-    twice true = refl
-    twice false = refl
+level-any v r (x ∷ (y ∷ l)) h f = rw (f x (List·Memᴰ·head refl), level-any v r (y ∷ l) (omega arith) (λ u m. f u (List·Memᴰ·tail m))) (or-self (same v r))
 
 -- FILL answered STORED: the key has the token's lease
 
