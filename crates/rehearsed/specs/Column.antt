@@ -43,7 +43,7 @@ column p (e ∷ es) = ruleAt p e ∷ column (after p e) es
 abbrev pub startedPair : List ℕ → List ℕ → ℕ → ℕ → Pair
 startedPair x b readLife writeLife = left (begins x b readLife writeLife)
 
--- a book that no line since has written in but to count it: no value is registered, and no session is marked
+-- a new book, in which lines are at most counted: no value is registered, and no session is marked
 pub record NewBook (b : List ℕ) : Type 0 where
   pub size : length b ≡ bookSize
   pub empty : (k : ℕ) → registered b k ≡ []
