@@ -9,6 +9,7 @@ use lib.Dec.{eqb}
 use borrow.Author.Tests.{eq-eqb, ne-eqb}
 use Rattle.lent.specs.Tables.{if_then_else_, same}
 use Rattle.lent.proofs.Choices.{if-same}
+use Rattle.machine.specs.Sizes.{keyCount}
 use Rattle.machine.specs.State.{Value}
 use Rattle.machine.specs.Words.{wordOf, detailOf}
 use Rattle.machine.specs.declared.Answer.{Answer}
@@ -19,7 +20,7 @@ use Rattle.startup.specs.Start.{Reply, startOf}
 use Rattle.words.specs.Place.{placeOf}
 use Rattle.cache.specs.Run.{ran}
 use Rattle.book.specs.Book.{withStarted, registered, granted, withRegistered, withGranted}
-use Rattle.rules.specs.Rules.{answered, begins, mayWrite, marked, writes, wroteFor, staleFor, ruleOf, noted, commands}
+use Rattle.rules.specs.Rules.{writtenWord, unreadableWord, answered, begins, mayWrite, marked, writes, wroteFor, staleFor, ruleOf, noted, commands}
 use Rattle.rules.specs.Says.{toldOf, Says}
 use Rattle.rules.specs.Tests.{riskOf, watched, asksFor}
 use Rattle.rules.proofs.Hits.{Within, ran-within, start-within}
@@ -36,17 +37,17 @@ counts-not true false n = refl
 counts-not false u n = refl
 
 rule-is : (x b : List ℕ) (c : Command) (v : Value) (w : ℕ) → ruleOf x b c v w ≡ (if eqb w (watched c) then riskOf x b c v else 0)
-rule-is x b Begin v w = sym (if-same (eqb w 25) 0)
-rule-is x b (Get n k) v w = sym (if-same (eqb w 25) 0)
+rule-is x b Begin v w = sym (if-same (eqb w unreadableWord) 0)
+rule-is x b (Get n k) v w = sym (if-same (eqb w unreadableWord) 0)
 rule-is x b (Fill t k) v w = counts-not (eqb w 7) (same v (registered b k) || same v (granted b k)) 1
-rule-is x b (Quar n k d) v w = sym (if-same (eqb w 25) 0)
-rule-is x b (Stage n i k) v w = sym (if-same (eqb w 25) 0)
-rule-is x b (Delta n i k o) v w = sym (if-same (eqb w 25) 0)
-rule-is x b (Validate n m) v w = sym (if-same (eqb w 25) 0)
+rule-is x b (Quar n k d) v w = sym (if-same (eqb w unreadableWord) 0)
+rule-is x b (Stage n i k) v w = sym (if-same (eqb w unreadableWord) 0)
+rule-is x b (Delta n i k o) v w = sym (if-same (eqb w unreadableWord) 0)
+rule-is x b (Validate n m) v w = sym (if-same (eqb w unreadableWord) 0)
 rule-is x b (Done n) v w = counts (eqb w 17) (staleFor x b n) 4
 rule-is x b (Undo n) v w = counts (eqb w 18) (wroteFor x b n) 3
-rule-is x b (Evict k) v w = sym (if-same (eqb w 25) 0)
-rule-is x b Tick v w = sym (if-same (eqb w 25) 0)
+rule-is x b (Evict k) v w = sym (if-same (eqb w unreadableWord) 0)
+rule-is x b Tick v w = sym (if-same (eqb w unreadableWord) 0)
 
 -- no rule counts at a refusal
 unwatched : (c : Command) → eqb 0 (watched c) ≡ false
@@ -74,12 +75,12 @@ rule-told x b now c v risk w e f = go (wellFormed x) refl ∙ sym (rule-is x b c
 
 -- ---- a grant, by its key
 
-no-key : (b : List ℕ) (v : Value) → withGranted b 256 v ≡ b
+no-key : (b : List ℕ) (v : Value) → withGranted b keyCount v ≡ b
 unfolding withGranted
 no-key b v = refl
 
-noted-other : (b : List ℕ) (w : ℕ) → b ≡ (if eqb w 6 then withGranted b 256 (registered b 256) else b)
-noted-other b w = rw (no-key b (registered b 256)) (sym (if-same (eqb w 6) b))
+noted-other : (b : List ℕ) (w : ℕ) → b ≡ (if eqb w 6 then withGranted b keyCount (registered b keyCount) else b)
+noted-other b w = rw (no-key b (registered b keyCount)) (sym (if-same (eqb w 6) b))
 
 noted-is : (b : List ℕ) (c : Command) (w : ℕ) → noted b c w ≡ (if eqb w 6 then withGranted b (asksFor c) (registered b (asksFor c)) else b)
 noted-is b Begin w = noted-other b w
@@ -130,7 +131,7 @@ module _ (x b : List ℕ) (readLife writeLife : ℕ) (a : Answer) (x′ : List �
   begin-ready h b′ g = begin-says b′ (g ∙ rw (eq-eqb (wordOf a) 1 h))
 
 pub write-says : (x b : List ℕ) (n k : ℕ) (v : Value) (rule : ℕ) (b₁ b′ : List ℕ) → rule ≡ (if mayWrite x n k then 0 else 2) → b₁ ≡ marked x b n → b′ ≡ withRegistered b₁ k v
-    → Says (writes x b n k v) 0 (record { word = 24; detail = 0; at = 0; rule = rule }) x b′
+    → Says (writes x b n k v) 0 (record { word = writtenWord; detail = 0; at = 0; rule = rule }) x b′
 unfolding writes
 write-says x b n k v rule b₁ b′ e f g = record {
   word = refl;
