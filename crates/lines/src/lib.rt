@@ -264,10 +264,10 @@ fn start(line: &[u8], at: usize) -> Line
     let Four::Are(read, write, _, _, next) = numbers(line, at, 2) else {
         return Line::Unreadable;
     };
-    if next <= line.len() {
-        return Line::Unreadable;
+    if line.len() < next {
+        return Line::Start { read, write };
     }
-    Line::Start { read, write }
+    Line::Unreadable
 }
 
 // A register write: what follows its letter from a place on.
