@@ -1,6 +1,5 @@
 // Lines of the rehearsal: what an input line says.
 ghost use mathlib.Core.Path.{_≡_};
-ghost use mathlib.Core.Bool.{true};
 ghost use Prim.Native.Nat.{_≤_};
 ghost use lib.ListN.{length};
 ghost use Rattle.lent.specs.Bytes.{splice};
