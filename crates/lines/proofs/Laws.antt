@@ -3,7 +3,7 @@
 use mathlib.Core.Path.{_≡_, refl}
 use mathlib.Core.Bool.{Bool, true, false}
 use mathlib.Core.List.{List, [], _∷_}
-use mathlib.Core.Option.{Option, none, some}
+use mathlib.Core.Option.{Option, none, some, Option·none-ne-some}
 use Prim.Native.Nat.{ℕ, _≤_}
 use native.Mathlib.Omega.{arith}
 use lib.Dec.{eqb, ltb}
@@ -49,19 +49,19 @@ module _ (most : ℕ) (v : List ℕ) where
   Said = (length v ≤ most) × Bytes v
 
   within : (f w : List ℕ) (t : Bool) → ltb most (length w) ≡ t → readHex f ≡ some w → (if t then none else some w) ≡ some v → Said
-  within f w true q e h = absurd (let z : _≡_ {A = ℕ} 0 1 = cc in omega arith)
+  within f w true q e h = absurd (Option·none-ne-some v h)
   within f w false q e h =
       let p : w ≡ v = cc in
       rw (← p) (ltb-false most (length w) q, read-bytes f w e)
 
   one-value : (f : List ℕ) (o : Option (List ℕ)) → readHex f ≡ o → upTo most o ≡ some v → Said
-  one-value f none e h = absurd (let z : _≡_ {A = ℕ} 0 1 = cc in omega arith)
+  one-value f none e h = absurd (Option·none-ne-some v h)
   one-value f (some w) e h = within f w (ltb most (length w)) refl e h
 
   value-said : (fs : List Field) → lastValue most fs ≡ some v → Said
-  value-said [] h = absurd (let z : _≡_ {A = ℕ} 0 1 = cc in omega arith)
+  value-said [] h = absurd (Option·none-ne-some v h)
   value-said (f ∷ []) h = one-value f (readHex f) refl h
-  value-said (f ∷ g ∷ fs) h = absurd (let z : _≡_ {A = ℕ} 0 1 = cc in omega arith)
+  value-said (f ∷ g ∷ fs) h = absurd (Option·none-ne-some v h)
 
 -- ---- the three forms
 

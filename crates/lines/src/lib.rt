@@ -1,6 +1,5 @@
 // Lines of the rehearsal: what an input line says.
 ghost use mathlib.Core.Path.{_≡_};
-ghost use mathlib.Core.Bool.{true};
 ghost use Prim.Native.Nat.{_≤_};
 ghost use lib.ListN.{length};
 ghost use Rattle.lent.specs.Bytes.{splice};
@@ -264,10 +263,10 @@ fn start(line: &[u8], at: usize) -> Line
     let Four::Are(read, write, _, _, next) = numbers(line, at, 2) else {
         return Line::Unreadable;
     };
-    if next <= line.len() {
-        return Line::Unreadable;
+    if line.len() < next {
+        return Line::Start { read, write };
     }
-    Line::Start { read, write }
+    Line::Unreadable
 }
 
 // A register write: what follows its letter from a place on.
