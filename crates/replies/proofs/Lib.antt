@@ -1,3 +1,3 @@
-pub mod Lines
 pub mod Names
+pub mod Lines
 pub mod Laws

@@ -18,7 +18,9 @@ use Rattle.counts.proofs.Decimal.{decimal-most}
 use Rattle.counts.proofs.Laws.{written-room}
 use Rattle.machine.specs.Sizes.{valueMax}
 use Rattle.hex.proofs.Printing.{hex-most}
-use Rattle.replies.specs.Replies.{detailMax, printed, numbered, valued, detailed, field, Put}
+use Rattle.replies.specs.Text.{ascii, space, newline}
+use Rattle.replies.specs.Replies.{lineRoom, detailMax, nameOf, printed, numbered, valued, detailed, field, replied, ended, Put}
+use Rattle.replies.proofs.Names.{name-most}
 
 -- ---- one field behind the other
 
@@ -95,3 +97,26 @@ module _ (word : ℕ) where
       let c : word ≡ 5 → ⊥ = λ e. ⊎-elim (λ l. omega arith) (λ l. omega arith) h in
       let d : word ≡ 6 → ⊥ = λ e. ⊎-elim (λ l. omega arith) (λ l. omega arith) h in
       rw (ne-eqb word 0 (λ e. f (inl e)), ne-eqb word 2 (λ e. f (inr e)), ne-eqb word 5 c, ne-eqb word 6 d)
+
+-- ---- whole lines
+
+pub reply-put : {s t u v q : List ℕ} {a b c r : ℕ} (line word detail : ℕ) (value : List ℕ) (rule : ℕ) → lineRoom ≤ length s → length value ≤ valueMax
+    → Put s 0 (field (printed line) space) a t → Put t a (field (nameOf word) space) b u
+    → Put u b (field (detailed word detail value) space) c v → Put v c (field (printed rule) newline) r q
+    → (r ≡ length (replied line word detail value rule)) × (q ≡ splice s 0 (replied line word detail value rule))
+unfolding replied
+reply-put {s} {t} {u} {v} {q} {a} {b} {c} {r} line word detail value rule h l e f g k =
+    let m = printed-most line in
+    let n = name-most word in
+    let o = detail-most word detail value l in
+    let p = printed-most rule in
+    put-front (put-then (put-then (put-then e f (simp length-append (omega arith))) g (simp length-append (omega arith))) k (simp length-append (omega arith)))
+
+pub end-put : {s t u q : List ℕ} {a b r : ℕ} (lines broken : ℕ) → lineRoom ≤ length s
+    → Put s 0 (field (ascii "end") space) a t → Put t a (field (printed lines) space) b u → Put u b (field (printed broken) newline) r q
+    → (r ≡ length (ended lines broken)) × (q ≡ splice s 0 (ended lines broken))
+unfolding ended
+end-put {s} {t} {u} {q} {a} {b} {r} lines broken h e f g =
+    let m = printed-most lines in
+    let n = printed-most broken in
+    put-front (put-then (put-then e f (simp length-append (omega arith))) g (simp length-append (omega arith)))

@@ -1,9 +1,6 @@
 -- `end` meets its contract: the three fields stand one behind the other.
 -- Assumes nothing.
-use Rattle.replies.proofs.Lines.{put-then, put-front, number-most, printed-most}
-use lib.ListN.{length-append}
-use Rattle.replies.specs.Replies.{ended}
-use Rattle.replies.proofs.Lines.{put-then, put-front, number-most}
+use Rattle.replies.proofs.Lines.{end-put, number-most}
 use native.Mathlib.Omega.{arith}
 use borrow.Author.Needs.{needs}
 use Rattle.replies.specs.Text.{space}
@@ -26,10 +23,9 @@ same-length : tie.Need-same-length
 same-length c = search needs
 
 returns : tie.Need-returns
-unfolding ended
-returns c = let h = printed-most (c .before .before .before .before .before .before .before .before .before .before .before .before .before .before .args .lines) in
-    let g = printed-most (c .before .before .before .before .before .before .before .before .before .before .before .before .before .before .args .broken) in
-    put-front (put-then (put-then (c .before .before .before .before .before .before .before .before .before .before .text .ensures) (c .before .before .before .before .before .before .number .ensures) (simp length-append (omega arith))) (c .before .before .number2 .ensures) (simp length-append (omega arith)))
+returns c =
+    end-put (c .before .before .before .before .before .before .before .before .before .before .before .before .before .before .args .lines) (c .before .before .before .before .before .before .before .before .before .before .before .before .before .before .args .broken) (c .before .before .before .before .before .before .before .before .before .before .before .before .before .before .pre)
+    (c .before .before .before .before .before .before .before .before .before .before .text .ensures) (c .before .before .before .before .before .before .number .ensures) (c .before .before .number2 .ensures)
 
 pub end-spec : {M : Type 1} → statement M
 end-spec =

@@ -2,7 +2,6 @@
 -- Assumes nothing.
 use Rattle.replies.proofs.Names.{lengths, length-at}
 use Rattle.replies.specs.Replies.{nameOf, words}
-use Rattle.replies.proofs.Names.{lengths, length-at}
 use borrow.Author.Needs.{needs}
 use Rattle.replies.proofs.name_length.Statement.{statement}
 use Rattle.replies.proofs.name_length.Tie as tie

@@ -2,7 +2,6 @@
 -- Assumes nothing.
 use Rattle.replies.proofs.Names.{rows, front-at}
 use Rattle.replies.specs.Replies.{nameOf, words}
-use Rattle.replies.proofs.Names.{rows, front-at}
 use borrow.Author.Needs.{needs}
 use Rattle.replies.proofs.padded.Statement.{statement}
 use Rattle.replies.proofs.padded.Tie as tie

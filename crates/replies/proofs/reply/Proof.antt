@@ -1,10 +1,9 @@
 -- `reply` meets its contract: the four fields stand one behind the other, and no line is longer than its room.
 -- Assumes nothing.
 use native.Mathlib.Omega.{arith}
-use lib.ListN.{length-append}
-use Rattle.replies.specs.Replies.{nameOf, detailed, replied}
+use Rattle.replies.specs.Replies.{nameOf, detailed}
 use Rattle.replies.proofs.Names.{name-most}
-use Rattle.replies.proofs.Lines.{put-then, put-front, printed-most, number-most, detail-most, field-length}
+use Rattle.replies.proofs.Lines.{reply-put, number-most, detail-most, field-length}
 use borrow.Author.Needs.{needs}
 use Rattle.replies.specs.Text.{space}
 use Rattle.replies.proofs.reply.Statement.{statement}
@@ -27,12 +26,9 @@ same-length : tie.Need-same-length
 same-length c = search needs
 
 returns : tie.Need-returns
-unfolding replied
-returns c = let a = printed-most (c .before .before .before .before .before .before .before .before .before .before .before .before .before .before .before .before .before .before .args .line) in
-    let b = name-most (c .before .before .before .before .before .before .before .before .before .before .before .before .before .before .before .before .before .before .args .word) in
-    let d = detail-most (c .before .before .before .before .before .before .before .before .before .before .before .before .before .before .before .before .before .before .args .word) (c .before .before .before .before .before .before .before .before .before .before .before .before .before .before .before .before .before .before .args .detail) (c .before .before .before .before .before .before .before .before .before .before .before .before .before .before .before .before .before .before .args .value .now) (c .before .before .before .before .before .before .before .before .before .before .before .before .before .before .before .before .before .before .pre .1) in
-    let e = printed-most (c .before .before .before .before .before .before .before .before .before .before .before .before .before .before .before .before .before .before .args .rule) in
-    put-front (put-then (put-then (put-then (c .before .before .before .before .before .before .before .before .before .before .before .before .before .before .number .ensures) (c .before .before .before .before .before .before .before .before .before .before .name .ensures) (simp length-append (omega arith))) (c .before .before .before .before .before .before .detail-field .ensures) (simp length-append (omega arith))) (c .before .before .number2 .ensures) (simp length-append (omega arith)))
+returns c =
+    reply-put (c .before .before .before .before .before .before .before .before .before .before .before .before .before .before .before .before .before .before .args .line) (c .before .before .before .before .before .before .before .before .before .before .before .before .before .before .before .before .before .before .args .word) (c .before .before .before .before .before .before .before .before .before .before .before .before .before .before .before .before .before .before .args .detail) (c .before .before .before .before .before .before .before .before .before .before .before .before .before .before .before .before .before .before .args .value .now) (c .before .before .before .before .before .before .before .before .before .before .before .before .before .before .before .before .before .before .args .rule) (c .before .before .before .before .before .before .before .before .before .before .before .before .before .before .before .before .before .before .pre .0) (c .before .before .before .before .before .before .before .before .before .before .before .before .before .before .before .before .before .before .pre .1)
+    (c .before .before .before .before .before .before .before .before .before .before .before .before .before .before .number .ensures) (c .before .before .before .before .before .before .before .before .before .before .name .ensures) (c .before .before .before .before .before .before .detail-field .ensures) (c .before .before .number2 .ensures)
 
 pub reply-spec : {M : Type 1} → statement M
 reply-spec =
