@@ -69,8 +69,8 @@ unfoldable pub endOf : List ℕ → List ℕ → Left
 endOf b out = if lentRight b out then wrote (record { text = ended (linesIn b) (brokenIn b); cache = []; book = b }) out else record { length = 0; cache = []; book = b; out = out }
 
 -- r and the three buffers are what is left
-pub record Leaves (l : Left) (r : ℕ) (x b out : List ℕ) : Type 0 where
+pub record Leaves (l : Left) (r : ℕ) (x b o : List ℕ) : Type 0 where
   pub length : r ≡ l .length
   pub cache : x ≡ l .cache
   pub book : b ≡ l .book
-  pub out : out ≡ l .out
+  pub out : o ≡ l .out

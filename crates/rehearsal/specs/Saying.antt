@@ -28,8 +28,8 @@ handed r x = if eqb (r .word) 3 then win x (r .at) (r .detail) else []
 abbrev pub textOf : Said → List ℕ → List ℕ → List ℕ
 textOf r x b = replied (linesIn b) (r .word) (r .detail) (handed r x) (r .rule)
 
--- the line is counted in the book b, and its text of length n stands at the front of out
-pub record Prints (r : Said) (x b out : List ℕ) (n : ℕ) (b′ out′ : List ℕ) : Type 0 where
+-- the line is counted in the book b, and its text of length n stands at the front of o
+pub record Prints (r : Said) (x b o : List ℕ) (n : ℕ) (b′ o′ : List ℕ) : Type 0 where
   pub book : b′ ≡ counted b (r .rule)
-  pub length : n ≡ length (textOf r x b′)
-  pub out : out′ ≡ splice out 0 (textOf r x b′)
+  pub size : n ≡ length (textOf r x b′)
+  pub out : o′ ≡ splice o 0 (textOf r x b′)
