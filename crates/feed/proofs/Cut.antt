@@ -5,7 +5,7 @@ use mathlib.Core.Path.{_≡_, refl, sym, ap, _∙_}
 use mathlib.Core.Bool.{Bool, true, false}
 use mathlib.Core.List.{List, [], _∷_, _++_, map, append-assoc, append-nil}
 use Prim.Native.Nat.{ℕ}
-use lib.ListN.{take}
+use lib.ListN.{length, take}
 use lib.Dec.{eqb}
 use Rattle.lent.specs.Tables.{if_then_else_}
 use Rattle.feed.specs.Lines.{newline, heldMax, onto, linesOf, handed}
@@ -43,12 +43,12 @@ module _ {W : Type 0} (answer : W → List ℕ → Said W) where
   unfolding fed
   whole-cons o b bs = rw append-assoc
 
-  byte-newline : (w : W) (h : List ℕ) (b : ℕ) → eqb b newline ≡ true
+  pub byte-newline : (w : W) (h : List ℕ) (b : ℕ) → eqb b newline ≡ true
       → byte answer (opened w h) b ≡ record { world = opened (answer w h .world) []; text = answer w h .text }
   unfolding byte
   byte-newline w h b e = rw e
 
-  byte-other : (w : W) (h : List ℕ) (b : ℕ) → eqb b newline ≡ false
+  pub byte-other : (w : W) (h : List ℕ) (b : ℕ) → eqb b newline ≡ false
       → byte answer (opened w h) b ≡ record { world = opened w (take heldMax (h ++ b ∷ [])); text = [] }
   unfolding byte
   byte-other w h b e = rw e
@@ -81,6 +81,10 @@ module _ {W : Type 0} (answer : W → List ℕ → Said W) where
   unfolding handed
   whole-lines w bs = joined-lines w [] bs
 
+  pub fed-none : (o : Open W) → fed answer o [] ≡ record { world = o; text = [] }
+  unfolding fed
+  fed-none o = refl
+
   -- an input that comes in two parts
   pub fed-append : (o : Open W) (xs ys : List ℕ) → fed answer o (xs ++ ys) ≡ behind (fed answer o xs .text) (fed answer (fed answer o xs .world) ys)
   unfolding fed
@@ -91,3 +95,13 @@ module _ {W : Type 0} (answer : W → List ℕ → Said W) where
       → fed answer o (xs ++ b ∷ []) ≡ behind (fed answer o xs .text) s
   unfolding fed
   fed-more o xs b s e = fed-append o xs (b ∷ []) ∙ rw (e, append-nil)
+
+  -- the end of the input where bytes are held
+  pub last-line : (w : W) (h : List ℕ) → (length h ≡ 0 → ⊥) → last answer w h ≡ answer w h
+  unfolding last
+  last-line w [] f = absurd (f refl)
+  last-line w (b ∷ h) f = refl
+
+  pub last-none : (w : W) → last answer w [] ≡ record { world = w; text = [] }
+  unfolding last
+  last-none w = refl
