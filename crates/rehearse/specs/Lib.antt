@@ -1,2 +1,1 @@
-pub mod World
-pub mod Leaves
+pub mod Turns

@@ -1,11 +1,10 @@
 // The rehearsal: lines from standard input, an output line for each to standard output, and the end line.
-mod script;
-
 ghost use mathlib.Core.Path.{_≡_};
 ghost use Prim.Native.Nat.{_+_, _≤_};
 ghost use lib.ListN.{length};
 ghost use Rattle.feed.specs.Lines.{heldMax};
-ghost use Rattle.rehearse.specs.Leaves.{textMax, worldOf, opened, Holds, Poured, Turned, Rehearsed};
+ghost use Rattle.script.specs.Buffers.{textMax, worldOf, opened, Holds};
+ghost use Rattle.rehearse.specs.Turns.{Poured, Turned, Rehearsed};
 use libc::STDERR_FILENO;
 use libc::STDIN_FILENO;
 use libc::STDOUT_FILENO;

@@ -1,3 +1,5 @@
+-- `pour` meets its contract: the chunk's bytes before `from` are answered, and each stretch takes at least one more.
+-- Assumes nothing.
 use borrow.Author.Needs.{needs}
 use Prim.Native.Nat.{_-_, _≤_}
 use mathlib.Core.Path.{_≡_, refl, sym, ap, _∙_}
@@ -6,10 +8,10 @@ use lib.ListN.{length, take}
 use lib.Seq.{length-take-le, take-length}
 use Rattle.feed.specs.Answers.{fed}
 use Rattle.feed.proofs.Cut.{fed-none}
-use Rattle.rehearse.specs.World.{answerLine}
-use Rattle.rehearse.specs.Leaves.{opened, Holds}
-use Rattle.rehearse.proofs.Prints.{printed-length}
-use Rattle.rehearse.proofs.Stretches.{stretched-on, poured-on}
+use Rattle.script.specs.World.{answerLine}
+use Rattle.script.specs.Buffers.{opened, Holds}
+use Rattle.script.proofs.Prints.{printed-length}
+use Rattle.script.proofs.Stretches.{stretched-on, poured-on}
 use Rattle.rehearse.proofs.pour.Statement.{statement}
 use Rattle.rehearse.proofs.pour.Tie as tie
 
@@ -23,13 +25,13 @@ loop-holds : tie.Need-loop-holds Inv-loop μ-loop
 loop-holds c = (refl, (refl, (refl, (search needs, (c .before .before .before .before .before .pre .1, rw (fed-none answerLine (opened (c .before .before .before .before .before .args .cache .now) (c .before .before .before .before .before .args .book .now) (c .before .before .before .before .before .args .line .now) (c .before .before .before .before .before .args .held))))))))
 
 stretch-requires : tie.Need-stretch-requires Inv-loop μ-loop
-stretch-requires c κs = let l = c .before .before .before .before .before .loop .inv .1 .1 .0 in (omega (arith, c .before .before .before .before .before .before .before .before .before .before .before .pre .0), (c .before .before .before .before .before .loop .inv .1 .1 .1 .0, c .before .before .before .before .before .loop .inv .1 .1 .1 .1 .0))
+stretch-requires c κs = (c .before .before .before .before .before .loop .inv .1 .1 .1 .0, c .before .before .before .before .before .loop .inv .1 .1 .1 .1 .0)
 
 slice-reshare-prefix-write-all : tie.Need-slice-reshare-prefix-write-all Inv-loop μ-loop
-slice-reshare-prefix-write-all c = let l = printed-length (c .before .before .before .before .before .before .before .before .stretch .ensures .0 .reaches .printed) in omega (arith, c .before .before .before .before .before .before .before .before .stretch .ensures .0 .reaches .printed .fits)
+slice-reshare-prefix-write-all c = let l = printed-length (c .before .before .before .before .before .before .before .before .stretch .ensures .0 .reaches .says .printed) in omega (arith, c .before .before .before .before .before .before .before .before .stretch .ensures .0 .reaches .says .printed .fits)
 
 slice-aggregate-write-all : tie.Need-slice-aggregate-write-all Inv-loop μ-loop
-slice-aggregate-write-all c = let l = printed-length (c .before .before .before .before .before .before .before .before .before .stretch .ensures .0 .reaches .printed) in sym (length-take-le _ _ (omega (arith, c .before .before .before .before .before .before .before .before .before .stretch .ensures .0 .reaches .printed .fits)))
+slice-aggregate-write-all c = let l = printed-length (c .before .before .before .before .before .before .before .before .before .stretch .ensures .0 .reaches .says .printed) in sym (length-take-le _ _ (omega (arith, c .before .before .before .before .before .before .before .before .before .stretch .ensures .0 .reaches .says .printed .fits)))
 
 write-all-requires : tie.Need-write-all-requires Inv-loop μ-loop
 write-all-requires c κs = search needs

@@ -1,4 +1,6 @@
-use Rattle.rehearse.specs.Leaves.{opened}
+-- `turn` meets its contract: what was read is the front of the chunk, which `pour` answers.
+-- Assumes nothing.
+use Rattle.script.specs.Buffers.{opened}
 use Rattle.rehearse.proofs.Runs.{poured-turned}
 use borrow.Author.Needs.{needs}
 use Rattle.rehearse.proofs.turn.Statement.{statement}

@@ -1,11 +1,13 @@
+-- `answer` prints the library's output line, which fits the part that is lent for it.
+-- Assumes nothing.
 use mathlib.Core.Path.{refl}
 use native.Mathlib.Omega.{arith}
 use Rattle.rehearsal.specs.Stand.{lineText}
-use Rattle.rehearse.specs.World.{answerLine}
-use Rattle.rehearse.proofs.Library.{line-fits, text-printed}
+use Rattle.script.specs.World.{answerLine}
+use Rattle.script.proofs.Library.{line-fits, text-printed}
 use borrow.Author.Needs.{needs}
-use Rattle.rehearse.proofs.script.answer.Statement.{statement}
-use Rattle.rehearse.proofs.script.answer.Tie as tie
+use Rattle.script.proofs.answer.Statement.{statement}
+use Rattle.script.proofs.answer.Tie as tie
 
 add-until : tie.Need-add-until
 add-until c = search needs
@@ -36,10 +38,8 @@ same-length-3 c = search needs
 
 returns : tie.Need-returns
 unfolding answerLine
-returns c = let p = text-printed (c .before .before .before .before .before .before .before .before .before .before .before .before .before .before .args .out .now) (lineText (c .before .before .before .before .before .before .before .before .before .before .before .before .before .before .args .line .now)) _ (c .before .before .before .before .before .before .before .before .before .before .before .before .before .before .args .put) _ (c .before .before .before .before .before .before .before .before .before .before .before .before .before .before .pre) (line-fits (c .before .before .before .before .before .before .before .before .before .before .before .before .before .before .args .line .now)) (c .before .before .before .before .before .before .line .ensures .0) in let q = line-fits (c .before .before .before .before .before .before .before .before .before .before .before .before .before .before .args .line .now) in (
-  p,
-  (rw (c .before .before .before .before .before .before .line .ensures .1 .0, c .before .before .before .before .before .before .line .ensures .1 .1), omega arith),
-)
+returns c = let p = text-printed (c .before .before .before .before .before .before .before .before .before .before .before .before .before .before .args .out .now) (lineText (c .before .before .before .before .before .before .before .before .before .before .before .before .before .before .args .line .now)) _ (c .before .before .before .before .before .before .before .before .before .before .before .before .before .before .args .put) _ (c .before .before .before .before .before .before .before .before .before .before .before .before .before .before .pre) (line-fits (c .before .before .before .before .before .before .before .before .before .before .before .before .before .before .args .line .now)) (c .before .before .before .before .before .before .line .ensures .0) in let q = line-fits (c .before .before .before .before .before .before .before .before .before .before .before .before .before .before .args .line .now) in
+    (record { world = rw (c .before .before .before .before .before .before .line .ensures .1 .0, c .before .before .before .before .before .before .line .ensures .1 .1); printed = p }, omega arith)
 
 pub answer-spec : {M : Type 1} → statement M
 answer-spec =

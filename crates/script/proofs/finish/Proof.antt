@@ -1,11 +1,13 @@
-use Rattle.rehearse.proofs.Prints.{printed-length}
+-- `finish` meets its contract: where bytes are held they are a last line, and the end line stands behind its answer.
+-- Assumes nothing.
 use mathlib.Core.Path.{sym}
 use lib.Seq.{length-take-le}
 use native.Mathlib.Omega.{arith}
-use Rattle.rehearse.proofs.Steps.{finish-none, finish-line}
+use Rattle.script.proofs.Steps.{finish-none, finish-line}
+use Rattle.script.proofs.Prints.{printed-length}
 use borrow.Author.Needs.{needs}
-use Rattle.rehearse.proofs.script.finish.Statement.{statement}
-use Rattle.rehearse.proofs.script.finish.Tie as tie
+use Rattle.script.proofs.finish.Statement.{statement}
+use Rattle.script.proofs.finish.Tie as tie
 
 end-requires : tie.Need-end-requires
 end-requires c κs = search needs
@@ -29,7 +31,7 @@ answer-requires : tie.Need-answer-requires
 answer-requires c κs = search needs
 
 end-requires-2 : tie.Need-end-requires-2
-end-requires-2 c κs = let l = printed-length (c .before .before .before .before .before .before .before .before .before .answer .ensures .0) in omega (arith, c .before .before .before .before .before .before .before .before .before .answer .ensures .1 .1)
+end-requires-2 c κs = let l = printed-length (c .before .before .before .before .before .before .before .before .before .answer .ensures .0 .printed) in omega (arith, c .before .before .before .before .before .before .before .before .before .answer .ensures .1)
 
 same-length-4 : tie.Need-same-length-4
 same-length-4 c = search needs
@@ -41,7 +43,7 @@ same-length-6 : tie.Need-same-length-6
 same-length-6 c = search needs
 
 returns-2 : tie.Need-returns-2
-returns-2 c = finish-line _ _ _ _ _ (c .before .before .before .before .before .before .before .before .before .before .before .before .before .before .before .before .before .before .before .before .before .before .pre .1) _ _ _ _ _ _ (c .before .before .before .before .before .before .before .before .before .before .before .before .before .before .before .before .before .if1 .left) (c .before .before .before .before .before .before .before .before .before .before .before .before .answer .ensures .0) (c .before .before .before .before .before .before .before .before .before .before .before .before .answer .ensures .1 .0) (c .before .before .end2 .ensures)
+returns-2 c = finish-line _ _ _ _ _ (c .before .before .before .before .before .before .before .before .before .before .before .before .before .before .before .before .before .before .before .before .before .before .pre .1) _ _ _ _ _ _ (c .before .before .before .before .before .before .before .before .before .before .before .before .before .before .before .before .before .if1 .left) (c .before .before .before .before .before .before .before .before .before .before .before .before .answer .ensures .0) (c .before .before .end2 .ensures)
 
 pub finish-spec : {M : Type 1} → statement M
 finish-spec =

@@ -12,8 +12,8 @@ use Rattle.lent.specs.Bytes.{splice, win}
 use Rattle.lent.specs.Tables.{if_then_else_}
 use Rattle.lent.proofs.Splice.{length-win, part-win}
 use Rattle.rehearsal.specs.Stand.{printed, lineText, endText}
-use Rattle.rehearse.specs.Leaves.{textMax, Printed}
-use Rattle.rehearse.proofs.Prints.{printed-part}
+use Rattle.script.specs.Buffers.{textMax, Printed}
+use Rattle.script.proofs.Prints.{printed-part}
 
 pub line-fits : (l : List ℕ) → length (lineText l) ≤ textMax
 unfolding lineText

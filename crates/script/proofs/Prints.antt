@@ -8,7 +8,7 @@ use native.Mathlib.Omega.{arith}
 use lib.ListN.{length, take, drop, length-append}
 use Rattle.lent.specs.Bytes.{splice, win}
 use Rattle.lent.proofs.Splice.{length-win, length-splice, splice-none, splice-next, splice-win, part-win, part-splice}
-use Rattle.rehearse.specs.Leaves.{textMax, Printed}
+use Rattle.script.specs.Buffers.{textMax, Printed}
 
 -- a text at the front of the part that was lent
 pub printed-part : (out text x : List ℕ) (put r : ℕ) → put + textMax ≤ length out

@@ -1,13 +1,12 @@
-use mathlib.Core.List.{[]}
-use Rattle.rehearse.proofs.Steps.{step-held, step-line, line-within}
+-- `step` meets its contract: by what `push` says of the byte, it is held or ends a line, and that line is answered.
+-- Assumes nothing.
 use mathlib.Core.Path.{sym, _∙_}
 use lib.Seq.{length-take-le}
-use native.Mathlib.Omega.{arith}
-use Rattle.feed.proofs.Laws.{Whole, taken-line, length-after}
-use Rattle.rehearse.proofs.Steps.{step-held, step-line}
+use mathlib.Core.List.{[]}
+use Rattle.script.proofs.Steps.{step-held, step-line, line-within}
 use borrow.Author.Needs.{needs}
-use Rattle.rehearse.proofs.script.step.Statement.{statement}
-use Rattle.rehearse.proofs.script.step.Tie as tie
+use Rattle.script.proofs.step.Statement.{statement}
+use Rattle.script.proofs.step.Tie as tie
 
 push-requires : tie.Need-push-requires
 push-requires c κs = search needs
@@ -46,7 +45,7 @@ same-length-5 : tie.Need-same-length-5
 same-length-5 c = search needs
 
 returns-2 : tie.Need-returns-2
-returns-2 c = step-line _ _ _ _ _ _ _ _ (c .before .before .before .before .before .before .before .before .before .before .before .before .before .before .before .before .before .before .before .before .before .before .pre .1) (c .before .before .before .before .before .before .before .before .before .before .before .before .before .before .before .before .push .ensures .1) _ _ _ _ _ (sym (c .before .before .before .before .before .before .before .before .before .before .before .before .before .before .before .before .push .ensures .0) ∙ c .before .before .before .before .before .before .before .before .before .before .before .before .taken2 .given .1) (c .before .before .before .before .before .before .answer .ensures .0) (c .before .before .before .before .before .before .answer .ensures .1 .0)
+returns-2 c = step-line _ _ _ _ _ _ _ _ (c .before .before .before .before .before .before .before .before .before .before .before .before .before .before .before .before .before .before .before .before .before .before .pre .1) (c .before .before .before .before .before .before .before .before .before .before .before .before .before .before .before .before .push .ensures .1) _ _ _ _ _ (sym (c .before .before .before .before .before .before .before .before .before .before .before .before .before .before .before .before .push .ensures .0) ∙ c .before .before .before .before .before .before .before .before .before .before .before .before .taken2 .given .1) (c .before .before .before .before .before .before .answer .ensures .0)
 
 pub step-spec : {M : Type 1} → statement M
 step-spec =

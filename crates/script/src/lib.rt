@@ -1,20 +1,18 @@
-// Bytes of the input answered into an output buffer.
-ghost use mathlib.Core.Path.{_≡_};
-ghost use mathlib.Core.List.{_++_};
+// The input of a rehearsal as it comes: its bytes are answered into an output buffer.
 ghost use Prim.Native.Nat.{_+_, _≤_};
 ghost use lib.ListN.{length, take};
-ghost use Rattle.feed.specs.Answers.{byte, last};
-ghost use Rattle.rehearse.specs.World.{answerLine, endLine};
-ghost use Rattle.rehearse.specs.Leaves.{textMax, worldOf, opened, Printed, Holds, Stretched};
+ghost use Rattle.feed.specs.Answers.{byte};
+ghost use Rattle.script.specs.World.{answerLine, endLine, ended};
+ghost use Rattle.script.specs.Buffers.{textMax, worldOf, opened, Holds, Printed, Says, Stretched};
 use feed::Taken;
 
 // Room that an output line or the end line asks for.
 const TEXT_MAX: usize = 256;
 
 // How many bytes of a line are held, and how many of the output are put.
-pub struct Place {
-    pub held: usize,
-    pub put: usize,
+struct Place {
+    held: usize,
+    put: usize,
 }
 
 // The same, with the place of the chunk's next byte.
@@ -27,8 +25,8 @@ pub struct Reached {
 // Answers a line into `out` at `put`; the place behind the answer.
 fn answer(cache: &mut [u8], book: &mut [u8], line: &[u8], out: &mut [u8], put: usize) -> usize
     requires { ⌜ put + textMax ≤ length (now out) ⌝ }
-    ensures { λ r. ⌜ Printed (answerLine (worldOf (now (cache .entry)) (now (book .entry))) (now (line .entry)) .text) (now (out .entry)) put (now (out .exit)) r ⌝ }
-    ensures { λ r. ⌜ (worldOf (now (cache .exit)) (now (book .exit)) ≡ answerLine (worldOf (now (cache .entry)) (now (book .entry))) (now (line .entry)) .world) × (r ≤ put + textMax) ⌝ }
+    ensures { λ r. ⌜ Says (answerLine (worldOf (now (cache .entry)) (now (book .entry))) (now (line .entry))) (worldOf (now (cache .exit)) (now (book .exit))) (now (out .entry)) put (now (out .exit)) r ⌝ }
+    ensures { λ r. ⌜ r ≤ put + textMax ⌝ }
 {
     let until = put + TEXT_MAX;
     let n = rehearsal::line(cache, book, line, &mut out[put..until]);
@@ -55,8 +53,8 @@ fn step(
     at: Place,
 ) -> Place
     requires { ⌜ (at .put + textMax ≤ length (now out)) × Holds (now line) (at .held) ⌝ }
-    ensures { λ r. ⌜ Printed (byte answerLine (opened (now (cache .entry)) (now (book .entry)) (now (line .entry)) (at .held)) b .text) (now (out .entry)) (at .put) (now (out .exit)) (r .put) ⌝ }
-    ensures { λ r. ⌜ (opened (now (cache .exit)) (now (book .exit)) (now (line .exit)) (r .held) ≡ byte answerLine (opened (now (cache .entry)) (now (book .entry)) (now (line .entry)) (at .held)) b .world) × Holds (now (line .exit)) (r .held) ⌝ }
+    ensures { λ r. ⌜ Says (byte answerLine (opened (now (cache .entry)) (now (book .entry)) (now (line .entry)) (at .held)) b) (opened (now (cache .exit)) (now (book .exit)) (now (line .exit)) (r .held)) (now (out .entry)) (at .put) (now (out .exit)) (r .put) ⌝ }
+    ensures { λ r. ⌜ Holds (now (line .exit)) (r .held) ⌝ }
 {
     let put = at.put;
     let taken = feed::push(line, at.held, b);
@@ -79,8 +77,8 @@ pub fn stretch(
     from: usize,
     out: &mut [u8],
 ) -> Reached
-    requires { ⌜ (textMax ≤ length (now out)) × ((from ≤ length (now chunk)) × Holds (now line) held) ⌝ }
-    ensures { λ r. ⌜ Stretched (opened (now (cache .entry)) (now (book .entry)) (now (line .entry)) held) (now (chunk .entry)) from (r .from) (now (out .entry)) (now (out .exit)) (r .put) (opened (now (cache .exit)) (now (book .exit)) (now (line .exit)) (r .held)) ⌝ }
+    requires { ⌜ (from ≤ length (now chunk)) × Holds (now line) held ⌝ }
+    ensures { λ r. ⌜ Stretched (opened (now (cache .entry)) (now (book .entry)) (now (line .entry)) held) (now (chunk .entry)) from (r .from) (opened (now (cache .exit)) (now (book .exit)) (now (line .exit)) (r .held)) (now (out .entry)) (now (out .exit)) (r .put) ⌝ }
     ensures { λ r. ⌜ Holds (now (line .exit)) (r .held) ⌝ }
 {
     let mut at = Place { held, put: 0 };
@@ -107,7 +105,7 @@ pub fn stretch(
 // The end of the input: an unended last line is answered, and the end line follows.
 pub fn finish(cache: &mut [u8], book: &mut [u8], line: &[u8], held: usize, out: &mut [u8]) -> usize
     requires { ⌜ (textMax + textMax ≤ length (now out)) × Holds (now line) held ⌝ }
-    ensures { λ r. ⌜ (worldOf (now (cache .exit)) (now (book .exit)) ≡ last answerLine (worldOf (now (cache .entry)) (now (book .entry))) (take held (now (line .entry))) .world) × Printed (last answerLine (worldOf (now (cache .entry)) (now (book .entry))) (take held (now (line .entry))) .text ++ endLine (worldOf (now (cache .exit)) (now (book .exit)))) (now (out .entry)) 0 (now (out .exit)) r ⌝ }
+    ensures { λ r. ⌜ Says (ended (worldOf (now (cache .entry)) (now (book .entry))) (take held (now (line .entry)))) (worldOf (now (cache .exit)) (now (book .exit))) (now (out .entry)) 0 (now (out .exit)) r ⌝ }
 {
     if held == 0 {
         return end(cache, book, out, 0);

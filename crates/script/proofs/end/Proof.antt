@@ -1,11 +1,13 @@
+-- `end` prints the library's end line, which fits the part that is lent for it.
+-- Assumes nothing.
 use mathlib.Core.Path.{refl}
 use native.Mathlib.Omega.{arith}
 use Rattle.rehearsal.specs.Stand.{endText}
-use Rattle.rehearse.specs.World.{endLine}
-use Rattle.rehearse.proofs.Library.{end-fits, text-printed}
+use Rattle.script.specs.World.{endLine}
+use Rattle.script.proofs.Library.{end-fits, text-printed}
 use borrow.Author.Needs.{needs}
-use Rattle.rehearse.proofs.script.end.Statement.{statement}
-use Rattle.rehearse.proofs.script.end.Tie as tie
+use Rattle.script.proofs.end.Statement.{statement}
+use Rattle.script.proofs.end.Tie as tie
 
 add-until : tie.Need-add-until
 add-until c = search needs

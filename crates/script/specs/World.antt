@@ -1,0 +1,31 @@
+-- A rehearsal of an input, by the library's definitions of a line and of the end.
+use Prim.Native.Nat.{ℕ}
+use mathlib.Core.List.{List, _++_}
+use Rattle.feed.specs.Lines.{handed}
+use Rattle.feed.specs.Answers.{Said, answers, last}
+use Rattle.rehearsal.specs.Stand.{lineText, endText}
+
+-- what a line changes: the cache's bytes and the book's
+pub record World : Type 0 where
+  pub cache : List ℕ
+  pub book : List ℕ
+
+-- a line and its output line
+unfoldable pub answerLine : World → List ℕ → Said World
+answerLine w l = record { world = w; text = lineText l }
+
+-- the end line
+unfoldable pub endLine : World → List ℕ
+endLine w = endText
+
+-- the end line behind what was said last
+abbrev pub closed : Said World → Said World
+closed s = record { world = s .world; text = s .text ++ endLine (s .world) }
+
+-- the end of the input, where the bytes `held` came since the last newline
+unfoldable pub ended : World → List ℕ → Said World
+ended w held = closed (last answerLine w held)
+
+-- a whole input: an output line for each of its lines, and the end line
+unfoldable pub rehearsed : World → List ℕ → Said World
+rehearsed w input = closed (answers answerLine w (handed input))
