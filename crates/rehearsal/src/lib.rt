@@ -1,36 +1,44 @@
 // A stand-in: answers each line by its first byte.
 ghost use mathlib.Core.Path.{_≡_};
-ghost use lib.ListN.{length};
-ghost use Rattle.lent.specs.Bytes.{splice};
-ghost use Rattle.rehearsal.specs.Stand.{lineText, endText, printed};
+ghost use Rattle.rehearsal.specs.Rehearsal.{firstOf, lineOf, endOf, Leaves};
 
-pub const BOOK: usize = 34816;
+pub const BOOK_SIZE: usize = 33824;
 
-pub const OUT: usize = 256;
+const LINE_ROOM: usize = 256;
 
-pub fn line(cache: &mut [u8], book: &mut [u8], line: &[u8], out: &mut [u8]) -> usize
-    ensures { λ r. ⌜ (r ≡ length (printed (now (out .entry)) (lineText (now (line .entry))))) × (now (out .exit) ≡ splice (now (out .entry)) 0 (printed (now (out .entry)) (lineText (now (line .entry))))) ⌝ }
-    ensures { λ r. ⌜ (now (cache .exit) ≡ now (cache .entry)) × (now (book .exit) ≡ now (book .entry)) ⌝ }
+fn first(line: &[u8]) -> u8
+    ensures { λ r. ⌜ r ≡ firstOf (now (line .entry)) ⌝ }
 {
-    if out.len() < OUT {
-        return 0;
-    }
     if line.len() == 0 {
-        lent::copy_in(out, 0, &[b'-', 10]);
-        return 2;
+        return 45;
     }
     if 200 < line.len() {
-        lent::copy_in(out, 0, &[b'!', 10]);
-        return 2;
+        return 33;
     }
-    lent::copy_in(out, 0, &[line[0], 10]);
+    line[0]
+}
+
+pub fn line(cache: &mut [u8], book: &mut [u8], line: &[u8], out: &mut [u8]) -> usize
+    ensures { λ r. ⌜ Leaves (lineOf (now (cache .entry)) (now (book .entry)) (now (line .entry)) (now (out .entry))) r (now (cache .exit)) (now (book .exit)) (now (out .exit)) ⌝ }
+{
+    if book.len() != BOOK_SIZE {
+        return 0;
+    }
+    if out.len() < LINE_ROOM {
+        return 0;
+    }
+    let b = first(line);
+    lent::copy_in(out, 0, &[b, 10]);
     2
 }
 
 pub fn end(book: &[u8], out: &mut [u8]) -> usize
-    ensures { λ r. ⌜ (r ≡ length (printed (now (out .entry)) endText)) × (now (out .exit) ≡ splice (now (out .entry)) 0 (printed (now (out .entry)) endText)) ⌝ }
+    ensures { λ r. ⌜ (r ≡ endOf (now (book .entry)) (now (out .entry)) .length) × (now (out .exit) ≡ endOf (now (book .entry)) (now (out .entry)) .out) ⌝ }
 {
-    if out.len() < OUT {
+    if book.len() != BOOK_SIZE {
+        return 0;
+    }
+    if out.len() < LINE_ROOM {
         return 0;
     }
     lent::copy_in(out, 0, &[b'.', 10]);

@@ -1,22 +1,28 @@
 -- A rehearsal of an input, by the library's definitions of a line and of the end.
 use Prim.Native.Nat.{ℕ}
-use mathlib.Core.List.{List, _++_}
+use mathlib.Core.List.{List, [], _++_}
+use lib.Dec.{eqb}
+use lib.ListN.{length}
+use Rattle.lent.specs.Tables.{if_then_else_}
 use Rattle.feed.specs.Lines.{handed}
 use Rattle.feed.specs.Answers.{Said, answers, last}
-use Rattle.rehearsal.specs.Stand.{lineText, endText}
+use Rattle.rehearsal.specs.Rehearsal.{Turn, bookSize, turn, endText}
 
 -- what a line changes: the cache's bytes and the book's
 pub record World : Type 0 where
   pub cache : List ℕ
   pub book : List ℕ
 
--- a line and its output line
+abbrev pub turned : Turn → Said World
+turned t = record { world = record { cache = t .cache; book = t .book }; text = t .text }
+
+-- a line and its output line; where the book has not its size nothing is said
 unfoldable pub answerLine : World → List ℕ → Said World
-answerLine w l = record { world = w; text = lineText l }
+answerLine w l = if eqb (length (w .book)) bookSize then turned (turn (w .cache) (w .book) l) else record { world = w; text = [] }
 
 -- the end line
 unfoldable pub endLine : World → List ℕ
-endLine w = endText
+endLine w = if eqb (length (w .book)) bookSize then endText (w .book) else []
 
 -- the end line behind what was said last
 abbrev pub closed : Said World → Said World

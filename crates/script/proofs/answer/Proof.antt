@@ -1,10 +1,7 @@
--- `answer` prints the library's output line, which fits the part that is lent for it.
+-- `answer` prints the library's output line: it stands at the front of the part that is lent for it, and fits it.
 -- Assumes nothing.
-use mathlib.Core.Path.{refl}
 use native.Mathlib.Omega.{arith}
-use Rattle.rehearsal.specs.Stand.{lineText}
-use Rattle.script.specs.World.{answerLine}
-use Rattle.script.proofs.Library.{line-fits, text-printed}
+use Rattle.script.proofs.Library.{line-said}
 use borrow.Author.Needs.{needs}
 use Rattle.script.proofs.answer.Statement.{statement}
 use Rattle.script.proofs.answer.Tie as tie
@@ -25,7 +22,7 @@ line-requires : tie.Need-line-requires
 line-requires c κs = search needs
 
 add-result : tie.Need-add-result
-add-result c = let p = text-printed (c .before .before .before .before .before .before .before .before .before .before .before .before .before .before .args .out .now) (lineText (c .before .before .before .before .before .before .before .before .before .before .before .before .before .before .args .line .now)) _ (c .before .before .before .before .before .before .before .before .before .before .before .before .before .before .args .put) _ (c .before .before .before .before .before .before .before .before .before .before .before .before .before .before .pre) (line-fits (c .before .before .before .before .before .before .before .before .before .before .before .before .before .before .args .line .now)) (c .before .before .before .before .before .before .line .ensures .0) in omega arith
+add-result c = let p = line-said _ _ _ _ (c .before .before .before .before .before .before .before .before .before .before .before .before .before .before .pre) _ _ (search needs) _ _ _ (c .before .before .before .before .before .before .line .ensures) in omega (arith, c .before .before .before .before .before .before .before .before .before .before .before .before .before .before .pre, p .1)
 
 same-length : tie.Need-same-length
 same-length c = search needs
@@ -37,9 +34,7 @@ same-length-3 : tie.Need-same-length-3
 same-length-3 c = search needs
 
 returns : tie.Need-returns
-unfolding answerLine
-returns c = let p = text-printed (c .before .before .before .before .before .before .before .before .before .before .before .before .before .before .args .out .now) (lineText (c .before .before .before .before .before .before .before .before .before .before .before .before .before .before .args .line .now)) _ (c .before .before .before .before .before .before .before .before .before .before .before .before .before .before .args .put) _ (c .before .before .before .before .before .before .before .before .before .before .before .before .before .before .pre) (line-fits (c .before .before .before .before .before .before .before .before .before .before .before .before .before .before .args .line .now)) (c .before .before .before .before .before .before .line .ensures .0) in let q = line-fits (c .before .before .before .before .before .before .before .before .before .before .before .before .before .before .args .line .now) in
-    (record { world = rw (c .before .before .before .before .before .before .line .ensures .1 .0, c .before .before .before .before .before .before .line .ensures .1 .1); printed = p }, omega arith)
+returns c = let p = line-said _ _ _ _ (c .before .before .before .before .before .before .before .before .before .before .before .before .before .before .pre) _ _ (search needs) _ _ _ (c .before .before .before .before .before .before .line .ensures) in (p .0, omega (arith, p .1))
 
 pub answer-spec : {M : Type 1} → statement M
 answer-spec =

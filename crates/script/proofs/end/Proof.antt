@@ -1,10 +1,7 @@
--- `end` prints the library's end line, which fits the part that is lent for it.
+-- `end` prints the library's end line: it stands at the front of the part that is lent for it, and fits it.
 -- Assumes nothing.
-use mathlib.Core.Path.{refl}
 use native.Mathlib.Omega.{arith}
-use Rattle.rehearsal.specs.Stand.{endText}
-use Rattle.script.specs.World.{endLine}
-use Rattle.script.proofs.Library.{end-fits, text-printed}
+use Rattle.script.proofs.Library.{end-said}
 use borrow.Author.Needs.{needs}
 use Rattle.script.proofs.end.Statement.{statement}
 use Rattle.script.proofs.end.Tie as tie
@@ -25,14 +22,13 @@ end-requires : tie.Need-end-requires
 end-requires c κs = search needs
 
 add-result : tie.Need-add-result
-add-result c = let p = text-printed (c .before .before .before .before .before .before .before .args .out .now) endText _ (c .before .before .before .before .before .before .before .args .put) _ (c .before .before .before .before .before .before .before .pre) end-fits (c .before .before .end .ensures) in omega arith
+add-result c = let p = end-said (c .before .before .before .before .before .before .before .args .cache .now) _ _ _ (c .before .before .before .before .before .before .before .pre) _ _ (search needs) (c .before .before .end .ensures) in omega (arith, c .before .before .before .before .before .before .before .pre, p .1)
 
 same-length : tie.Need-same-length
 same-length c = search needs
 
 returns : tie.Need-returns
-unfolding endLine
-returns c = text-printed (c .before .before .before .before .before .before .before .args .out .now) endText _ (c .before .before .before .before .before .before .before .args .put) _ (c .before .before .before .before .before .before .before .pre) end-fits (c .before .before .end .ensures)
+returns c = end-said _ _ _ _ (c .before .before .before .before .before .before .before .pre) _ _ (search needs) (c .before .before .end .ensures) .0
 
 pub end-spec : {M : Type 1} → statement M
 end-spec =
