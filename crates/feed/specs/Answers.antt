@@ -20,6 +20,11 @@ unfoldable pub answers : {W : Type 0} → (W → List ℕ → Said W) → W → 
 answers answer w [] = record { world = w; text = [] }
 answers answer w (l ∷ ls) = let a = answer w l in behind (a .text) (answers answer (a .world) ls)
 
+-- the end of the input: what is held is a line if it has a byte
+unfoldable pub last : {W : Type 0} → (W → List ℕ → Said W) → W → List ℕ → Said W
+last answer w [] = record { world = w; text = [] }
+last answer w (b ∷ bs) = answer w (b ∷ bs)
+
 -- between two bytes: the world, and what came since the last newline
 pub record Open (W : Type 0) : Type 0 where
   pub world : W
@@ -36,8 +41,3 @@ byte answer o b =
 unfoldable pub fed : {W : Type 0} → (W → List ℕ → Said W) → Open W → List ℕ → Said (Open W)
 fed answer o [] = record { world = o; text = [] }
 fed answer o (b ∷ bs) = let s = byte answer o b in behind (s .text) (fed answer (s .world) bs)
-
--- the end of the input: what is held is a line if it has a byte
-unfoldable pub last : {W : Type 0} → (W → List ℕ → Said W) → W → List ℕ → Said W
-last answer w [] = record { world = w; text = [] }
-last answer w (b ∷ bs) = answer w (b ∷ bs)

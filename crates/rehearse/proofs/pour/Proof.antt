@@ -55,7 +55,7 @@ loop-less : tie.Need-loop-less Inv-loop μ-loop
 loop-less c = let l = c .before .before .before .before .before .before .before .before .before .before .before .before .before .before .before .before .before .loop .inv .1 .1 .0 in omega (arith, stretched-on _ _ _ _ (c .before .before .before .before .before .before .before .before .before .before .before .stretch .ensures .0) (c .before .before .before .before .before .before .before .before .before .before .before .before .before .before .before .before .loop-test .taken) (omega (arith, c .before .before .before .before .before .before .before .before .before .before .before .before .before .before .before .before .before .before .before .before .before .before .before .pre .0)), c .before .before .before .before .before .before .before .before .before .before .before .stretch .ensures .0 .reaches .within .1)
 
 loop-again : tie.Need-loop-again Inv-loop μ-loop
-loop-again c = (search needs, (search needs, (search needs, (c .before .before .before .before .before .before .before .before .before .before .before .stretch .ensures .0 .reaches .within .1, (c .before .before .before .before .before .before .before .before .before .before .before .stretch .ensures .1, poured-on _ _ _ _ _ _ _ _ _ (c .before .before .before .before .before .before .before .before .before .before .before .before .before .before .before .before .before .loop .inv .1 .1 .1 .1 .1) (c .before .before .before .before .before .before .before .before .before .before .before .stretch .ensures .0))))))
+loop-again c = (search needs, (search needs, (search needs, (c .before .before .before .before .before .before .before .before .before .before .before .stretch .ensures .0 .reaches .within .1, (record { size = c .before .before .before .before .before .before .before .before .before .before .before .stretch .ensures .1 .size; most = omega (arith, c .before .before .before .before .before .before .before .before .before .before .before .stretch .ensures .1 .most) }, poured-on _ _ _ _ _ _ _ _ _ (c .before .before .before .before .before .before .before .before .before .before .before .before .before .before .before .before .before .loop .inv .1 .1 .1 .1 .1) (c .before .before .before .before .before .before .before .before .before .before .before .stretch .ensures .0))))))
 
 same-length-5 : tie.Need-same-length-5 Inv-loop μ-loop
 same-length-5 c = c .before .loop .inv .0

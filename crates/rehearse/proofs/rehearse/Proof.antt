@@ -36,7 +36,7 @@ enum-told : tie.Need-enum-told Inv-loop μ-loop
 enum-told c = search needs
 
 finish-requires : tie.Need-finish-requires Inv-loop μ-loop
-finish-requires c κs = (search needs, record { size = search needs; most = c .before .before .before .before .before .before .before .before .before .before .before .before .before .before .before .before .before .before .before .before .before .before .before .loop .inv .1 .1 .1 .1 .0 .most })
+finish-requires c κs = (search needs, record { size = search needs; most = omega (arith, c .before .before .before .before .before .before .before .before .before .before .before .before .before .before .before .before .before .before .before .before .before .before .before .loop .inv .1 .1 .1 .1 .0 .most) })
 
 slice-reshare-prefix-write-all : tie.Need-slice-reshare-prefix-write-all Inv-loop μ-loop
 slice-reshare-prefix-write-all c = let l = printed-length (c .before .before .before .before .before .before .finish .ensures .printed) in omega (arith, c .before .before .before .before .before .before .finish .ensures .printed .fits)
@@ -104,7 +104,7 @@ loop-again c = let t = turned-on (opened (c .before .before .before .before .bef
       (
         search needs,
         (
-          record { size = search needs; most = t .1 .1 },
+          record { size = search needs; most = omega (arith, t .1 .1) },
           read-more _ _ _ (take (t .0) (c .before .before .before .before .before .before .before .before .before .before .before .before .before .turn .last .1 .1 .1 .1 .0)) (c .before .before .before .before .before .before .before .before .before .before .before .before .before .before .before .before .before .before .before .before .loop .inv .1 .1 .1 .1 .1) (t .1 .0),
         ),
       ),

@@ -19,7 +19,7 @@ abbrev μ-loop : tie.MeasureT-loop
 μ-loop cache₀ book₀ line₀ held chunk from out₀ at₀ i₀ cache book line out at i = length chunk - i
 
 loop-holds : tie.Need-loop-holds Inv-loop μ-loop
-loop-holds c = (refl, (refl, (c .before .before .before .before .before .pre .1, reaches-none _ _ _ _ (c .before .before .before .before .before .pre .0))))
+loop-holds c = (refl, (refl, (record { size = c .before .before .before .before .before .pre .1 .size; most = omega (arith, c .before .before .before .before .before .pre .1 .most) }, reaches-none _ _ _ _ (c .before .before .before .before .before .pre .0))))
 
 sub-if1 : tie.Need-sub-if1 Inv-loop μ-loop
 sub-if1 c = let l = printed-length (c .before .loop .inv .1 .1 .1 .says .printed) in omega (arith, c .before .loop .inv .1 .1 .1 .says .printed .fits)
