@@ -1,7 +1,7 @@
 -- Chunks one behind the other are one input, and at its end the world and what was written are those of its rehearsal.
 -- Assumes nothing.
 use mathlib.Core.Path.{_≡_, refl, sym, ap, _∙_}
-use mathlib.Core.Bool.{true}
+use mathlib.Core.Bool.{Bool, true, false}
 use mathlib.Core.List.{List, [], _∷_, _++_}
 use Prim.Native.Nat.{ℕ, _≤_}
 use native.Mathlib.Omega.{arith}
@@ -43,9 +43,11 @@ printed-front text out after next p =
     let e : length text ≡ next = let q = p .place in omega arith in
     rw (p .bytes) (win-splice out 0 text next e (omega arith))
 
-pub read-ends : (w : World) (now : Open World) (after : World) (out out′ : List ℕ) (next : ℕ) → Read (unread w) now
-    → Says (ended (now .world) (now .held)) after out 0 out′ next → Rehearsed w after out′ true
-read-ends w now after out out′ next r s =
+-- whether or not the last write succeeds
+pub read-ends : (w : World) (now : Open World) (after : World) (out out′ : List ℕ) (next : ℕ) (b : Bool) → Read (unread w) now
+    → Says (ended (now .world) (now .held)) after out 0 out′ next → Rehearsed w after out′ b
+read-ends w now after out out′ next false r s = tt
+read-ends w now after out out′ next true r s =
     let f : Said (Open World) = fed answerLine (unread w) (r .0) in
     let e : behind (f .text) (ended (now .world) (now .held)) ≡ rehearsed w (r .0) = rw (r .1) (fed-ended w (r .0)) in (
       r .0,

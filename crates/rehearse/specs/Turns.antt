@@ -21,7 +21,7 @@ Turned o before chunk now (Went.On held) = (n : ℕ) × ((now held ≡ fed answe
 Turned o before chunk now Went.Ended = now before ≡ o
 Turned o before chunk now Went.Failed = Unit
 
--- the end of an input is reached: the world is that of its rehearsal, whose text is what was written before and the front of `out`
+-- the end of an input is reached: the world is that of its rehearsal, whose text is what was handed to writes before and the front of `out`
 abbrev pub Rehearsed : World → World → List ℕ → Bool → Type 0
 Rehearsed w now out true =
     (input : List ℕ) × ((now ≡ rehearsed w input .world) × ((before : List ℕ) × ((put : ℕ) × (before ++ take put out ≡ rehearsed w input .text))))

@@ -1,4 +1,11 @@
 // The rehearsal: lines from standard input, an output line for each to standard output, and the end line.
+//
+// No contract can say which bytes a read or a write moves, so what is proved speaks of the buffers. Whatever the reads put into the chunk: the cache,
+// the book and the held bytes after a turn are those of all these bytes in a row; what a write is handed is the text of the bytes that it answers
+// (`script::stretch`); and where the input ends, all the texts in a row are the text of the rehearsal of all that was read (`Rehearsed`). Not proved:
+// that what is read is the input, and that what a write is handed is written once and in order, which is what the C library's two calls are for.
+//
+// Each answer is written before more is read. A read or a write that fails ends the program with what was written so far, and with no end line.
 ghost use mathlib.Core.Path.{_≡_};
 ghost use Prim.Native.Nat.{_+_, _≤_};
 ghost use lib.ListN.{length};
@@ -71,7 +78,7 @@ fn turn(
     pour(cache, book, line, held, &chunk[..n], out)
 }
 
-// Reads to the end of the input, and writes the end line. Whether it came so far, where no write failed before.
+// Reads to the end of the input, and writes the end line. False where a read or a write has failed.
 fn rehearse(
     cache: &mut [u8],
     book: &mut [u8],
@@ -92,8 +99,7 @@ fn rehearse(
             }
             Went::Ended => {
                 let put = script::finish(cache, book, line, held, out);
-                io::write_all(STDOUT_FILENO, &out[..put]);
-                return true;
+                return io::write_all(STDOUT_FILENO, &out[..put]);
             }
             Went::Failed => {
                 return false;
