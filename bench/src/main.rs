@@ -1,63 +1,96 @@
 //! Speed, beside one plain pass over the 65,536 bytes and beside the second program, in one run.
 //!
-//! `bench times` prints the quickest of many rounds; `bench call WHAT STATE TIMES` makes so many calls and nothing else, for a counter
-//! of instructions (`bench/measure` runs it under callgrind).
+//! `bench times` and `bench commands` print the quickest of many rounds; `bench call` and `bench work` make so many calls and nothing
+//! else, for a counter of instructions (`bench/measure` runs them under callgrind).
 
 mod plans;
+mod works;
 
-use plans::{state, Plan, PLANS};
+use compare::proved;
+use plans::{named, state, PLANS};
 use std::hint::black_box;
 use std::time::Instant;
+use works::{Trial, PARTS, WORKS};
 
-extern "C" {
-    fn basalekko_well_formed(state: *const u8, length: usize) -> bool;
-}
+const USAGE: &str = "usage:
+  bench times                         ns of the check
+  bench commands                      commands a second
+  bench call WHO STATE TIMES          the check alone; WHO is plain, proved or second, STATE fresh, light, full, colliding or one-slot
+  bench work PART STATE WORK TIMES    PART is proved, second, proved-check, second-check or nothing, STATE light or full,
+                                      WORK get-hit, get-miss, session or sweep";
 
 /// The floor: every byte read once.
 fn plain(state: &[u8]) -> bool {
     state.iter().fold(0, |sum, byte| sum | byte) != 0
 }
 
-fn proved(state: &[u8]) -> bool {
-    // The function reads `length` bytes from `state`, which the slice has, and keeps nothing.
-    unsafe { basalekko_well_formed(state.as_ptr(), state.len()) }
-}
-
 const JUDGES: [(&str, fn(&[u8]) -> bool); 3] =
-    [("plain", plain), ("proved", proved), ("second", second::lent::well_formed)];
+    [("plain", plain), ("proved", proved::well_formed), ("second", second::lent::well_formed)];
 
-/// The quickest of many rounds, in ns for each call.
-fn nanoseconds(state: &[u8], judge: fn(&[u8]) -> bool) -> f64 {
+/// The quickest of many rounds, in ns for each of its calls.
+fn nanoseconds(rounds: u64, calls: u64, mut round: impl FnMut(u64)) -> f64 {
     let mut best = f64::MAX;
-    for _ in 0..40 {
+    for _ in 0..rounds {
         let begun = Instant::now();
-        for _ in 0..500 {
-            assert!(judge(black_box(state)));
-        }
-        best = best.min(begun.elapsed().as_nanos() as f64 / 500.0);
+        round(calls);
+        best = best.min(begun.elapsed().as_nanos() as f64 / calls as f64);
     }
     best
+}
+
+fn judged(state: &[u8], judge: fn(&[u8]) -> bool, calls: u64) {
+    for _ in 0..calls {
+        assert!(judge(black_box(state)));
+    }
 }
 
 fn times() {
     for plan in &PLANS {
         let state = state(plan);
-        let floor = nanoseconds(&state, plain);
+        let floor = nanoseconds(40, 500, |calls| judged(&state, plain, calls));
         print!("{:<10} plain {floor:6.0} ns", plan.name);
         for (name, judge) in &JUDGES[1..] {
-            let took = nanoseconds(&state, *judge);
+            let took = nanoseconds(40, 500, |calls| judged(&state, *judge, calls));
             print!("   {name} {took:6.0} ns, {:.2} of it", took / floor);
         }
         println!();
     }
 }
 
-fn call(what: &str, plan: &str, times: u64) -> Option<()> {
-    let (_, judge) = JUDGES.iter().find(|judge| judge.0 == what)?;
-    let state = state(PLANS.iter().find(|known: &&Plan| known.name == plan)?);
-    for _ in 0..times {
-        assert!(judge(black_box(&state)));
+/// For each state and work, commands a second of both programs, and the part of the time that the check takes.
+fn commands() {
+    println!("{:<6} {:<9} {:>9} {:>6} {:>9} {:>6} {:>14}", "state", "work", "proved/s", "check", "second/s", "check", "proved/second");
+    for plan in ["light", "full"] {
+        for work in &WORKS {
+            let mut trial = Trial::new(named(plan).expect("a plan"), work);
+            let mut best = [f64::MAX; PARTS.len()];
+            for _ in 0..60 {
+                for (best, (_, part)) in best.iter_mut().zip(PARTS) {
+                    *best = best.min(nanoseconds(1, 100, |calls| trial.repeat(part, calls)));
+                }
+            }
+            let [proved, second, proved_check, second_check, nothing] = best;
+            let (proved, second) = (proved - nothing, second - nothing);
+            let a_second = |took: f64| 1e9 * trial.commands() as f64 / took;
+            let share = |check: f64, took: f64| format!("{:.0} %", (100.0 * check / took).min(100.0));
+            println!(
+                "{plan:<6} {:<9} {:>9.0} {:>6} {:>9.0} {:>6} {:>14.2}",
+                work.name, a_second(proved), share(proved_check, proved), a_second(second), share(second_check, second), second / proved,
+            );
+        }
     }
+}
+
+fn call(who: &str, plan: &str, times: &str) -> Option<()> {
+    let (_, judge) = JUDGES.iter().find(|judge| judge.0 == who)?;
+    judged(&state(named(plan)?), *judge, times.parse().ok()?);
+    Some(())
+}
+
+fn work(part: &str, plan: &str, work: &str, times: &str) -> Option<()> {
+    let (_, part) = PARTS.iter().find(|known| known.0 == part)?;
+    let work = WORKS.iter().find(|known| known.name == work)?;
+    Trial::new(named(plan)?, work).repeat(*part, times.parse().ok()?);
     Some(())
 }
 
@@ -66,11 +99,13 @@ fn main() {
     let words: Vec<&str> = words.iter().map(String::as_str).collect();
     let done = match words[..] {
         ["times"] => Some(times()),
-        ["call", what, plan, count] => count.parse().ok().and_then(|count| call(what, plan, count)),
+        ["commands"] => Some(commands()),
+        ["call", who, plan, count] => call(who, plan, count),
+        ["work", part, plan, name, count] => work(part, plan, name, count),
         _ => None,
     };
     if done.is_none() {
-        eprintln!("bench times | bench call plain|proved|second fresh|light|full|colliding|one-slot TIMES");
+        eprintln!("{USAGE}");
         std::process::exit(2);
     }
 }

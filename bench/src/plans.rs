@@ -15,6 +15,11 @@ pub struct Plan {
     apart: u64,
 }
 
+/// The clock of every state, and the time at which its leases and its sessions lapse.
+pub const CLOCK: u64 = 500;
+const LEASES_END: u64 = 900;
+pub const SESSIONS_END: u64 = 5_000;
+
 /// Multiples of this, modulo 2^32, are the numbers that share one slot of the proved check's marks.
 const ONE_SLOT: u64 = 340_573_321;
 
@@ -31,21 +36,31 @@ fn spaced(place: u64, apart: u64) -> u64 {
     (place + 1) * apart % (1 << 32)
 }
 
-/// A well-formed state of the plan; its first keys have the rows, its last the leases.
+/// The plan of a name.
+pub fn named(name: &str) -> Option<&'static Plan> {
+    PLANS.iter().find(|plan| plan.name == name)
+}
+
+/// A well-formed state of the plan.
 pub fn state(plan: &Plan) -> Vec<u8> {
+    encode(&tables(plan))
+}
+
+/// The tables of the plan; its first keys have the rows, its last the leases.
+pub fn tables(plan: &Plan) -> Tables {
     let held_keys = if plan.rows > 128 { 3 } else { plan.rows };
     let keys = (0..KEYS as u64).map(|key| {
         let spread = key * 151 % KEYS as u64;
         let value = (spread < plan.values)
             .then(|| Value::of(&[b'v'; 64][..(spread * 37 % 65) as usize]).unwrap_or(Value::EMPTY));
         let lease = (key >= KEYS as u64 - plan.leases && key >= held_keys)
-            .then_some(Lease { token: spaced(key, if plan.apart == 1 << 24 { 1 << 23 } else { plan.apart }), deadline: 900 });
+            .then_some(Lease { token: spaced(key, if plan.apart == 1 << 24 { 1 << 23 } else { plan.apart }), deadline: LEASES_END });
         KeyRecord { value, lease }
     });
     let sessions = (0..SESSIONS as u64).map(|place| {
         (place < plan.sessions).then_some(SessionRecord {
             number: spaced(place, plan.apart),
-            standing: Standing::Open { deadline: 5_000 },
+            standing: Standing::Open { deadline: SESSIONS_END },
             count: place,
         })
     });
@@ -60,8 +75,8 @@ pub fn state(plan: &Plan) -> Vec<u8> {
             },
         })
     });
-    encode(&Tables {
-        clock: 500,
+    Tables {
+        clock: CLOCK,
         read_lifetime: 1_000,
         write_lifetime: 5_000,
         next_session: u64::from(u32::MAX),
@@ -69,5 +84,5 @@ pub fn state(plan: &Plan) -> Vec<u8> {
         keys: keys.collect(),
         rows: rows.collect(),
         sessions: sessions.collect(),
-    })
+    }
 }

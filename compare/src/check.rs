@@ -1,9 +1,10 @@
 //! The well-formed check: the same buffers to both.
 
-use crate::proved;
 use crate::random::Random;
-use crate::states::{at_the_end, fresh, full, used, STATE_SIZE};
+use crate::states::{at_last_step, at_last_time, at_the_end, crowded, fresh, full, used};
+use compare::proved;
 use second::lent::well_formed;
+use second::numbers::STATE_BYTES;
 
 /// How many buffers were looked at, how many of them both take for well formed, and on how many the two differ.
 #[derive(Default)]
@@ -36,11 +37,11 @@ fn damages(tally: &mut Tally, random: &mut Random, states: &[Vec<u8>], rounds: u
     for round in 0..rounds {
         let mut state = states[(round % states.len() as u64) as usize].clone();
         for _ in 0..=random.below(64) * u64::from(random.below(3) == 0) {
-            let at = random.below(STATE_SIZE as u64) as usize;
+            let at = random.below(STATE_BYTES as u64) as usize;
             state[at] = match random.below(3) {
                 0 => random.next() as u8,
                 1 => random.below(4) as u8,
-                _ => state[random.below(STATE_SIZE as u64) as usize],
+                _ => state[random.below(STATE_BYTES as u64) as usize],
             };
         }
         tally.look(&state);
@@ -64,11 +65,11 @@ fn doubles(tally: &mut Tally, random: &mut Random, states: &[Vec<u8>], rounds: u
 /// Lengths beside the right one, and buffers of random bytes.
 fn shapes(tally: &mut Tally, random: &mut Random, state: &[u8]) {
     let long: Vec<u8> = state.iter().copied().chain([0]).collect();
-    for length in [0, 1, 63, 64, STATE_SIZE - 1, STATE_SIZE, STATE_SIZE + 1] {
+    for length in [0, 1, 63, 64, STATE_BYTES - 1, STATE_BYTES, STATE_BYTES + 1] {
         tally.look(&long[..length]);
     }
     for _ in 0..100 {
-        let length = [STATE_SIZE, random.below(70_000) as usize][random.below(2) as usize];
+        let length = [STATE_BYTES, random.below(70_000) as usize][random.below(2) as usize];
         let bytes: Vec<u8> = (0..length).map(|_| random.next() as u8).collect();
         tally.look(&bytes);
     }
@@ -78,7 +79,8 @@ fn shapes(tally: &mut Tally, random: &mut Random, state: &[u8]) {
 pub fn compare(seed: u64, more: u64) -> Tally {
     let mut random = Random::new(seed);
     let mut tally = Tally::default();
-    let mut states = vec![fresh(), full(), at_the_end(full(), 0), at_the_end(full(), 1)];
+    let mut states = vec![fresh(), full(), at_the_end(full(), 0), at_the_end(full(), 1), crowded()];
+    states.extend([at_last_time(&full(), 0), at_last_step(&at_last_time(&crowded(), 1))]);
     states.extend((1..20).map(|n| used(&mut random, n * 60, 4 + n)));
     for state in &states {
         tally.look(state);

@@ -1,116 +1,180 @@
 //! The commands: the same sequences to both, the answer and all 65,536 bytes compared after every one.
 
-use crate::proved;
+use crate::commands::{self, command};
 use crate::random::Random;
-use crate::states::{at_the_end, command, fresh, full, used, STATE_SIZE};
+use crate::show;
+use crate::states::{at_last_step, at_last_time, at_the_end, crowded, fresh, full, stands_at, used, ENDS};
+use crate::tally::{told, wanted, Tally};
+use compare::proved;
 use second::lent;
-use second::{Answer, Command};
-use std::collections::BTreeMap;
+use second::lent::layout::{rows, u32_at, u64_at, Bytes, CLOCK, NEXT_SESSION, ROW_KEY, ROW_SESSION};
+use second::numbers::LAST_TIME;
+use second::Command;
 
-/// How many commands were run, on how many the two differ, and how often each answer and each refusal was seen.
-#[derive(Default)]
-pub struct Tally {
-    pub commands: u64,
-    pub differences: u64,
-    pub seen: BTreeMap<String, u64>,
+/// What the commands can answer, and the ends they are to be run at.
+pub fn answers() -> Vec<String> {
+    let words = [
+        "SESSION", "HIT", "ASK", "BACKOFF", "LEASE", "STORED", "IGNORED", "HELD", "GRANTED", "ABORTED", "STAGED", "REPEATED", "DROPPED",
+        "VALIDATED", "LOST", "DONE", "UNDONE", "EVICTED", "EMPTY", "TICKED",
+    ];
+    let mut wanted = wanted(&words, 1..=13);
+    wanted.extend(ENDS.iter().map(|end| format!("at {end}")));
+    wanted.push(OUTSIDE.to_string());
+    wanted
 }
 
-/// An answer's word, what goes with it, and where a HIT's value stands.
-fn told(answer: Answer) -> (&'static str, u64, u64) {
-    match answer {
-        Answer::Hit { at, length } => ("HIT", length, at),
-        other => (other.word(), other.detail().unwrap_or(0), 0),
+/// A command whose number is none of the list.
+const OUTSIDE: &str = "a number outside";
+
+/// The same state twice, one for each, and what was seen of them.
+struct Pair<'a> {
+    tally: &'a mut Tally,
+    shown: &'a mut Tally,
+    random: &'a mut Random,
+    ours: Vec<u8>,
+    theirs: Vec<u8>,
+}
+
+impl Pair<'_> {
+    /// One command on both. The numbers that it doesn't have are anything.
+    fn step(&mut self, now: u64, command: Command, value: &[u8]) {
+        let mut numbers = proved::numbers(command);
+        numbers[Command::fields(command.number())..].fill_with(|| self.random.next());
+        let proved = proved::run(&mut self.ours, now, command.number(), numbers, value);
+        let second = told(lent::run(&mut self.theirs, now, command, value));
+        self.tally.look((now, command, value), proved, second, self.ours == self.theirs);
+        self.tally.answered(second);
+        for (end, _) in ENDS.iter().zip(stands_at(&self.theirs)).filter(|(_, there)| *there) {
+            self.tally.saw(&format!("at {end}"));
+        }
     }
-}
 
-/// A command's own numbers, in their order.
-fn numbers(command: Command) -> [u64; 4] {
-    match command {
-        Command::Begin | Command::Tick => [0; 4],
-        Command::Get { session, key } => [session, key, 0, 0],
-        Command::Fill { token, key } => [token, key, 0, 0],
-        Command::Quar { session, key, kind } => [session, key, kind, 0],
-        Command::Stage { session, step, key } => [session, step, key, 0],
-        Command::Delta { session, step, key, operation } => [session, step, key, operation],
-        Command::Validate { session, n } => [session, n, 0, 0],
-        Command::Done { session } | Command::Undo { session } => [session, 0, 0, 0],
-        Command::Evict { key } => [key, 0, 0, 0],
+    /// A command whose number is none of the list: ARG, behind STATE and CLOCK, as of a key over 255.
+    fn outside(&mut self, now: u64) {
+        let number = [0, 12, 13, u64::MAX, self.random.next()][self.random.below(5) as usize];
+        let proved = proved::run(&mut self.ours, now, number, [0; 4], b"");
+        let second = told(lent::run(&mut self.theirs, now, Command::Evict { key: 256 }, b""));
+        self.tally.look((now, number), proved, second, self.ours == self.theirs);
+        self.tally.saw(OUTSIDE);
     }
-}
 
-impl Tally {
-    fn step(&mut self, ours: &mut [u8], theirs: &mut [u8], now: u64, command: Command, value: &[u8]) {
-        let proved = proved::run(ours, now, command.number(), numbers(command), value);
-        let second = told(lent::run(theirs, now, command, value));
-        self.commands += 1;
-        self.differences += u64::from(proved != second || ours != theirs);
-        let name = if second.0 == "REFUSED" { format!("REFUSED {}", second.1) } else { second.0.to_string() };
-        *self.seen.entry(name).or_default() += 1;
+    /// A command on a damaged copy, or on one of another length.
+    fn damaged(&mut self, now: u64, command: Command, value: &[u8]) {
+        let mut state = self.theirs.clone();
+        match self.random.below(4) {
+            0 => drop(state.pop()),
+            1 => state.push(0),
+            2 => state.truncate(self.random.below(65_536) as usize),
+            _ => {
+                let at = self.random.below(65_536) as usize;
+                state[at] ^= 1 << self.random.below(8);
+            }
+        }
+        let mut other = Pair { tally: self.tally, shown: self.shown, random: self.random, ours: state.clone(), theirs: state };
+        other.step(now, command, value);
+        other.show(256);
+    }
+
+    /// Both calls of SHOW on the state as it stands.
+    fn show(&mut self, near: u64) {
+        let (session, key) = self.asked(near);
+        show::compare(self.shown, &self.theirs, session, key);
+    }
+
+    /// A session and a key to be shown: those of a row half the time, else anyone's.
+    fn asked(&mut self, near: u64) -> (u64, u64) {
+        let Ok(state) = <&Bytes>::try_from(&self.theirs[..]) else {
+            return (0, self.random.below(near));
+        };
+        let row = commands::taken(self.random, rows(state), ROW_SESSION);
+        let (session, key) = row.map_or((1, 0), |row| (u32_at(row, ROW_SESSION), u64::from(row[ROW_KEY])));
+        match self.random.below(16) {
+            0..=7 => (session, key),
+            8..=10 => (0, self.random.below(near)),
+            11 => (session, self.random.below(near)),
+            12 => (0, key),
+            13 => (u32_at(state, NEXT_SESSION), key),
+            14 => (self.random.next(), self.random.below(258)),
+            _ => (session, 256 + self.random.below(2) * self.random.next() / 2),
+        }
     }
 
     /// A whole session on one key: opened, quarantined, staged with a repeat, read, validated and finished.
-    fn session(&mut self, random: &mut Random, ours: &mut [u8], theirs: &mut [u8], now: u64, near: u64) {
-        let session = u64::from(u32::from_le_bytes(theirs[16..20].try_into().unwrap_or_default()));
-        let (key, kind) = (random.below(near), 2 + random.below(2));
-        self.step(ours, theirs, now, Command::Begin, b"");
-        self.step(ours, theirs, now, Command::Quar { session, key, kind }, b"");
+    fn session(&mut self, now: u64, near: u64) {
+        let session = u32_at(&self.theirs, NEXT_SESSION);
+        let (key, kind) = (self.random.below(near), 2 + self.random.below(2));
+        self.step(now, Command::Begin, b"");
+        self.step(now, Command::Quar { session, key, kind }, b"");
         for step in [0, 0, 1, 2] {
-            let width = 8 * random.below(4);
-            let value = random.below(1 << width).to_string();
+            let width = 8 * self.random.below(4);
+            let value = self.random.below(1 << width).to_string();
             let command = match kind {
                 2 => Command::Stage { session, step, key },
-                _ => Command::Delta { session, step, key, operation: 1 + random.below(4) },
+                _ => Command::Delta { session, step, key, operation: 1 + self.random.below(4) },
             };
-            self.step(ours, theirs, now, command, value.as_bytes());
+            self.step(now, command, value.as_bytes());
         }
-        self.step(ours, theirs, now, Command::Get { session, key }, b"");
-        self.step(ours, theirs, now, Command::Validate { session, n: 3 }, b"");
-        self.step(ours, theirs, now, Command::Done { session }, b"");
+        self.step(now, Command::Get { session, key }, b"");
+        self.step(now, Command::Validate { session, n: 3 }, b"");
+        self.step(now, Command::Done { session }, b"");
     }
 
-    /// A sequence from one state, its clock moving on by small and by large steps.
-    fn sequence(&mut self, random: &mut Random, from: &[u8], commands: u64, near: u64) {
-        let (mut ours, mut theirs) = (from.to_vec(), from.to_vec());
-        let mut now = u64::from_le_bytes(from[..8].try_into().unwrap_or_default());
-        for _ in 0..commands {
-            let (command, value) = command(random, &theirs, near);
-            if random.below(40) == 0 {
-                self.session(random, &mut ours, &mut theirs, now, near);
-            }
-            let late = random.below(60) == 0;
-            self.step(&mut ours, &mut theirs, if late { now.saturating_sub(1) } else { now }, command, &value);
-            now += match random.below(900) {
-                0 => 1_000,
-                1 => 5_000,
-                2 => 4_999,
-                _ => random.below(30) / 20,
-            };
-        }
-    }
-}
-
-/// The state with its clock at the last time, and nothing that lapses.
-fn last_time(mut state: Vec<u8>) -> Vec<u8> {
-    state[..8].copy_from_slice(&((1u64 << 48) - 2).to_le_bytes());
-    state
-}
-
-pub fn compare(seed: u64, more: u64) -> Tally {
-    let mut random = Random::new(seed);
-    let mut tally = Tally::default();
-    for round in 0..100 * more {
-        let near = 2 + round % 40;
-        let from = match round % 6 {
-            0 => fresh(),
-            1 => full(),
-            2 => at_the_end(used(&mut random, 300, near), (round / 6 % 3) as u32),
-            3 => last_time(fresh()),
-            _ => used(&mut random, 200, near),
+    /// The time of the next command: soon after the clock, seldom a lifetime later, seldom before it or past the last.
+    fn time(&mut self) -> u64 {
+        let clock = u64_at(&self.theirs, CLOCK);
+        let later = match self.random.below(1_200) {
+            0 => 1_000,
+            1 => 5_000,
+            2 => 4_999,
+            3..=22 => return clock.wrapping_sub(1),
+            23..=28 => return LAST_TIME + 1 + self.random.below(2),
+            29 => return self.random.next(),
+            _ => self.random.below(30) / 20,
         };
-        tally.sequence(&mut random, &from, 2_000, 2 + round % 7);
+        (clock + later).min(LAST_TIME)
     }
-    let mut damaged = vec![0; STATE_SIZE];
-    let mut other = damaged.clone();
-    tally.step(&mut damaged, &mut other, 0, Command::Tick, b"");
-    tally
+
+    /// So many commands, the clock moving on by small and by large steps.
+    fn sequence(&mut self, commands: u64, near: u64) {
+        for _ in 0..commands {
+            let (command, value) = command(self.random, &self.theirs, near);
+            let now = self.time();
+            match self.random.below(120) {
+                0..=2 => self.session(now, near),
+                3 => self.outside(now),
+                4 => self.damaged(now, command, &value),
+                _ => {}
+            }
+            self.step(now, command, &value);
+            self.show(near);
+        }
+    }
+}
+
+/// The state that a sequence begins with.
+fn beginning(random: &mut Random, round: u64, near: u64) -> Vec<u8> {
+    let nth = round / 8;
+    match round % 8 {
+        0 => fresh(),
+        1 => full(),
+        2 => crowded(),
+        3 => at_the_end(used(random, 300, near), (nth % 3) as u32),
+        4 => at_last_time(&used(random, 200, near), nth % 3),
+        5 => at_last_step(&used(random, 200, near)),
+        6 => at_last_time(&at_last_step(&at_the_end(crowded(), (nth % 3) as u32)), 10),
+        _ => used(random, 200, near),
+    }
+}
+
+/// The tallies of the commands and of SHOW, which is asked after each of them.
+pub fn compare(seed: u64, more: u64) -> (Tally, Tally) {
+    let mut random = Random::new(seed);
+    let (mut tally, mut shown) = (Tally::default(), Tally::default());
+    for round in 0..200 * more {
+        let near = 2 + round % 40;
+        let from = beginning(&mut random, round, near);
+        let mut pair = Pair { tally: &mut tally, shown: &mut shown, random: &mut random, ours: from.clone(), theirs: from };
+        pair.sequence(2_000, 2 + round % 11);
+    }
+    (tally, shown)
 }

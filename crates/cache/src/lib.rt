@@ -66,12 +66,12 @@ fn lapsing(s: &mut [u8], time: u64, command: Command, value: &[u8]) -> Answer
     let mut copy: [u8; 65536] = [0; 65536];
     lent::copy_in(&mut copy, 0, s);
     sweep::sweep(&mut copy, time);
-    let r = still(&mut copy, time, command, value);
-    if outcome::is_refused(r) {
-        return r;
+    let answer = still(&mut copy, time, command, value);
+    if outcome::is_refused(answer) {
+        return answer;
     }
     lent::copy_in(s, 0, &copy);
-    r
+    answer
 }
 
 fn settle(s: &mut [u8], time: u64, command: Command, value: &[u8]) -> Answer

@@ -1,40 +1,29 @@
--- Where a HIT's value stands in the lent state; 0 for every other answer. (An answer's word and what goes with it are in the machine's `Words`.)
+-- What the library gives to a caller that has no enum: an answer as numbers, by the definitions of its word, of what goes with it (the
+-- machine's `Words`) and of a HIT's place (`words`).
 use Prim.Native.Nat.{ℕ}
 use mathlib.Core.Path.{_≡_}
-use mathlib.Core.List.{List}
-use lib.ListN.{set}
+use mathlib.Core.List.{List, [], _∷_}
+use lib.ListN.{length}
 use Rattle.machine.specs.Words.{wordOf, detailOf}
-use Rattle.startup.specs.Start.{Reply}
+use Rattle.machine.specs.Step.{Shown}
 use Rattle.machine.specs.declared.Answer.{Answer}
+use Rattle.startup.specs.Start.{Reply}
+use Rattle.words.specs.Place.{placeOf}
 
-abbrev pub placeOf : Answer → ℕ
-placeOf Answer.Ready = 0
-placeOf (Answer.Session n) = 0
-placeOf (Answer.Hit a n) = a
-placeOf Answer.Ask = 0
-placeOf (Answer.Backoff w) = 0
-placeOf (Answer.Lease t) = 0
-placeOf Answer.Stored = 0
-placeOf Answer.Ignored = 0
-placeOf Answer.Held = 0
-placeOf Answer.Granted = 0
-placeOf Answer.Aborted = 0
-placeOf Answer.Staged = 0
-placeOf Answer.Repeated = 0
-placeOf Answer.Dropped = 0
-placeOf Answer.Validated = 0
-placeOf Answer.Lost = 0
-placeOf Answer.Done = 0
-placeOf Answer.Undone = 0
-placeOf Answer.Evicted = 0
-placeOf Answer.Empty = 0
-placeOf Answer.Ticked = 0
-placeOf (Answer.Value n) = 0
-placeOf Answer.None = 0
-placeOf (Answer.Refused n) = 0
+-- raised with each change of a name, a number or a parameter of the library
+abbrev pub version : ℕ
+version = 1
 
--- a reply as numbers: the word is returned, the bytes are left in the lent state, the detail and the place in what was told
-pub record Told (f : Reply) (told : List ℕ) (r : ℕ) (state after : List ℕ) : Type 0 where
-  pub word : r ≡ wordOf (f .answer)
+-- the word is returned; what goes with it and a HIT's place are told
+pub record Said (a : Answer) (r : ℕ) (told : List ℕ) : Type 0 where
+  pub word : r ≡ wordOf a
+  pub numbers : told ≡ detailOf a ∷ placeOf a ∷ []
+
+-- the answer of a reply, and its bytes in the lent state
+pub record Replied (f : Reply) (r : ℕ) (state told : List ℕ) : Type 0 where
+  pub said : Said (f .answer) r told
   pub bytes : state ≡ f .bytes
-  pub numbers : after ≡ set (set told 0 (detailOf (f .answer))) 1 (placeOf (f .answer))
+
+-- length and place of the stretch that SHOW hands back, as a HIT's are told
+abbrev pub stretchTold : Shown → List ℕ
+stretchTold x = length (x .value) ∷ x .at ∷ []

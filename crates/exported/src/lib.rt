@@ -1,106 +1,28 @@
-// The library that firmware links: the proved functions under plain names, with numbers for answers.
+// The library that firmware links: the proved functions under plain names, with numbers for answers. Its header is include/basalekko.h.
 ghost use mathlib.Core.Path.{_≡_};
-ghost use Rattle.machine.specs.Words.{wordOf, detailOf};
 ghost use Rattle.layout.specs.WellFormed.{wellFormed};
 ghost use Rattle.cache.specs.Run.{commandOf, ranBy};
+ghost use Rattle.show.specs.Show.{showOf};
 ghost use Rattle.startup.specs.Start.{startOf};
-ghost use Rattle.exported.specs.Told.{placeOf, Told};
+ghost use Rattle.exported.specs.Told.{version, Said, Replied, stretchTold};
 use machine::Answer;
 
-// The number of an answer's word.
-fn word(a: Answer) -> u64
-    ensures { λ r. ⌜ r ≡ wordOf a ⌝ }
+const VERSION: u64 = 1;
+
+// An answer as numbers: its word is returned, what goes with it and a HIT's place are told.
+fn tell(a: Answer, told: &mut [u64; 2]) -> u64
+    ensures { λ r. ⌜ Said a r (now (told .exit)) ⌝ }
 {
-    match a {
-        Answer::Ready => 1,
-        Answer::Session(_) => 2,
-        Answer::Hit { at: _, length: _ } => 3,
-        Answer::Ask => 4,
-        Answer::Backoff(_) => 5,
-        Answer::Lease(_) => 6,
-        Answer::Stored => 7,
-        Answer::Ignored => 8,
-        Answer::Held => 9,
-        Answer::Granted => 10,
-        Answer::Aborted => 11,
-        Answer::Staged => 12,
-        Answer::Repeated => 13,
-        Answer::Dropped => 14,
-        Answer::Validated => 15,
-        Answer::Lost => 16,
-        Answer::Done => 17,
-        Answer::Undone => 18,
-        Answer::Evicted => 19,
-        Answer::Empty => 20,
-        Answer::Ticked => 21,
-        Answer::Value(_) => 22,
-        Answer::None => 23,
-        Answer::Refused(_) => 0,
-    }
+    *told = [words::detail(a), words::place(a)];
+    words::word(a)
 }
 
-// The session, token, wait, length or refusal number that goes with it, or 0.
-fn detail(a: Answer) -> u64
-    ensures { λ r. ⌜ r ≡ detailOf a ⌝ }
+// Raised with each change of a name, a number or a parameter.
+#[no_mangle]
+pub extern "C" fn basalekko_version() -> u64
+    ensures { λ r. ⌜ r ≡ version ⌝ }
 {
-    match a {
-        Answer::Ready => 0,
-        Answer::Session(n) => n as u64,
-        Answer::Hit { at: _, length } => length as u64,
-        Answer::Ask => 0,
-        Answer::Backoff(n) => n,
-        Answer::Lease(n) => n as u64,
-        Answer::Stored => 0,
-        Answer::Ignored => 0,
-        Answer::Held => 0,
-        Answer::Granted => 0,
-        Answer::Aborted => 0,
-        Answer::Staged => 0,
-        Answer::Repeated => 0,
-        Answer::Dropped => 0,
-        Answer::Validated => 0,
-        Answer::Lost => 0,
-        Answer::Done => 0,
-        Answer::Undone => 0,
-        Answer::Evicted => 0,
-        Answer::Empty => 0,
-        Answer::Ticked => 0,
-        Answer::Value(n) => n as u64,
-        Answer::None => 0,
-        Answer::Refused(n) => n as u64,
-    }
-}
-
-// Where a HIT's value stands, or 0.
-fn place(a: Answer) -> u64
-    ensures { λ r. ⌜ r ≡ placeOf a ⌝ }
-{
-    match a {
-        Answer::Ready => 0,
-        Answer::Session(_) => 0,
-        Answer::Hit { at, length: _ } => at as u64,
-        Answer::Ask => 0,
-        Answer::Backoff(_) => 0,
-        Answer::Lease(_) => 0,
-        Answer::Stored => 0,
-        Answer::Ignored => 0,
-        Answer::Held => 0,
-        Answer::Granted => 0,
-        Answer::Aborted => 0,
-        Answer::Staged => 0,
-        Answer::Repeated => 0,
-        Answer::Dropped => 0,
-        Answer::Validated => 0,
-        Answer::Lost => 0,
-        Answer::Done => 0,
-        Answer::Undone => 0,
-        Answer::Evicted => 0,
-        Answer::Empty => 0,
-        Answer::Ticked => 0,
-        Answer::Value(_) => 0,
-        Answer::None => 0,
-        Answer::Refused(_) => 0,
-    }
+    VERSION
 }
 
 // Whether the buffer holds a well-formed state.
@@ -111,15 +33,21 @@ pub extern "C" fn basalekko_well_formed(state: &[u8]) -> bool
     state::well_formed(state)
 }
 
-// START: the word of its answer.
+// START.
 #[no_mangle]
-pub extern "C" fn basalekko_start(state: &mut [u8], read: u64, write: u64) -> u64
-    ensures { λ r. ⌜ (r ≡ wordOf (startOf (now (state .entry)) read write .answer)) × (now (state .exit) ≡ startOf (now (state .entry)) read write .bytes) ⌝ }
+pub extern "C" fn basalekko_start(
+    state: &mut [u8],
+    read: u64,
+    write: u64,
+    told: &mut [u64; 2],
+) -> u64
+    ensures { λ r. ⌜ Replied (startOf (now (state .entry)) read write) r (now (state .exit)) (now (told .exit)) ⌝ }
 {
-    word(startup::start(state, read, write))
+    let answer = startup::start(state, read, write);
+    tell(answer, told)
 }
 
-// One command by its number: the word of its answer, with what goes with it.
+// One command by its number.
 #[no_mangle]
 pub extern "C" fn basalekko_run(
     state: &mut [u8],
@@ -132,10 +60,26 @@ pub extern "C" fn basalekko_run(
     value: &[u8],
     told: &mut [u64; 2],
 ) -> u64
-    ensures { λ r. ⌜ Told (ranBy (now (state .entry)) time (now (value .entry)) (commandOf number a b c d)) (now (told .entry)) r (now (state .exit)) (now (told .exit)) ⌝ }
+    ensures { λ r. ⌜ Replied (ranBy (now (state .entry)) time (now (value .entry)) (commandOf number a b c d)) r (now (state .exit)) (now (told .exit)) ⌝ }
 {
-    let r = cache::run_numbered(state, time, number, a, b, c, d, value);
-    told[0] = detail(r);
-    told[1] = place(r);
-    word(r)
+    let answer = cache::run_numbered(state, time, number, a, b, c, d, value);
+    tell(answer, told)
+}
+
+// SHOW's first call: VALUE with the length, NONE, or the refusal.
+#[no_mangle]
+pub extern "C" fn basalekko_show(state: &[u8], session: u64, key: u64, told: &mut [u64; 2]) -> u64
+    ensures { λ r. ⌜ Said (showOf (now (state .entry)) session key .answer) r (now (told .exit)) ⌝ }
+{
+    let answer = show::show(state, session, key);
+    tell(answer, told)
+}
+
+// SHOW's second call: length and place of the stretch.
+#[no_mangle]
+pub extern "C" fn basalekko_stretch(state: &[u8], session: u64, key: u64, told: &mut [u64; 2])
+    ensures { λ _. ⌜ now (told .exit) ≡ stretchTold (showOf (now (state .entry)) session key) ⌝ }
+{
+    let part = show::part(state, session, key);
+    *told = [part.length as u64, part.at as u64];
 }

@@ -22,8 +22,6 @@ use Rattle.layout.specs.Holds.{LeaseFits, Holds}
 use Rattle.outcome.specs.Outcome.{tried, Gives}
 
 -- an outcome that is known, and bytes that hold its state
-pub gives : {o : Outcome} {b : List ℕ} (a : Answer) (s : State) → o ≡ told a s → Holds b s → Gives o a b
-gives a s e h = rw e (record { answer = refl; holds = h })
 
 -- ---- the token
 

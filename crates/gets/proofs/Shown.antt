@@ -7,9 +7,9 @@ use mathlib.Core.List.{List, []}
 use mathlib.Core.Option.{Option, none, some}
 use Prim.Native.Nat.{ℕ, _≤_, _<_}
 use native.Mathlib.Omega.{arith}
-use lib.Dec.{eqb}
-use lib.ListN.{length}
-use borrow.Author.Tests.{le-leb, lt-leb}
+use lib.Dec.{eqb, leb}
+use lib.ListN.{length, take, drop}
+use borrow.Author.Tests.{le-leb, lt-leb, leb-true, leb-false}
 use Rattle.lent.specs.Bytes.{win}
 use Rattle.lent.specs.Tables.{if_then_else_}
 use Rattle.machine.specs.Sizes.{keyCount, valueAt, stagedAt}
@@ -61,12 +61,11 @@ module _ {b : List ℕ} {s : State} (h : Holds b s) (k : ℕ) (l : k < keyCount)
 abbrev pub bare : Answer → Shown
 bare a = record { answer = a; at = 0; value = [] }
 
--- a value is shown: its length, its place, and that it stands there
-pub record Shows (b : List ℕ) (x : Shown) (at n : ℕ) : Type 0 where
+-- a value is shown: its length and its place
+pub record Shows (x : Shown) (at n : ℕ) : Type 0 where
   pub answer : x .answer ≡ Answer.Value n
   pub place : x .at ≡ at
   pub size : length (x .value) ≡ n
-  pub stands : win b at n ≡ x .value
 
 module _ (s : State) (n k : ℕ) where
   pub shown-key : keyCount ≤ k → show s n k ≡ bare (Answer.Refused 3)
@@ -90,12 +89,29 @@ module _ (s : State) (n k : ℕ) where
           go none p = refl
           go (some x) p = absurd (let z : _≡_ {A = ℕ} 0 1 = cc in omega arith)
 
-      pub shown-at : {b : List ℕ} → Holds b s → (at m : ℕ) → placed (sight s n k) ≡ Sight.At at m → Shows b (show s n k) at m
-      shown-at {b} h at m p = rw shown-seen (go (sight s n k) refl p)
+      pub shown-at : (at m : ℕ) → placed (sight s n k) ≡ Sight.At at m → Shows (show s n k) at m
+      shown-at at m p = rw shown-seen (go (sight s n k) p)
         where
-          go : (o : Option Seen) → sight s n k ≡ o → placed o ≡ Sight.At at m → Shows b (seen o) at m
-          go none q p = absurd (let z : _≡_ {A = ℕ} 0 1 = cc in omega arith)
-          go (some x) q p =
-              let a : x .at ≡ at = cc in
-              let z : length (x .value) ≡ m = cc in
-              record { answer = ap Answer.Value z; place = a; size = z; stands = rw (← a, ← z) (sight-stands h k l n x q) }
+          go : (o : Option Seen) → placed o ≡ Sight.At at m → Shows (seen o) at m
+          go none p = absurd (let z : _≡_ {A = ℕ} 0 1 = cc in omega arith)
+          go (some x) p = let z : length (x .value) ≡ m = cc in record { answer = ap Answer.Value z; place = cc; size = z }
+
+  -- what is handed back stands in the lent bytes, at its place
+  pub shown-stands : {b : List ℕ} → Holds b s → win b (show s n k .at) (length (show s n k .value)) ≡ show s n k .value
+  unfolding win
+  shown-stands {b} h = key (leb keyCount k) refl
+    where
+      Shown-there : Shown → Type 0
+      Shown-there x = take (length (x .value)) (drop (x .at) b) ≡ x .value
+
+      sees : k < keyCount → (o : Option Seen) → sight s n k ≡ o → Shown-there (seen o)
+      sees l none q = refl
+      sees l (some x) q = sight-stands h k l n x q
+
+      knows : k < keyCount → (t : Bool) → (not (eqb n 0) && notLive s n) ≡ t → Shown-there (show s n k)
+      knows l true e = rw (shown-unknown l e)
+      knows l false e = rw (shown-seen l e) (sees l (sight s n k) refl)
+
+      key : (t : Bool) → leb keyCount k ≡ t → Shown-there (show s n k)
+      key true e = rw (shown-key (leb-true keyCount k e))
+      key false e = knows (leb-false keyCount k e) (not (eqb n 0) && notLive s n) refl

@@ -6,6 +6,11 @@ use denote.Ref.{RefT}
 use lib.ListN.{length}
 use Rattle.lent.specs.Bytes.{win}
 use Rattle.machine.specs.Step.{Shown}
+use Rattle.gets.specs.declared.Span.{Span}
+
+-- its place and its length
+abbrev pub spanOf : Shown → Span
+spanOf x = record { at = x .at; length = length (x .value) }
 
 -- r is the part of the lent state s that the definition names: from its place, with its length, and it holds its value
 pub record Stretch (s r : RefT (List ℕ)) (x : Shown) : Type 0 where

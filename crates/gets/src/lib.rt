@@ -2,7 +2,7 @@
 ghost use mathlib.Core.Path.{_≡_};
 ghost use mathlib.Core.Bool.{true, not, _&&_};
 ghost use mathlib.Core.List.{[]};
-ghost use Prim.Native.Nat.{_≤_, _<_};
+ghost use Prim.Native.Nat.{_≤_, _<_, _+_};
 ghost use lib.Dec.{eqb};
 ghost use lib.ListN.{length};
 ghost use Rattle.machine.specs.Sizes.{stateSize, keyCount, rowCount, timeMax, numberMax};
@@ -15,7 +15,7 @@ ghost use Rattle.layout.specs.Holds.{Holds};
 ghost use Rattle.outcome.specs.Outcome.{tried, Gives, Does};
 ghost use Rattle.gets.specs.Sights.{placed, Inside};
 ghost use Rattle.gets.specs.Got.{asked as askedOf, absent as absentOf, others as othersOf};
-ghost use Rattle.gets.specs.Stretch.{Stretch};
+ghost use Rattle.gets.specs.Stretch.{spanOf, Stretch};
 use layout::Found;
 use machine::Answer;
 
@@ -30,6 +30,12 @@ const LAST_TOKEN: u32 = 4294967294;
 pub enum Sight {
     At { at: usize, length: usize },
     Nothing,
+}
+
+// A stretch of the lent state, by its place and its length.
+pub struct Span {
+    pub at: usize,
+    pub length: usize,
 }
 
 // The cached value of key k.
@@ -179,23 +185,31 @@ pub fn show(s: &[u8], session: u64, key: u64) -> Answer
     }
 }
 
-// The stretch of SHOW, in the lent state itself; for NONE and on a refusal the empty one at its first byte.
+// Where the stretch of SHOW stands, and its length; for NONE and on a refusal that of the empty one at the first byte.
+pub fn part(s: &[u8], session: u64, key: u64) -> Span
+    requires { ⌜ length (now s) ≡ stateSize ⌝ }
+    ensures { λ r. ⌜ ((σ : State) → Holds (now (s .entry)) σ → r ≡ spanOf (showOf σ session key)) × (r .at + r .length ≤ stateSize) ⌝ }
+{
+    if layout::KEY_COUNT as u64 <= key {
+        return Span { at: 0, length: 0 };
+    }
+    if is_unknown(s, session) {
+        return Span { at: 0, length: 0 };
+    }
+    let sight = look(s, session, key as usize);
+    match sight {
+        Sight::At { at, length } => Span { at, length },
+        Sight::Nothing => Span { at: 0, length: 0 },
+    }
+}
+
+// The stretch of SHOW, in the lent state itself.
 pub fn stretch(s: &[u8], session: u64, key: u64) -> &[u8]
     requires { ⌜ length (now s) ≡ stateSize ⌝ }
     ensures { λ r. ⌜ ((σ : State) → Holds (now (s .entry)) σ → Stretch (s .entry) r (showOf σ session key)) ⌝ }
 {
-    if layout::KEY_COUNT as u64 <= key {
-        return &s[..0];
-    }
-    if is_unknown(s, session) {
-        return &s[..0];
-    }
-    let sight = look(s, session, key as usize);
-    match sight {
-        Sight::At { at, length } => {
-            let end = at + length;
-            &s[at..end]
-        }
-        Sight::Nothing => &s[..0],
-    }
+    let span = part(s, session, key);
+    let at = span.at;
+    let end = at + span.length;
+    &s[at..end]
 }

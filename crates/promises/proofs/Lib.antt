@@ -2,3 +2,5 @@ pub mod Ran
 pub mod Follow
 pub mod OneAnswer
 pub mod HitShown
+pub mod ExamplesRun
+pub mod Linked

@@ -2,13 +2,11 @@
 ghost use mathlib.Core.Path.{_≡_};
 ghost use mathlib.Core.Bool.{true};
 ghost use mathlib.Core.List.{[]};
-ghost use mathlib.Core.Option.{none};
 ghost use Prim.Native.Nat.{_≤_, _<_};
 ghost use lib.Dec.{eqb};
 ghost use lib.ListN.{length};
 ghost use Rattle.machine.specs.Sizes.{stateSize, keyCount, sessionCount};
 ghost use Rattle.machine.specs.State.{State, kindOf, rowOf, numbered, sessionAt};
-ghost use Rattle.machine.specs.Expiry.{withKeys, setLease};
 ghost use Rattle.machine.specs.Refusals.{heldOn};
 ghost use Rattle.machine.specs.Sound.{sound};
 ghost use Rattle.machine.specs.declared.Command.the-variants.{Quar};
@@ -19,9 +17,6 @@ use askers::Asker;
 use layout::Found;
 use machine::Answer;
 use machine::Verdict;
-
-// The bytes of an I lease: token and deadline.
-const LEASE_SIZE: usize = 12;
 
 // Whether session n has a row of this kind on key k.
 fn holds(s: &[u8], n: u32, k: u8, kind: u8) -> bool
@@ -61,19 +56,7 @@ fn held(s: &[u8], k: usize) -> usize
     }
 }
 
-// The I lease on key k is voided.
-fn void_lease(s: &mut [u8], k: usize)
-    requires { ⌜ (length (now s) ≡ stateSize) × (k < keyCount) ⌝ }
-    ensures { λ _. ⌜ ((σ : State) → Holds (now (s .entry)) σ → Holds (now (s .exit)) (withKeys σ (setLease (σ .keys) k none))) ⌝ }
-{
-    lent::clear(
-        s,
-        layout::KEYS_FROM + k * layout::KEY_WIDTH + layout::KEY_TOKEN,
-        LEASE_SIZE,
-    );
-}
-
-// The lowest free row is taken; where there is none, the refusal is ROOM.
+// The lowest free row is taken and the I lease voided; where there is none, the refusal is ROOM.
 fn grant(s: &mut [u8], n: u32, k: u8, kind: u8) -> Answer
     requires { ⌜ length (now s) ≡ stateSize ⌝ }
     ensures { λ r. ⌜ ((σ : State) → Holds (now (s .entry)) σ → 1 ≤ n → Gives (grant σ n k kind) r (now (s .exit))) ⌝ }
@@ -82,7 +65,7 @@ fn grant(s: &mut [u8], n: u32, k: u8, kind: u8) -> Answer
         return Answer::Refused(12);
     };
     rows::put(s, i, n, k, kind);
-    void_lease(s, k as usize);
+    sweep::records::drop_lease(s, k as usize);
     Answer::Granted
 }
 

@@ -112,7 +112,7 @@ fn rehearse(
 
 fn main() {
     let mut cache = [0u8; CACHE];
-    let mut book = [0u8; rehearsal::BOOK_SIZE];
+    let mut book = [0u8; book::BOOK_SIZE];
     let mut line = [0u8; feed::HELD_MAX];
     let mut chunk = [0u8; CHUNK];
     let mut out = [0u8; OUT];

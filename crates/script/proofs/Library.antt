@@ -11,7 +11,9 @@ use borrow.Author.Tests.{le-leb}
 use Rattle.lent.specs.Bytes.{splice, win}
 use Rattle.lent.specs.Tables.{if_then_else_}
 use Rattle.lent.proofs.Splice.{length-win, part-win, splice-none}
-use Rattle.rehearsal.specs.Rehearsal.{Turn, Left, Leaves, bookSize, lineRoom, wrote, turn, lineOf, endText, endOf}
+use Rattle.book.specs.Book.{bookSize, linesIn, brokenIn}
+use Rattle.replies.specs.Replies.{lineRoom, ended}
+use Rattle.rehearsal.specs.Rehearsal.{Turn, Left, Leaves, wrote, turn, lineOf, endOf}
 use Rattle.script.specs.World.{World, turned, answerLine, endLine}
 use Rattle.script.specs.Buffers.{textMax, worldOf, Printed, Says}
 use Rattle.script.proofs.Prints.{printed-part}
@@ -56,8 +58,8 @@ module _ (cache book part : List ℕ) (room : leb lineRoom (length part) ≡ tru
   unfolding endOf endLine
   end-put x r = rw room (go (eqb (length book) bookSize))
     where
-      go : (t : Bool) → let l : Left = if t && true then wrote (record { text = endText book; cache = []; book = book }) part else record { length = 0; cache = []; book = book; out = part } in (r ≡ l .length) × (x ≡ l .out)
-          → Put (if t then endText book else []) part r x
+      go : (t : Bool) → let l : Left = if t && true then wrote (record { text = ended (linesIn book) (brokenIn book); cache = []; book = book }) part else record { length = 0; cache = []; book = book; out = part } in (r ≡ l .length) × (x ≡ l .out)
+          → Put (if t then ended (linesIn book) (brokenIn book) else []) part r x
       go true e = record { number = e .0; bytes = e .1 }
       go false e = record { number = e .0; bytes = e .1 ∙ sym (splice-none part 0) }
 

@@ -6,7 +6,9 @@ use lib.ListN.{length}
 use Rattle.lent.specs.Tables.{if_then_else_}
 use Rattle.feed.specs.Lines.{handed}
 use Rattle.feed.specs.Answers.{Said, answers, last}
-use Rattle.rehearsal.specs.Rehearsal.{Turn, bookSize, turn, endText}
+use Rattle.book.specs.Book.{bookSize, linesIn, brokenIn}
+use Rattle.replies.specs.Replies as replies
+use Rattle.rehearsal.specs.Rehearsal.{Turn, turn}
 
 -- what a line changes: the cache's bytes and the book's
 pub record World : Type 0 where
@@ -22,7 +24,7 @@ answerLine w l = if eqb (length (w .book)) bookSize then turned (turn (w .cache)
 
 -- the end line
 unfoldable pub endLine : World → List ℕ
-endLine w = if eqb (length (w .book)) bookSize then endText (w .book) else []
+endLine w = if eqb (length (w .book)) bookSize then replies.ended (linesIn (w .book)) (brokenIn (w .book)) else []
 
 -- the end line behind what was said last
 abbrev pub closed : Said World → Said World

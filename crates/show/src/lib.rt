@@ -1,7 +1,8 @@
 // SHOW, in two calls on the same state: one answers, the other gives the stretch alone.
 ghost use mathlib.Core.Path.{_≡_};
-ghost use Rattle.gets.specs.Stretch.{Stretch};
+ghost use Rattle.gets.specs.Stretch.{spanOf, Stretch};
 ghost use Rattle.show.specs.Show.{showOf};
+use gets::Span;
 use machine::Answer;
 
 // VALUE with the length, NONE, or the refusal.
@@ -22,4 +23,14 @@ pub fn stretch(s: &[u8], session: u64, key: u64) -> &[u8]
         return &s[..0];
     }
     gets::stretch(s, session, key)
+}
+
+// That part by its place and its length.
+pub fn part(s: &[u8], session: u64, key: u64) -> Span
+    ensures { λ r. ⌜ r ≡ spanOf (showOf (now (s .entry)) session key) ⌝ }
+{
+    if !state::well_formed(s) {
+        return Span { at: 0, length: 0 };
+    }
+    gets::part(s, session, key)
 }

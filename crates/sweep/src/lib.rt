@@ -117,8 +117,8 @@ fn sessions_lapse(s: &[u8], time: u64) -> bool
     requires { ⌜ length (now s) ≡ stateSize ⌝ }
     ensures { λ r. ⌜ ((σ : State) → Holds (now (s .entry)) σ → r ≡ any (dueSlot time) (σ .sessions)) ⌝ }
 {
-    for i in 0..layout::SESSION_COUNT {
-        if records::session_due(s, i, time) {
+    for place in 0..layout::SESSION_COUNT {
+        if records::session_due(s, place, time) {
             return true;
         }
     }

@@ -32,8 +32,6 @@ use Rattle.layout.proofs.Search.{found-at, found-nothing, found-full, found-roo
 use Rattle.outcome.specs.Outcome.{tried, Gives}
 
 -- an outcome told, held by the bytes
-pub gives : {o : Outcome} {b : List ℕ} (a : Answer) (t : State) → o ≡ told a t → Holds b t → Gives o a b
-gives a t e h = rw e (record { answer = refl; holds = h })
 
 -- ---- the session that was found
 

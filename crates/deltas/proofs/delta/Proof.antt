@@ -4,7 +4,7 @@ use mathlib.Core.Path.{sym, _∙_}
 use borrow.Author.Tests.{not-true, not-false}
 use borrow.Author.Needs.{needs}
 use Rattle.stages.proofs.Staged.{staging-at}
-use Rattle.askers.proofs.Told.{gives}
+use Rattle.outcome.proofs.Told.{gives}
 use Rattle.deltas.proofs.Tried.{delta-key, delta-operation, delta-step, delta-long, delta-found, delta-changes}
 use Rattle.deltas.proofs.delta.Statement.{statement}
 use Rattle.deltas.proofs.delta.Tie as tie

@@ -1,6 +1,4 @@
--- The word is that of the answer that START gives.
-use mathlib.Core.Path.{_≡_, refl, sym, ap, _∙_}
-use Rattle.machine.specs.Words.{wordOf}
+-- The reply is the one that START gives, its answer told as numbers.
 use borrow.Author.Needs.{needs}
 use Rattle.exported.proofs.basalekko_start.Statement.{statement}
 use Rattle.exported.proofs.basalekko_start.Tie as tie
@@ -8,14 +6,14 @@ use Rattle.exported.proofs.basalekko_start.Tie as tie
 start-requires : tie.Need-start-requires
 start-requires c κs = search needs
 
-word-requires : tie.Need-word-requires
-word-requires c κs = search needs
+tell-requires : tie.Need-tell-requires
+tell-requires c κs = search needs
 
 same-length : tie.Need-same-length
 same-length c = search needs
 
 returns : tie.Need-returns
-returns c = (c .word .ensures ∙ ap wordOf (c .before .before .before .start .ensures .0), c .before .before .before .start .ensures .1)
+returns c = let reply = c .before .before .before .before .start .ensures in record { said = rw (← reply .0) (c .tell .ensures); bytes = reply .1 }
 
 pub basalekko-start-spec : {M : Type 1} → statement M
-basalekko-start-spec = tie.close (tie.spec start-requires word-requires same-length returns)
+basalekko-start-spec = tie.close (tie.spec start-requires tell-requires same-length returns)

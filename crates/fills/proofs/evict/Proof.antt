@@ -4,13 +4,14 @@ use native.Mathlib.Omega.{arith}
 use mathlib.Core.Path.{sym, _∙_}
 use borrow.Author.Tests.{not-true, not-false}
 use borrow.Author.Needs.{needs}
-use Rattle.fills.proofs.Tried.{gives, evict-key, evict-empty, evict-evicted}
+use Rattle.outcome.proofs.Told.{gives}
+use Rattle.fills.proofs.Tried.{evict-key, evict-empty, evict-evicted}
 use Rattle.fills.proofs.evict.Statement.{statement}
 use Rattle.fills.proofs.evict.Tie as tie
 
 returns : tie.Need-returns
 returns c = let args = c .before .before .args in
-    λ σ h e. gives _ σ (evict-key σ (args .key) (omega arith)) h
+    λ σ h e. gives (evict-key σ (args .key) (omega arith)) h
 
 has-value-requires : tie.Need-has-value-requires
 has-value-requires c κs = search needs
@@ -20,7 +21,7 @@ same-length c = search needs
 
 returns-2 : tie.Need-returns-2
 returns-2 c = let args = c .before .before .before .before .before .args in
-    λ σ h e. gives _ σ (evict-empty σ (args .key) (omega arith) (not-false _ (sym (c .before .has-value .ensures σ h) ∙ not-true _ (c .if2 .taken)))) h
+    λ σ h e. gives (evict-empty σ (args .key) (omega arith) (not-false _ (sym (c .before .has-value .ensures σ h) ∙ not-true _ (c .if2 .taken)))) h
 
 drop-value-requires : tie.Need-drop-value-requires
 drop-value-requires c κs = search needs
@@ -30,7 +31,7 @@ same-length-2 c = search needs
 
 returns-3 : tie.Need-returns-3
 returns-3 c = let args = c .before .before .before .before .before .before .before .before .before .args in
-    λ σ h e. gives _ _ (evict-evicted σ (args .key) (omega arith) (not-true _ (sym (c .before .before .before .before .before .has-value .ensures σ h) ∙ not-false _ (c .before .before .before .before .if2 .left)))) (c .before .before .drop-value .ensures σ h)
+    λ σ h e. gives (evict-evicted σ (args .key) (omega arith) (not-true _ (sym (c .before .before .before .before .before .has-value .ensures σ h) ∙ not-false _ (c .before .before .before .before .if2 .left)))) (c .before .before .drop-value .ensures σ h)
 
 pub evict-spec : {M : Type 1} → statement M
 evict-spec =

@@ -3,18 +3,19 @@
 use native.Mathlib.Omega.{arith}
 use mathlib.Core.Path.{sym, _∙_}
 use borrow.Author.Needs.{needs}
+use Rattle.outcome.proofs.Told.{gives}
 use Rattle.layout.proofs.Held.{key-fits}
-use Rattle.fills.proofs.Tried.{gives, fill-key, fill-long, fill-unleased, fill-other, fill-stored}
+use Rattle.fills.proofs.Tried.{fill-key, fill-long, fill-unleased, fill-other, fill-stored}
 use Rattle.fills.proofs.fill.Statement.{statement}
 use Rattle.fills.proofs.fill.Tie as tie
 
 returns : tie.Need-returns
 returns c = let args = c .before .before .before .args in
-    λ σ h e. gives _ σ (fill-key σ (args .token) (args .key) (args .value .now) (omega arith)) h
+    λ σ h e. gives (fill-key σ (args .token) (args .key) (args .value .now) (omega arith)) h
 
 returns-2 : tie.Need-returns-2
 returns-2 c = let args = c .before .before .before .before .args in
-    λ σ h e. gives _ σ (fill-long σ (args .token) (args .key) (args .value .now) (omega arith) (omega arith)) h
+    λ σ h e. gives (fill-long σ (args .token) (args .key) (args .value .now) (omega arith) (omega arith)) h
 
 lease-token-requires : tie.Need-lease-token-requires
 lease-token-requires c κs = search needs
@@ -28,7 +29,7 @@ same-length c = search needs
 returns-3 : tie.Need-returns-3
 returns-3 c = let lease-token = c .before .lease-token in
     let args = c .before .before .before .before .before .before .before .args in
-    λ σ h e. gives _ σ (fill-unleased σ (args .token) (args .key) (args .value .now) (omega arith) (omega arith) (key-fits h (args .key) (omega arith) .lease) (sym (lease-token .ensures σ h) ∙ c .if3 .taken)) h
+    λ σ h e. gives (fill-unleased σ (args .token) (args .key) (args .value .now) (omega arith) (omega arith) (key-fits h (args .key) (omega arith) .lease) (sym (lease-token .ensures σ h) ∙ c .if3 .taken)) h
 
 same-length-2 : tie.Need-same-length-2
 same-length-2 c = search needs
@@ -36,7 +37,7 @@ same-length-2 c = search needs
 returns-4 : tie.Need-returns-4
 returns-4 c = let lease-token = c .before .before .lease-token in
     let args = c .before .before .before .before .before .before .before .before .args in
-    λ σ h e. gives _ σ (fill-other σ (args .token) (args .key) (args .value .now) (omega arith) (omega arith) (λ q. c .if4 .taken (lease-token .ensures σ h ∙ q))) h
+    λ σ h e. gives (fill-other σ (args .token) (args .key) (args .value .now) (omega arith) (omega arith) (λ q. c .if4 .taken (lease-token .ensures σ h ∙ q))) h
 
 fill-requires : tie.Need-fill-requires
 fill-requires c κs = search needs
@@ -47,7 +48,7 @@ same-length-3 c = search needs
 returns-5 : tie.Need-returns-5
 returns-5 c = let lease-token = c .before .before .before .before .before .before .lease-token in
     let args = c .before .before .before .before .before .before .before .before .before .before .before .before .args in
-    λ σ h e. gives _ _ (fill-stored σ (args .token) (args .key) (args .value .now) (omega arith) (omega arith) (λ q. c .before .before .before .before .before .if3 .left (lease-token .ensures σ h ∙ q)) (sym (lease-token .ensures σ h) ∙ c .before .before .before .before .if4 .left)) (c .before .before .fill .ensures σ h)
+    λ σ h e. gives (fill-stored σ (args .token) (args .key) (args .value .now) (omega arith) (omega arith) (λ q. c .before .before .before .before .before .if3 .left (lease-token .ensures σ h ∙ q)) (sym (lease-token .ensures σ h) ∙ c .before .before .before .before .if4 .left)) (c .before .before .fill .ensures σ h)
 
 pub fill-spec : {M : Type 1} → statement M
 fill-spec =

@@ -25,7 +25,7 @@ enum-told c = search needs
 
 returns-3 : tie.Need-returns-3
 returns-3 c = λ σ h. let a = c .before .before .before .before .before .before .before .before .args in
-    sym (shown-at σ (a .session) (a .key) (c .before .before .before .before .before .before .if1 .left) (sym (c .before .before .before .before .before .is-unknown .ensures σ h) ∙ c .before .before .before .before .if2 .left) h _ _ (sym (c .before .before .before .look .ensures .0 σ h) ∙ c .before .sight .given .1) .answer)
+    sym (shown-at σ (a .session) (a .key) (c .before .before .before .before .before .before .if1 .left) (sym (c .before .before .before .before .before .is-unknown .ensures σ h) ∙ c .before .before .before .before .if2 .left) _ _ (sym (c .before .before .before .look .ensures .0 σ h) ∙ c .before .sight .given .1) .answer)
 
 returns-4 : tie.Need-returns-4
 returns-4 c = λ σ h. let a = c .before .before .before .before .before .before .before .args in rw (shown-none σ (a .session) (a .key) (c .before .before .before .before .before .if1 .left) (sym (c .before .before .before .before .is-unknown .ensures σ h) ∙ c .before .before .before .if2 .left) (sym (c .before .before .look .ensures .0 σ h) ∙ c .enum-told .given .1))

@@ -1,7 +1,7 @@
 -- The session leaves.
 -- Assumes nothing.
 use mathlib.Core.Path.{refl}
-use Rattle.askers.proofs.Told.{gives}
+use Rattle.outcome.proofs.Told.{gives}
 use borrow.Author.Needs.{needs}
 use Rattle.quars.proofs.abort.Statement.{statement}
 use Rattle.quars.proofs.abort.Tie as tie

@@ -1,7 +1,7 @@
 -- A row of that kind is HELD; without one the table is asked.
 -- Assumes nothing.
 use mathlib.Core.Path.{sym, _∙_}
-use Rattle.askers.proofs.Told.{gives}
+use Rattle.outcome.proofs.Told.{gives}
 use Rattle.quars.proofs.Asked.{hold-own, hold-asks}
 use borrow.Author.Needs.{needs}
 use Rattle.quars.proofs.hold.Statement.{statement}

@@ -5,7 +5,7 @@ use native.Mathlib.Omega.{arith}
 use borrow.Author.Tests.{not-true, not-false}
 use Rattle.machine.proofs.Accepted.{is-kind}
 use Rattle.askers.proofs.Asked.{asks}
-use Rattle.askers.proofs.Told.{gives}
+use Rattle.outcome.proofs.Told.{gives}
 use Rattle.quars.proofs.Asked.{stands, quar-key, quar-kind, quar-refused, quar-open}
 use borrow.Author.Needs.{needs}
 use Rattle.quars.proofs.quar.Statement.{statement}

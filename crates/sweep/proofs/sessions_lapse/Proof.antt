@@ -1,4 +1,4 @@
--- As long as no session passed is due, none before place i is; one that is due is a hit for all.
+-- As long as no session passed is due, none before the place is; one that is due is a hit for all.
 -- Assumes nothing.
 use Prim.Native.Nat.{_≤_, _-_}
 use mathlib.Core.Bool.{false}
@@ -15,10 +15,10 @@ use Rattle.sweep.proofs.sessions_lapse.Statement.{statement}
 use Rattle.sweep.proofs.sessions_lapse.Tie as tie
 
 abbrev Inv-loop : tie.InvT-loop
-Inv-loop s time i₀ i = (i ≤ sessionCount) × ((σ : State) → Holds s σ → NoneBelow (dueSlot time) noSession (σ .sessions) i)
+Inv-loop s time place₀ place = (place ≤ sessionCount) × ((σ : State) → Holds s σ → NoneBelow (dueSlot time) noSession (σ .sessions) place)
 
 abbrev μ-loop : tie.MeasureT-loop
-μ-loop s time i₀ i = sessionCount - i
+μ-loop s time place₀ place = sessionCount - place
 
 loop-holds : tie.Need-loop-holds Inv-loop μ-loop
 loop-holds c = (search needs, λ σ h k l. absurd (omega arith))
@@ -29,10 +29,10 @@ session-due-requires c κs = search needs
 returns : tie.Need-returns Inv-loop μ-loop
 returns c = let loop = c .before .before .before .loop in
     let args = c .before .before .before .before .before .args in
-    λ σ h. sym (any-hit (dueSlot (args .time)) noSession (σ .sessions) (loop .i) (omega (arith, h .fits .sessions)) (sym (c .before .session-due .ensures σ h) ∙ c .if1 .taken))
+    λ σ h. sym (any-hit (dueSlot (args .time)) noSession (σ .sessions) (loop .place) (omega (arith, h .fits .sessions)) (sym (c .before .session-due .ensures σ h) ∙ c .if1 .taken))
 
-add-i : tie.Need-add-i Inv-loop μ-loop
-add-i c = search needs
+add-place : tie.Need-add-place Inv-loop μ-loop
+add-place c = search needs
 
 loop-less : tie.Need-loop-less Inv-loop μ-loop
 loop-less c = search needs
@@ -45,7 +45,7 @@ loop-again c = let loop = c .before .before .before .loop in
 returns-2 : tie.Need-returns-2 Inv-loop μ-loop
 returns-2 c = let loop = c .before .loop in
     let args = c .before .before .before .args in
-    λ σ h. let e : loop .i ≡ sessionCount = omega arith in sym (none-any (dueSlot (args .time)) noSession (σ .sessions) (rw (h .fits .sessions, ← e) (loop .inv .1 σ h)))
+    λ σ h. let e : loop .place ≡ sessionCount = omega arith in sym (none-any (dueSlot (args .time)) noSession (σ .sessions) (rw (h .fits .sessions, ← e) (loop .inv .1 σ h)))
 
 pub sessions-lapse-spec : {M : Type 1} → statement M
 sessions-lapse-spec =
@@ -56,7 +56,7 @@ sessions-lapse-spec =
     loop-holds
     session-due-requires
     returns
-    add-i
+    add-place
     loop-less
     loop-again
     returns-2)

@@ -1,11 +1,12 @@
 -- What the search found decides the case; the case is a law of `Cases`.
 use mathlib.Core.Path.{_≡_, sym, ap, _∙_}
+use Rattle.outcome.proofs.Told.{gives}
 use Rattle.machine.specs.Sizes.{sessionCount}
 use Rattle.machine.specs.Tables.{place}
 use Rattle.machine.specs.State.{free}
 use Rattle.machine.specs.declared.Answer.{Answer}
 use Rattle.layout.proofs.Search.{found-at}
-use Rattle.turns.proofs.Cases.{gives, begin-full}
+use Rattle.turns.proofs.Cases.{begin-full}
 use borrow.Author.Needs.{needs}
 use Rattle.turns.proofs.begin.Statement.{statement}
 use Rattle.turns.proofs.begin.Tie as tie
@@ -32,7 +33,7 @@ same-length-2 : tie.Need-same-length-2
 same-length-2 c = search needs
 
 returns-2 : tie.Need-returns-2
-returns-2 c = λ σ h ok. gives (Answer.Refused 11) σ (begin-full σ ok (c .before .before .before .before .before .args .time) (sym (c .before .before .free-place .ensures .0 σ h) ∙ c .enum-told .given .1)) h
+returns-2 c = λ σ h ok. gives (begin-full σ ok (c .before .before .before .before .before .args .time) (sym (c .before .before .free-place .ensures .0 σ h) ∙ c .enum-told .given .1)) h
 
 pub begin-spec : {M : Type 1} → statement M
 begin-spec =

@@ -1,10 +1,11 @@
 -- What the search found decides the case; the case is a law of `Cases`.
 use mathlib.Core.Path.{_≡_, sym, ap, _∙_}
+use Rattle.outcome.proofs.Told.{gives}
 use Rattle.machine.specs.Sizes.{sessionCount}
 use Rattle.machine.specs.State.{sessionPlace}
 use Rattle.machine.specs.declared.Answer.{Answer}
 use Rattle.layout.proofs.Search.{found-at}
-use Rattle.turns.proofs.Cases.{gives, unlocated, done-none}
+use Rattle.turns.proofs.Cases.{unlocated, done-none}
 use borrow.Author.Needs.{needs}
 use Rattle.turns.proofs.done.Statement.{statement}
 use Rattle.turns.proofs.done.Tie as tie
@@ -31,7 +32,7 @@ same-length-2 : tie.Need-same-length-2
 same-length-2 c = search needs
 
 returns-2 : tie.Need-returns-2
-returns-2 c = λ σ h ok. gives (Answer.Refused 5) σ (done-none σ (c .before .before .before .before .before .args .session) (unlocated σ (c .before .before .before .before .before .args .session) ok (sym (c .before .before .find .ensures .0 σ h) ∙ c .enum-told .given .1))) h
+returns-2 c = λ σ h ok. gives (done-none σ (c .before .before .before .before .before .args .session) (unlocated σ (c .before .before .before .before .before .args .session) ok (sym (c .before .before .find .ensures .0 σ h) ∙ c .enum-told .given .1))) h
 
 pub done-spec : {M : Type 1} → statement M
 done-spec =

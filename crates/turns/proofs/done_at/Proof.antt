@@ -1,12 +1,12 @@
 -- What the search found decides the case; the case is a law of `Cases`.
+use Rattle.outcome.proofs.Told.{gives}
 use Rattle.machine.specs.State.{sessionAt}
-use Rattle.turns.proofs.Cases.{gives, located, done-open, done-is, number-here, finished-is, live-is, number-in}
+use Rattle.turns.proofs.Cases.{located, done-open, done-is, number-here, finished-is, live-is, number-in}
 use mathlib.Core.Path.{_≡_, sym, ap, _∙_}
 use borrow.Author.Tests.{not-true, not-false}
 use Rattle.machine.specs.Session.{isSealed}
 use Rattle.machine.specs.declared.Session.{Session}
 use Rattle.machine.specs.declared.Answer.{Answer}
-use Rattle.turns.proofs.Cases.{gives, located, done-open, done-is, number-here, finished-is, live-is}
 use borrow.Author.Needs.{needs}
 use Rattle.turns.proofs.done_at.Statement.{statement}
 use Rattle.turns.proofs.done_at.Tie as tie
@@ -24,7 +24,7 @@ returns : tie.Need-returns
 returns c = λ σ h ok p.
     let w = located σ (c .before .before .before .before .before .args .session) (c .before .before .before .before .before .args .i) ok p (search needs) in
     let x = live-is σ ok (c .before .before .before .before .before .args .session) (c .before .before .before .before .before .args .i) w (c .before .before .load .result) (c .before .before .load .ensures σ h) in
-    gives (Answer.Refused 7) σ (done-open σ (c .before .before .before .before .before .args .session) (w .live) (w .of) (sym (ap isSealed x) ∙ sym (c .before .is-sealed .ensures) ∙ not-true _ (c .if1 .taken))) h
+    gives (done-open σ (c .before .before .before .before .before .args .session) (w .live) (w .of) (sym (ap isSealed x) ∙ sym (c .before .is-sealed .ensures) ∙ not-true _ (c .if1 .taken))) h
 
 finish-requires : tie.Need-finish-requires
 finish-requires c κs = search needs
@@ -37,7 +37,7 @@ returns-2 c = λ σ h ok p.
     let w = located σ (c .before .before .before .before .before .before .before .before .before .args .session) (c .before .before .before .before .before .before .before .before .before .args .i) ok p (search needs) in
     let x = live-is σ ok (c .before .before .before .before .before .before .before .before .before .args .session) (c .before .before .before .before .before .before .before .before .before .args .i) w (c .before .before .before .before .before .before .load .result) (c .before .before .before .before .before .before .load .ensures σ h) in
     let e = ap (λ (y : Session). y .number) (c .before .before .before .before .before .before .load .ensures σ h) ∙ number-in (sessionAt σ (c .before .before .before .before .before .before .before .before .before .args .i)) in
-    gives Answer.Done _ (done-is σ (c .before .before .before .before .before .before .before .before .before .args .session) (w .live) (w .of) (sym (ap isSealed x) ∙ sym (c .before .before .before .before .before .is-sealed .ensures) ∙ not-false _ (c .before .before .before .before .if1 .left)))
+    gives (done-is σ (c .before .before .before .before .before .before .before .before .before .args .session) (w .live) (w .of) (sym (ap isSealed x) ∙ sym (c .before .before .before .before .before .is-sealed .ensures) ∙ not-false _ (c .before .before .before .before .if1 .left)))
     (rw (← finished-is σ ok (c .before .before .before .before .before .before .before .before .before .args .session) (c .before .before .before .before .before .before .before .before .before .args .i) w (c .before .before .before .before .before .before .load .result .number) e) (c .before .before .finish .ensures σ h ok (number-here σ ok (c .before .before .before .before .before .before .before .before .before .args .session) (c .before .before .before .before .before .before .before .before .before .args .i) w (c .before .before .before .before .before .before .load .result .number) e)))
 
 pub done-at-spec : {M : Type 1} → statement M

@@ -1,12 +1,13 @@
 -- What the search found decides the case; the case is a law of `Cases`.
 use native.Mathlib.Omega.{arith}
+use Rattle.outcome.proofs.Told.{gives}
 use Rattle.machine.proofs.SoundFacts as facts
 use mathlib.Core.Path.{_≡_, sym, ap, _∙_}
 use Rattle.machine.specs.declared.Answer.{Answer}
 use Rattle.machine.specs.State.{session}
 use Rattle.machine.specs.Expiry.{withSessions}
 use lib.ListN.{set}
-use Rattle.turns.proofs.Cases.{gives, begin-spent, begin-gives}
+use Rattle.turns.proofs.Cases.{begin-spent, begin-gives}
 use borrow.Author.Needs.{needs}
 use Rattle.turns.proofs.open.Statement.{statement}
 use Rattle.turns.proofs.open.Tie as tie
@@ -18,7 +19,7 @@ same-length : tie.Need-same-length
 same-length c = search needs
 
 returns : tie.Need-returns
-returns c = λ σ h ok p. gives (Answer.Refused 13) σ (begin-spent σ ok (c .before .before .before .before .args .time) (c .before .before .before .before .args .i) (search needs) p (c .before .next-session .result) (c .before .next-session .ensures σ h) (search needs)) h
+returns c = λ σ h ok p. gives (begin-spent σ ok (c .before .before .before .before .args .time) (c .before .before .before .before .args .i) (search needs) p (c .before .next-session .result) (c .before .next-session .ensures σ h) (search needs)) h
 
 write-life-requires : tie.Need-write-life-requires
 write-life-requires c κs = search needs

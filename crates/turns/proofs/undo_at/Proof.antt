@@ -1,7 +1,8 @@
 -- What the search found decides the case; the case is a law of `Cases`.
 use mathlib.Core.Path.{_≡_, sym, ap, _∙_}
+use Rattle.outcome.proofs.Told.{gives}
 use Rattle.machine.specs.declared.Answer.{Answer}
-use Rattle.turns.proofs.Cases.{gives, located, undo-is, number-here, left-is}
+use Rattle.turns.proofs.Cases.{located, undo-is, number-here, left-is}
 use borrow.Author.Needs.{needs}
 use Rattle.turns.proofs.undo_at.Statement.{statement}
 use Rattle.turns.proofs.undo_at.Tie as tie
@@ -19,7 +20,7 @@ returns : tie.Need-returns
 returns c = λ σ h ok p.
     let w = located σ (c .before .before .before .before .before .before .before .args .session) (c .before .before .before .before .before .before .before .args .i) ok p (search needs) in
     let e = c .before .before .before .before .number .ensures σ h in
-    gives Answer.Undone _ (undo-is σ (c .before .before .before .before .before .before .before .args .session) (w .live) (w .of)) (rw (← left-is σ ok (c .before .before .before .before .before .before .before .args .session) (c .before .before .before .before .before .before .before .args .i) w (c .before .before .before .before .number .result) e) (c .before .before .leave .ensures σ h ok (number-here σ ok (c .before .before .before .before .before .before .before .args .session) (c .before .before .before .before .before .before .before .args .i) w (c .before .before .before .before .number .result) e)))
+    gives (undo-is σ (c .before .before .before .before .before .before .before .args .session) (w .live) (w .of)) (rw (← left-is σ ok (c .before .before .before .before .before .before .before .args .session) (c .before .before .before .before .before .before .before .args .i) w (c .before .before .before .before .number .result) e) (c .before .before .leave .ensures σ h ok (number-here σ ok (c .before .before .before .before .before .before .before .args .session) (c .before .before .before .before .before .before .before .args .i) w (c .before .before .before .before .number .result) e)))
 
 pub undo-at-spec : {M : Type 1} → statement M
 undo-at-spec = tie.close (tie.spec number-requires leave-requires same-length returns)

@@ -1,16 +1,17 @@
 -- What the search found decides the case; the case is a law of `Cases`.
 use mathlib.Core.Path.{_≡_, sym, ap, _∙_}
+use Rattle.outcome.proofs.Told.{gives}
 use Rattle.machine.specs.Sizes.{sessionCount}
 use Rattle.machine.specs.State.{sessionPlace}
 use Rattle.machine.specs.declared.Answer.{Answer}
 use Rattle.layout.proofs.Search.{found-at}
-use Rattle.turns.proofs.Cases.{gives, unlocated, validate-none, validate-far}
+use Rattle.turns.proofs.Cases.{unlocated, validate-none, validate-far}
 use borrow.Author.Needs.{needs}
 use Rattle.turns.proofs.validate.Statement.{statement}
 use Rattle.turns.proofs.validate.Tie as tie
 
 returns : tie.Need-returns
-returns c = λ σ h ok. gives (Answer.Refused 3) σ (validate-far σ (c .before .before .args .session) (c .before .before .args .n) (search needs)) h
+returns c = λ σ h ok. gives (validate-far σ (c .before .before .args .session) (c .before .before .args .n) (search needs)) h
 
 find-requires : tie.Need-find-requires
 find-requires c κs = search needs
@@ -34,7 +35,7 @@ same-length-2 : tie.Need-same-length-2
 same-length-2 c = search needs
 
 returns-3 : tie.Need-returns-3
-returns-3 c = λ σ h ok. gives (Answer.Refused 5) σ (validate-none σ (c .before .before .before .before .before .before .args .session) (c .before .before .before .before .before .before .args .n) (search needs) (unlocated σ (c .before .before .before .before .before .before .args .session) ok (sym (c .before .before .find .ensures .0 σ h) ∙ c .enum-told .given .1))) h
+returns-3 c = λ σ h ok. gives (validate-none σ (c .before .before .before .before .before .before .args .session) (c .before .before .before .before .before .before .args .n) (search needs) (unlocated σ (c .before .before .before .before .before .before .args .session) ok (sym (c .before .before .find .ensures .0 σ h) ∙ c .enum-told .given .1))) h
 
 pub validate-spec : {M : Type 1} → statement M
 validate-spec =

@@ -1,6 +1,7 @@
 -- What the search found decides the case; the case is a law of `Cases`.
+use Rattle.outcome.proofs.Told.{gives}
 use Rattle.machine.specs.State.{sessionAt}
-use Rattle.turns.proofs.Cases.{gives, located, live-is, number-in, number-here, left-is, live-number, live-count, sealed-held, told-seals, told-loses, told-clashes, validate-seals, validate-loses, validate-clashes}
+use Rattle.turns.proofs.Cases.{located, live-is, number-in, number-here, left-is, live-number, live-count, sealed-held, told-seals, told-loses, told-clashes, validate-seals, validate-loses, validate-clashes}
 use mathlib.Core.Path.{_≡_, sym, ap, _∙_, subst}
 use lib.ListN.{set}
 use Rattle.machine.specs.Session.{validationOf, sealed}
@@ -9,7 +10,6 @@ use Rattle.machine.specs.Expiry.{withSessions}
 use Rattle.machine.specs.declared.Session.{Session}
 use Rattle.machine.specs.declared.Answer.{Answer}
 use Rattle.layout.specs.Holds.{Holds}
-use Rattle.turns.proofs.Cases.{gives, located, live-is, number-in, number-here, left-is, live-number, live-count, told-seals, told-loses, told-clashes, validate-seals, validate-loses, validate-clashes}
 use borrow.Author.Needs.{needs}
 use Rattle.turns.proofs.validate_at.Statement.{statement}
 use Rattle.turns.proofs.validate_at.Tie as tie
@@ -43,7 +43,7 @@ returns c = λ σ h ok p.
     let w = located σ (c .before .before .before .before .before .before .before .before .before .before .before .args .session) (c .before .before .before .before .before .before .before .before .before .before .before .args .i) ok p (search needs) in
     let x = live-is σ ok (c .before .before .before .before .before .before .before .before .before .before .before .args .session) (c .before .before .before .before .before .before .before .before .before .before .before .args .i) w (c .before .before .before .before .before .before .before .before .load .result) (c .before .before .before .before .before .before .before .before .load .ensures σ h) in
     let t = told-seals (w .live) (c .before .before .before .before .before .before .before .before .before .before .before .args .n) (c .before .before .before .before .before .v .given .0 .0) (sym (ap (λ (y : Session). validationOf y (c .before .before .before .before .before .before .before .before .before .before .before .args .n)) x) ∙ sym (c .before .before .before .before .before .before .before .validate .ensures) ∙ c .before .before .before .before .before .v .given .1) in
-    gives Answer.Validated _ (validate-seals σ (c .before .before .before .before .before .before .before .before .before .before .before .args .session) (w .live) (w .of) (c .before .before .before .before .before .before .before .before .before .before .before .args .n) (search needs) (t .0))
+    gives (validate-seals σ (c .before .before .before .before .before .before .before .before .before .before .before .args .session) (w .live) (w .of) (c .before .before .before .before .before .before .before .before .before .before .before .args .n) (search needs) (t .0))
     (sealed-held σ ok (c .before .before .before .before .before .before .before .before .before .before .before .args .session) (c .before .before .before .before .before .before .before .before .before .before .before .args .i) w (c .before .before .before .before .before .v .given .0 .0) (t .1) p (c .before .before .store .ensures σ h (rw (t .1) (live-number σ ok (c .before .before .before .before .before .before .before .before .before .before .before .args .session) (c .before .before .before .before .before .before .before .before .before .before .before .args .i) w)) (rw (t .1) (live-count σ ok (c .before .before .before .before .before .before .before .before .before .before .before .args .session) (c .before .before .before .before .before .before .before .before .before .before .before .args .i) w))))
 
 same-length-2 : tie.Need-same-length-2
@@ -55,7 +55,7 @@ returns-2 c = λ σ h ok p.
     let x = live-is σ ok (c .before .before .before .before .before .before .before .before .before .before .args .session) (c .before .before .before .before .before .before .before .before .before .before .args .i) w (c .before .before .before .before .before .before .before .load .result) (c .before .before .before .before .before .before .before .load .ensures σ h) in
     let e = ap (λ (y : Session). y .number) (c .before .before .before .before .before .before .before .load .ensures σ h) ∙ number-in (sessionAt σ (c .before .before .before .before .before .before .before .before .before .before .args .i)) in
     let t = told-loses (w .live) (c .before .before .before .before .before .before .before .before .before .before .args .n) (sym (ap (λ (y : Session). validationOf y (c .before .before .before .before .before .before .before .before .before .before .args .n)) x) ∙ sym (c .before .before .before .before .before .before .validate .ensures) ∙ c .before .before .before .before .enum-told .given .1) in
-    gives Answer.Lost _ (validate-loses σ (c .before .before .before .before .before .before .before .before .before .before .args .session) (w .live) (w .of) (c .before .before .before .before .before .before .before .before .before .before .args .n) (search needs) (t .0) (t .1))
+    gives (validate-loses σ (c .before .before .before .before .before .before .before .before .before .before .args .session) (w .live) (w .of) (c .before .before .before .before .before .before .before .before .before .before .args .n) (search needs) (t .0) (t .1))
     (rw (← left-is σ ok (c .before .before .before .before .before .before .before .before .before .before .args .session) (c .before .before .before .before .before .before .before .before .before .before .args .i) w (c .before .before .before .before .before .before .before .load .result .number) e) (c .before .before .leave .ensures σ h ok (number-here σ ok (c .before .before .before .before .before .before .before .before .before .before .args .session) (c .before .before .before .before .before .before .before .before .before .before .args .i) w (c .before .before .before .before .before .before .before .load .result .number) e)))
 
 same-length-3 : tie.Need-same-length-3
@@ -66,7 +66,7 @@ returns-3 c = λ σ h ok p.
     let w = located σ (c .before .before .before .before .before .before .args .session) (c .before .before .before .before .before .before .args .i) ok p (search needs) in
     let x = live-is σ ok (c .before .before .before .before .before .before .args .session) (c .before .before .before .before .before .before .args .i) w (c .before .before .before .load .result) (c .before .before .before .load .ensures σ h) in
     let t = told-clashes (w .live) (c .before .before .before .before .before .before .args .n) (sym (ap (λ (y : Session). validationOf y (c .before .before .before .before .before .before .args .n)) x) ∙ sym (c .before .before .validate .ensures) ∙ c .enum-told2 .given .1) in
-    gives (Answer.Refused 6) σ (validate-clashes σ (c .before .before .before .before .before .before .args .session) (w .live) (w .of) (c .before .before .before .before .before .before .args .n) (search needs) (t .0) (t .1)) h
+    gives (validate-clashes σ (c .before .before .before .before .before .before .args .session) (w .live) (w .of) (c .before .before .before .before .before .before .args .n) (search needs) (t .0) (t .1)) h
 
 pub validate-at-spec : {M : Type 1} → statement M
 validate-at-spec =

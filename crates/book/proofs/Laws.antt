@@ -1,0 +1,395 @@
+-- What is read of a book after it was written. Each reader looks at one stretch of it and each writer is a splice of one stretch, so what lies apart
+-- from the splice is read as before, and what was written is read back. Readers stand first, then each writer.
+-- Assumes nothing.
+use Prim.Native.Nat.{ℕ, zero, suc, _+_, _*_, _%_, _^_, _≤_, _<_, min}
+use mathlib.Core.Path.{_≡_, refl, sym, ap, _∙_}
+use mathlib.Core.Logic.{_⊎_, inl, inr}
+use mathlib.Core.Bool.{Bool, true, false}
+use mathlib.Core.List.{List, [], _∷_}
+use native.Mathlib.Nat.{add-zero, min-le-left, min-le-right, min-eq-left}
+use native.Mathlib.Omega.{arith}
+use lib.Dec.{eqb, ltb}
+use lib.ListN.{length, getD, drop, length-take}
+use lib.Seq.{take-length}
+use borrow.Author.Tests.{ltb-true, ltb-false, lt-ltb}
+use Rattle.lent.specs.Bytes.{le32, bytes32, le64, bytes64, win, splice, zeros}
+use Rattle.lent.specs.Tables.{if_then_else_}
+use Rattle.lent.proofs.Choices.{if-ind}
+use Rattle.lent.proofs.Numbers.{le32-bytes, le32-win, le64-bytes, le64-win}
+use Rattle.lent.proofs.Splice.{getD-splice-after, getD-splice-before, getD-splice-in, length-splice, win-splice, win-splice-after, win-splice-before, win-splice-in}
+use Rattle.machine.specs.Sizes.{keyCount, sessionCount, valueMax}
+use Rattle.machine.specs.State.{Value}
+use Rattle.book.specs.Book.{bookSize, startedAt, linesAt, brokenAt, noteWidth, marksFrom, markWidth, noteAt, started, withStarted, linesIn, brokenIn, note, withNote, registered, granted, withRegistered, withGranted, mark, withMark, counted}
+
+-- ---- what lies apart from a splice
+
+-- the n bytes at k and the m bytes at a have none in common
+abbrev Apart : ℕ → ℕ → ℕ → ℕ → Type 0
+Apart k n a m = (k + n ≤ a) ⊎ (a + m ≤ k)
+
+module _ (b : List ℕ) (a : ℕ) (x : List ℕ) (f : a + length x ≤ length b) (k n : ℕ) (d : Apart k n a (length x)) where
+  getD-apart : (j : ℕ) → k ≤ j → j < k + n → getD (splice b a x) j 0 ≡ getD b j 0
+  getD-apart j g h = go d
+    where
+      go : Apart k n a (length x) → getD (splice b a x) j 0 ≡ getD b j 0
+      go (inl p) = getD-splice-before b a x j (omega arith) (omega arith)
+      go (inr p) = getD-splice-after b a x j f (omega arith)
+
+  win-apart : (j m : ℕ) → k ≤ j → j + m ≤ k + n → win (splice b a x) j m ≡ win b j m
+  win-apart j m g h = go d
+    where
+      go : Apart k n a (length x) → win (splice b a x) j m ≡ win b j m
+      go (inl p) = win-splice-before b a x j m (omega arith) (omega arith)
+      go (inr p) = win-splice-after b a x j m f (omega arith)
+
+  le32-apart : (j : ℕ) → k ≤ j → j + 4 ≤ k + n → le32 (splice b a x) j ≡ le32 b j
+  le32-apart j g h =
+      rw (getD-apart j (omega arith) (omega arith), getD-apart (j + 1) (omega arith) (omega arith), getD-apart (j + 2) (omega arith) (omega arith), getD-apart (j + 3) (omega arith) (omega arith))
+
+  le64-apart : k + 8 ≤ k + n → le64 (splice b a x) k ≡ le64 b k
+  le64-apart h = rw (le32-apart k (omega arith) (omega arith), le32-apart (k + 4) (omega arith) (omega arith))
+
+-- each reader, over a splice apart from what it reads
+module _ (b : List ℕ) (a : ℕ) (x : List ℕ) (f : a + length x ≤ length b) where
+  started-apart : 1 ≤ a → started (splice b a x) ≡ started b
+  unfolding started
+  started-apart h = rw (getD-apart b a x f startedAt 1 (inl h) startedAt (omega arith) (omega arith))
+
+  lines-apart : Apart linesAt 8 a (length x) → linesIn (splice b a x) ≡ linesIn b
+  unfolding linesIn
+  lines-apart d = le64-apart b a x f linesAt 8 d (omega arith)
+
+  broken-apart : Apart brokenAt 8 a (length x) → brokenIn (splice b a x) ≡ brokenIn b
+  unfolding brokenIn
+  broken-apart d = le64-apart b a x f brokenAt 8 d (omega arith)
+
+  note-apart : (i : ℕ) → Apart (noteAt i) noteWidth a (length x) → note (splice b a x) i ≡ note b i
+  unfolding note
+  note-apart i d =
+      let l : min (getD b (noteAt i) 0) valueMax ≤ valueMax = min-le-right _ _ in
+      rw (getD-apart b a x f (noteAt i) noteWidth d (noteAt i) (omega arith) (omega arith))
+      (win-apart b a x f (noteAt i) noteWidth d (noteAt i + 1) (min (getD b (noteAt i) 0) valueMax) (omega arith) (omega arith))
+
+  mark-apart : (i : ℕ) → Apart (marksFrom + i * markWidth) markWidth a (length x) → mark (splice b a x) i ≡ mark b i
+  unfolding mark
+  mark-apart i d = le32-apart b a x f (marksFrom + i * markWidth) markWidth d (marksFrom + i * markWidth) (omega arith) (omega arith)
+
+-- what holds of the notes of a book holds of what the register holds, and held at the grants
+registered-is : (b b′ : List ℕ) (k : ℕ) → (k < keyCount → note b′ k ≡ note b k) → registered b′ k ≡ registered b k
+unfolding registered
+registered-is b b′ k h = go (ltb k keyCount) refl
+  where
+    go : (t : Bool) → ltb k keyCount ≡ t → (if t then note b′ k else []) ≡ (if t then note b k else [])
+    go true e = h (ltb-true k keyCount e)
+    go false e = refl
+
+granted-is : (b b′ : List ℕ) (k : ℕ) → (k < keyCount → note b′ (keyCount + k) ≡ note b (keyCount + k)) → granted b′ k ≡ granted b k
+unfolding granted
+granted-is b b′ k h = go (ltb k keyCount) refl
+  where
+    go : (t : Bool) → ltb k keyCount ≡ t → (if t then note b′ (keyCount + k) else []) ≡ (if t then note b (keyCount + k) else [])
+    go true e = h (ltb-true k keyCount e)
+    go false e = refl
+
+-- ---- START is noted
+
+module _ (b : List ℕ) (e : length b ≡ bookSize) where
+  pub length-started : length (withStarted b) ≡ bookSize
+  unfolding withStarted
+  length-started = length-splice b startedAt (1 ∷ []) (omega arith) ∙ e
+
+  pub started-started : started (withStarted b) ≡ true
+  unfolding started withStarted
+  started-started = rw (getD-splice-in b startedAt (1 ∷ []) 0 (omega arith) (omega arith))
+
+  pub lines-started : linesIn (withStarted b) ≡ linesIn b
+  unfolding withStarted
+  lines-started = lines-apart b startedAt (1 ∷ []) (omega arith) (inr (omega arith))
+
+  pub broken-started : brokenIn (withStarted b) ≡ brokenIn b
+  unfolding withStarted
+  broken-started = broken-apart b startedAt (1 ∷ []) (omega arith) (inr (omega arith))
+
+  note-started : (i : ℕ) → note (withStarted b) i ≡ note b i
+  unfolding withStarted
+  note-started i = note-apart b startedAt (1 ∷ []) (omega arith) i (inr (omega arith))
+
+  pub registered-started : (k : ℕ) → registered (withStarted b) k ≡ registered b k
+  registered-started k = registered-is b (withStarted b) k (λ h. note-started k)
+
+  pub granted-started : (k : ℕ) → granted (withStarted b) k ≡ granted b k
+  granted-started k = granted-is b (withStarted b) k (λ h. note-started (keyCount + k))
+
+  pub mark-started : (i : ℕ) → mark (withStarted b) i ≡ mark b i
+  unfolding withStarted
+  mark-started i = mark-apart b startedAt (1 ∷ []) (omega arith) i (inr (omega arith))
+
+-- ---- a note is written
+
+win-tail : (m : ℕ) (v : Value) → win (m ∷ v) 1 (length v) ≡ v
+unfolding win
+win-tail m v = take-length v
+
+module _ (b : List ℕ) (e : length b ≡ bookSize) (i : ℕ) (h : i < keyCount + keyCount) (v : Value) (l : length v ≤ valueMax) where
+  length-note : length (withNote b i v) ≡ bookSize
+  unfolding withNote
+  length-note = length-splice b (noteAt i) (length v ∷ v) (omega arith) ∙ e
+
+  started-note : started (withNote b i v) ≡ started b
+  unfolding withNote
+  started-note = started-apart b (noteAt i) (length v ∷ v) (omega arith) (omega arith)
+
+  lines-note : linesIn (withNote b i v) ≡ linesIn b
+  unfolding withNote
+  lines-note = lines-apart b (noteAt i) (length v ∷ v) (omega arith) (inl (omega arith))
+
+  broken-note : brokenIn (withNote b i v) ≡ brokenIn b
+  unfolding withNote
+  broken-note = broken-apart b (noteAt i) (length v ∷ v) (omega arith) (inl (omega arith))
+
+  note-same : note (withNote b i v) i ≡ v
+  unfolding note withNote
+  note-same =
+      let g : getD (splice b (noteAt i) (length v ∷ v)) (noteAt i) 0 ≡ length v = rw add-zero at (getD-splice-in b (noteAt i) (length v ∷ v) 0 (omega arith) (omega arith)) in
+      rw (g, min-eq-left l) (win-splice-in b (noteAt i) (length v ∷ v) 1 (length v) (omega arith) (omega arith) ∙ win-tail (length v) v)
+
+  note-other : (j : ℕ) → (j ≡ i → ⊥) → note (withNote b i v) j ≡ note b j
+  unfolding withNote
+  note-other j n = note-apart b (noteAt i) (length v ∷ v) (omega arith) j (go (ltb j i) refl)
+    where
+      go : (t : Bool) → ltb j i ≡ t → Apart (noteAt j) noteWidth (noteAt i) (suc (length v))
+      go true q = inl (omega (arith, ltb-true j i q))
+      go false q = inr (omega (arith, ltb-false j i q, n))
+
+  mark-note : (j : ℕ) → mark (withNote b i v) j ≡ mark b j
+  unfolding withNote
+  mark-note j = mark-apart b (noteAt i) (length v ∷ v) (omega arith) j (inr (omega arith))
+
+-- ---- the register writes the value v to the key k
+
+module _ (b : List ℕ) (e : length b ≡ bookSize) (k : ℕ) (v : Value) (l : length v ≤ valueMax) where
+  -- the note, or nothing where k is no key
+  module _ {ℓ} (P : List ℕ → Type ℓ) where
+    at-registered : (k < keyCount → P (withNote b k v)) → P b → P (withRegistered b k v)
+    unfolding withRegistered
+    at-registered f g = if-ind P (ltb k keyCount) (λ q. f (ltb-true k keyCount q)) (λ q. g)
+
+    at-granted : (k < keyCount → P (withNote b (keyCount + k) v)) → P b → P (withGranted b k v)
+    unfolding withGranted
+    at-granted f g = if-ind P (ltb k keyCount) (λ q. f (ltb-true k keyCount q)) (λ q. g)
+
+  pub length-registered : length (withRegistered b k v) ≡ bookSize
+  length-registered = at-registered (λ x. length x ≡ bookSize) (λ h. length-note b e k (omega arith) v l) e
+
+  pub started-registered : started (withRegistered b k v) ≡ started b
+  started-registered = at-registered (λ x. started x ≡ started b) (λ h. started-note b e k (omega arith) v l) refl
+
+  pub lines-registered : linesIn (withRegistered b k v) ≡ linesIn b
+  lines-registered = at-registered (λ x. linesIn x ≡ linesIn b) (λ h. lines-note b e k (omega arith) v l) refl
+
+  pub broken-registered : brokenIn (withRegistered b k v) ≡ brokenIn b
+  broken-registered = at-registered (λ x. brokenIn x ≡ brokenIn b) (λ h. broken-note b e k (omega arith) v l) refl
+
+  pub registered-same : k < keyCount → registered (withRegistered b k v) k ≡ v
+  unfolding registered withRegistered
+  registered-same h = rw (lt-ltb k keyCount h) (note-same b e k (omega arith) v l)
+
+  pub registered-other : (j : ℕ) → (j ≡ k → ⊥) → registered (withRegistered b k v) j ≡ registered b j
+  registered-other j n =
+      at-registered (λ x. registered x j ≡ registered b j) (λ h. registered-is b (withNote b k v) j (λ g. note-other b e k (omega arith) v l j n)) refl
+
+  pub granted-registered : (j : ℕ) → granted (withRegistered b k v) j ≡ granted b j
+  granted-registered j =
+      at-registered (λ x. granted x j ≡ granted b j) (λ h. granted-is b (withNote b k v) j (λ g. note-other b e k (omega arith) v l (keyCount + j) (λ q. omega arith))) refl
+
+  pub mark-registered : (i : ℕ) → mark (withRegistered b k v) i ≡ mark b i
+  mark-registered i = at-registered (λ x. mark x i ≡ mark b i) (λ h. mark-note b e k (omega arith) v l i) refl
+
+  -- ---- a grant on the key k is noted with the value v
+
+  pub length-granted : length (withGranted b k v) ≡ bookSize
+  length-granted = at-granted (λ x. length x ≡ bookSize) (λ h. length-note b e (keyCount + k) (omega arith) v l) e
+
+  pub started-granted : started (withGranted b k v) ≡ started b
+  started-granted = at-granted (λ x. started x ≡ started b) (λ h. started-note b e (keyCount + k) (omega arith) v l) refl
+
+  pub lines-granted : linesIn (withGranted b k v) ≡ linesIn b
+  lines-granted = at-granted (λ x. linesIn x ≡ linesIn b) (λ h. lines-note b e (keyCount + k) (omega arith) v l) refl
+
+  pub broken-granted : brokenIn (withGranted b k v) ≡ brokenIn b
+  broken-granted = at-granted (λ x. brokenIn x ≡ brokenIn b) (λ h. broken-note b e (keyCount + k) (omega arith) v l) refl
+
+  pub granted-same : k < keyCount → granted (withGranted b k v) k ≡ v
+  unfolding granted withGranted
+  granted-same h = rw (lt-ltb k keyCount h) (note-same b e (keyCount + k) (omega arith) v l)
+
+  pub granted-other : (j : ℕ) → (j ≡ k → ⊥) → granted (withGranted b k v) j ≡ granted b j
+  granted-other j n =
+      at-granted (λ x. granted x j ≡ granted b j) (λ h. granted-is b (withNote b (keyCount + k) v) j (λ g. note-other b e (keyCount + k) (omega arith) v l (keyCount + j) (λ q. n (omega arith)))) refl
+
+  pub registered-granted : (j : ℕ) → registered (withGranted b k v) j ≡ registered b j
+  registered-granted j =
+      at-granted (λ x. registered x j ≡ registered b j) (λ h. registered-is b (withNote b (keyCount + k) v) j (λ g. note-other b e (keyCount + k) (omega arith) v l j (λ q. omega arith))) refl
+
+  pub mark-granted : (i : ℕ) → mark (withGranted b k v) i ≡ mark b i
+  mark-granted i = at-granted (λ x. mark x i ≡ mark b i) (λ h. mark-note b e (keyCount + k) (omega arith) v l i) refl
+
+-- ---- a place of the sessions' table is marked
+
+module _ (b : List ℕ) (e : length b ≡ bookSize) (i : ℕ) (h : i < sessionCount) (n : ℕ) where
+  pub length-marked : length (withMark b i n) ≡ bookSize
+  unfolding withMark
+  length-marked = length-splice b (marksFrom + i * markWidth) (bytes32 n) (omega arith) ∙ e
+
+  pub started-marked : started (withMark b i n) ≡ started b
+  unfolding withMark
+  started-marked = started-apart b (marksFrom + i * markWidth) (bytes32 n) (omega arith) (omega arith)
+
+  pub lines-marked : linesIn (withMark b i n) ≡ linesIn b
+  unfolding withMark
+  lines-marked = lines-apart b (marksFrom + i * markWidth) (bytes32 n) (omega arith) (inl (omega arith))
+
+  pub broken-marked : brokenIn (withMark b i n) ≡ brokenIn b
+  unfolding withMark
+  broken-marked = broken-apart b (marksFrom + i * markWidth) (bytes32 n) (omega arith) (inl (omega arith))
+
+  note-marked : (j : ℕ) → j < keyCount + keyCount → note (withMark b i n) j ≡ note b j
+  unfolding withMark
+  note-marked j g = note-apart b (marksFrom + i * markWidth) (bytes32 n) (omega arith) j (inl (omega arith))
+
+  pub registered-marked : (k : ℕ) → registered (withMark b i n) k ≡ registered b k
+  registered-marked k = registered-is b (withMark b i n) k (λ g. note-marked k (omega arith))
+
+  pub granted-marked : (k : ℕ) → granted (withMark b i n) k ≡ granted b k
+  granted-marked k = granted-is b (withMark b i n) k (λ g. note-marked (keyCount + k) (omega arith))
+
+  pub mark-same : n < 2 ^ 32 → mark (withMark b i n) i ≡ n
+  unfolding mark withMark
+  mark-same g =
+      sym (rw add-zero at (le32-win (splice b (marksFrom + i * markWidth) (bytes32 n)) (marksFrom + i * markWidth) 4 0 (omega arith)))
+      ∙ ap (λ (s : List ℕ). le32 s 0) (win-splice b (marksFrom + i * markWidth) (bytes32 n) 4 refl (omega arith))
+      ∙ le32-bytes n g
+
+  pub mark-other : (j : ℕ) → (j ≡ i → ⊥) → mark (withMark b i n) j ≡ mark b j
+  unfolding withMark
+  mark-other j q = mark-apart b (marksFrom + i * markWidth) (bytes32 n) (omega arith) j (go (ltb j i) refl)
+    where
+      go : (t : Bool) → ltb j i ≡ t → Apart (marksFrom + j * markWidth) markWidth (marksFrom + i * markWidth) 4
+      go true p = inl (omega (arith, ltb-true j i p))
+      go false p = inr (omega (arith, ltb-false j i p, q))
+
+-- ---- a line is counted
+
+le64-same : (b : List ℕ) (a v : ℕ) → a + 8 ≤ length b → v < 2 ^ 64 → le64 (splice b a (bytes64 v)) a ≡ v
+le64-same b a v h g =
+    sym (rw add-zero at (le64-win (splice b a (bytes64 v)) a 8 0 (omega arith)))
+    ∙ ap (λ (s : List ℕ). le64 s 0) (win-splice b a (bytes64 v) 8 refl (omega arith))
+    ∙ le64-bytes v g
+
+module _ (b : List ℕ) (e : length b ≡ bookSize) (rule : ℕ) where
+  -- one line more
+  abbrev more : List ℕ
+  more = splice b linesAt (bytes64 ((linesIn b + 1) % 2 ^ 64))
+
+  length-more : length more ≡ bookSize
+  length-more = length-splice b linesAt (bytes64 ((linesIn b + 1) % 2 ^ 64)) (omega arith) ∙ e
+
+  -- it is one splice within the two counts, or two
+  kept-counted : {A : Type 0} (r : List ℕ → A) → ((s : List ℕ) (a : ℕ) (x : List ℕ) → length s ≡ bookSize → linesAt ≤ a → a + length x ≤ brokenAt + 8 → r (splice s a x) ≡ r s) → r (counted b rule) ≡ r b
+  unfolding counted
+  kept-counted r f =
+      let one : r more ≡ r b = f b linesAt (bytes64 ((linesIn b + 1) % 2 ^ 64)) e (omega arith) (omega arith) in
+      if-ind (λ x. r x ≡ r b) (eqb rule 0) (λ q. one)
+      (λ q. f more brokenAt (bytes64 ((brokenIn more + 1) % 2 ^ 64)) length-more (omega arith) (omega arith) ∙ one)
+
+  pub length-counted : length (counted b rule) ≡ bookSize
+  length-counted = kept-counted length (λ s a x q g h. length-splice s a x (omega arith)) ∙ e
+
+  pub started-counted : started (counted b rule) ≡ started b
+  started-counted = kept-counted started (λ s a x q g h. started-apart s a x (omega arith) (omega arith))
+
+  note-counted : (i : ℕ) → note (counted b rule) i ≡ note b i
+  note-counted i = kept-counted (λ x. note x i) (λ s a x q g h. note-apart s a x (omega arith) i (inr (omega arith)))
+
+  pub registered-counted : (k : ℕ) → registered (counted b rule) k ≡ registered b k
+  registered-counted k = registered-is b (counted b rule) k (λ g. note-counted k)
+
+  pub granted-counted : (k : ℕ) → granted (counted b rule) k ≡ granted b k
+  granted-counted k = granted-is b (counted b rule) k (λ g. note-counted (keyCount + k))
+
+  pub mark-counted : (i : ℕ) → mark (counted b rule) i ≡ mark b i
+  mark-counted i = kept-counted (λ x. mark x i) (λ s a x q g h. mark-apart s a x (omega arith) i (inr (omega arith)))
+
+  lines-more : linesIn more ≡ (linesIn b + 1) % 2 ^ 64
+  unfolding linesIn
+  lines-more = le64-same b linesAt ((linesIn b + 1) % 2 ^ 64) (omega arith) (omega arith)
+
+  pub lines-counted : linesIn (counted b rule) ≡ (linesIn b + 1) % 2 ^ 64
+  unfolding counted
+  lines-counted =
+      let one : linesIn more ≡ (linesIn b + 1) % 2 ^ 64 = lines-more in
+      if-ind (λ x. linesIn x ≡ (linesIn b + 1) % 2 ^ 64) (eqb rule 0) (λ q. one)
+      (λ q. lines-apart more brokenAt (bytes64 ((brokenIn more + 1) % 2 ^ 64)) (omega (arith, length-more)) (inl (omega arith)) ∙ one)
+
+  pub broken-counted : brokenIn (counted b rule) ≡ (if eqb rule 0 then brokenIn b else (brokenIn b + 1) % 2 ^ 64)
+  unfolding counted brokenIn
+  broken-counted = go (eqb rule 0)
+    where
+      one : brokenIn more ≡ brokenIn b
+      one = broken-apart b linesAt (bytes64 ((linesIn b + 1) % 2 ^ 64)) (omega arith) (inr (omega arith))
+
+      go : (t : Bool) → brokenIn (if t then more else splice more brokenAt (bytes64 ((brokenIn more + 1) % 2 ^ 64))) ≡ (if t then brokenIn b else (brokenIn b + 1) % 2 ^ 64)
+      go true = one
+      go false = le64-same more brokenAt ((brokenIn more + 1) % 2 ^ 64) (omega (arith, length-more)) (omega arith) ∙ rw one
+
+-- ---- a value in the book is one of at most 64 bytes
+
+note-short : (b : List ℕ) (i : ℕ) → length (note b i) ≤ valueMax
+unfolding note win
+note-short b i =
+    let l : min (getD b (noteAt i) 0) valueMax ≤ valueMax = min-le-right _ _ in
+    simp length-take (omega (arith, min-le-left (min (getD b (noteAt i) 0) valueMax) (length (drop (noteAt i + 1) b))))
+
+pub registered-short : (b : List ℕ) (k : ℕ) → length (registered b k) ≤ valueMax
+unfolding registered
+registered-short b k = if-ind (λ (x : Value). length x ≤ valueMax) (ltb k keyCount) (λ q. note-short b k) (λ q. omega arith)
+
+pub granted-short : (b : List ℕ) (k : ℕ) → length (granted b k) ≤ valueMax
+unfolding granted
+granted-short b k = if-ind (λ (x : Value). length x ≤ valueMax) (ltb k keyCount) (λ q. note-short b (keyCount + k)) (λ q. omega arith)
+
+-- ---- a new book
+
+getD-zeros : (n k : ℕ) → getD (zeros n) k 0 ≡ 0
+getD-zeros zero k = refl
+getD-zeros (suc n) zero = refl
+getD-zeros (suc n) (suc k) = getD-zeros n k
+
+module _ (n : ℕ) where
+  pub started-new : started (zeros n) ≡ false
+  unfolding started
+  started-new = rw (getD-zeros n startedAt)
+
+  pub lines-new : linesIn (zeros n) ≡ 0
+  unfolding linesIn
+  lines-new = simp getD-zeros
+
+  pub broken-new : brokenIn (zeros n) ≡ 0
+  unfolding brokenIn
+  broken-new = simp getD-zeros
+
+  note-new : (i : ℕ) → note (zeros n) i ≡ []
+  unfolding note win
+  note-new i = rw (getD-zeros n (noteAt i))
+
+  pub registered-new : (k : ℕ) → registered (zeros n) k ≡ []
+  unfolding registered
+  registered-new k = if-ind (λ (x : Value). x ≡ []) (ltb k keyCount) (λ q. note-new k) (λ q. refl)
+
+  pub granted-new : (k : ℕ) → granted (zeros n) k ≡ []
+  unfolding granted
+  granted-new k = if-ind (λ (x : Value). x ≡ []) (ltb k keyCount) (λ q. note-new (keyCount + k)) (λ q. refl)
+
+  pub mark-new : (i : ℕ) → mark (zeros n) i ≡ 0
+  unfolding mark
+  mark-new i = simp getD-zeros

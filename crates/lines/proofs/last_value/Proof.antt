@@ -1,0 +1,82 @@
+-- `last_value` meets its contract: the field is the last where it ends with the line; its length is known before a byte is written, so that the buffer stays where the value is refused.
+-- Assumes nothing.
+use mathlib.Core.Path.{refl, sym}
+use native.Mathlib.Omega.{arith}
+use Rattle.lent.proofs.Splice.{splice-none}
+use Rattle.lines.proofs.Saying.{value-past, value-not-last, value-last, up-to-not, up-to-long, up-to-all}
+use borrow.Author.Needs.{needs}
+use Rattle.lines.proofs.last_value.Statement.{statement}
+use Rattle.lines.proofs.last_value.Tie as tie
+
+returns : tie.Need-returns
+returns c = rw (value-past (c .before .before .before .args .most) (c .before .before .before .args .line .now) (c .before .before .before .args .at) (search needs)) (refl, sym (splice-none _ _))
+
+field-end-requires : tie.Need-field-end-requires
+field-end-requires c κs = search needs
+
+returns-2 : tie.Need-returns-2
+returns-2 c = rw (value-not-last (c .before .before .before .before .before .args .most) (c .before .before .before .before .before .args .line .now) (c .before .before .before .before .before .args .at) (c .before .field-end .result) (c .before .field-end .ensures) (search needs)) (refl, sym (splice-none _ _))
+
+sub-length : tie.Need-sub-length
+sub-length c = search needs
+
+part-length-start : tie.Need-part-length-start
+part-length-start c = search needs
+
+part-length-end : tie.Need-part-length-end
+part-length-end c = search needs
+
+length-requires : tie.Need-length-requires
+length-requires c κs = search needs
+
+enum-known-n : tie.Need-enum-known-n
+enum-known-n c = search needs
+
+enum-told : tie.Need-enum-told
+enum-told c = search needs
+
+returns-3 : tie.Need-returns-3
+returns-3 c = rw (value-last (c .before .before .before .before .before .before .before .before .before .args .most) (c .before .before .before .before .before .before .before .before .before .args .line .now) (c .before .before .before .before .before .before .before .before .before .args .at) (c .before .before .before .before .before .field-end .result) (c .before .before .before .before .before .field-end .ensures) (omega arith), up-to-not (c .before .before .before .before .before .before .before .before .before .args .most) _ (c .before .before .length .result) (c .before .before .length .ensures) (c .enum-told .given .1)) (refl, sym (splice-none _ _))
+
+returns-4 : tie.Need-returns-4
+returns-4 c = rw (value-last (c .before .before .before .before .before .before .before .before .before .before .before .args .most) (c .before .before .before .before .before .before .before .before .before .before .before .args .line .now) (c .before .before .before .before .before .before .before .before .before .before .before .args .at) (c .before .before .before .before .before .before .before .field-end .result) (c .before .before .before .before .before .before .before .field-end .ensures) (omega arith), up-to-long (c .before .before .before .before .before .before .before .before .before .before .before .args .most) _ (c .before .before .before .before .length .result) (c .before .before .before .before .length .ensures) _ (c .before .before .n .given .1) (search needs)) (refl, sym (splice-none _ _))
+
+sub-read : tie.Need-sub-read
+sub-read c = search needs
+
+part-read-start : tie.Need-part-read-start
+part-read-start c = search needs
+
+part-read-end : tie.Need-part-read-end
+part-read-end c = search needs
+
+read-requires : tie.Need-read-requires
+read-requires c κs = search needs
+
+same-length : tie.Need-same-length
+same-length c = search needs
+
+returns-5 : tie.Need-returns-5
+returns-5 c = rw (value-last (c .before .before .before .before .before .before .before .before .before .before .before .before .before .before .before .before .args .most) (c .before .before .before .before .before .before .before .before .before .before .before .before .before .before .before .before .args .line .now) (c .before .before .before .before .before .before .before .before .before .before .before .before .before .before .before .before .args .at) (c .before .before .before .before .before .before .before .before .before .before .before .before .field-end .result) (c .before .before .before .before .before .before .before .before .before .before .before .before .field-end .ensures) (omega arith), up-to-all (c .before .before .before .before .before .before .before .before .before .before .before .before .before .before .before .before .args .most) _ (c .before .before .before .before .before .before .before .before .before .length .result) (c .before .before .before .before .before .before .before .before .before .length .ensures) _ (c .before .before .before .before .before .before .before .n .given .1) (search needs)) (c .before .before .read .ensures)
+
+pub last-value-spec : {M : Type 1} → statement M
+last-value-spec =
+    tie.close
+    (tie.spec
+    returns
+    field-end-requires
+    returns-2
+    sub-length
+    part-length-start
+    part-length-end
+    length-requires
+    enum-known-n
+    enum-told
+    returns-3
+    returns-4
+    sub-read
+    part-read-start
+    part-read-end
+    read-requires
+    same-length
+    returns-5)

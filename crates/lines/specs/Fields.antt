@@ -1,0 +1,134 @@
+-- A line as fields, and what fields say. 01, "The rehearsal": "time, letter, fields, single spaces between .. Numbers are decimal without leading zeros; values are lower-case hex, `-` for empty."
+use Prim.Native.Nat.{ℕ, _+_, _-_, _≤_}
+use mathlib.Core.Path.{_≡_}
+use mathlib.Core.Bool.{Bool, true, false, _&&_}
+use mathlib.Core.List.{List, [], _∷_}
+use mathlib.Core.Option.{Option, none, some}
+use lib.ListN.{length, drop, getD}
+use lib.Dec.{eqb, leb, ltb}
+use Rattle.lent.specs.Bytes.{win}
+use Rattle.lent.specs.Tables.{if_then_else_}
+use Rattle.counts.specs.Count.{readCount}
+use Rattle.counts.specs.declared.Count.{Count}
+use Rattle.hex.specs.Hex.{readHex}
+use Rattle.lines.specs.declared.Taken.{Taken}
+use Rattle.lines.specs.declared.Four.{Four}
+use Rattle.lines.specs.declared.Letter.{Letter}
+
+-- the most bytes of a line; two digits a byte, the value of a line that has one has fewer bytes than there is room for
+abbrev pub lineMax : ℕ
+lineMax = 200
+
+abbrev pub valueRoom : ℕ
+valueRoom = 100
+
+abbrev pub space : ℕ
+space = 32
+
+abbrev pub Field : Type 0
+Field = List ℕ
+
+-- ---- the fields of a line
+
+-- b before the first field
+abbrev pub begun : ℕ → List Field → List Field
+begun b [] = (b ∷ []) ∷ []
+begun b (f ∷ fs) = (b ∷ f) ∷ fs
+
+-- a line is cut at each space: one field more than it has spaces, and a field may be empty
+unfoldable pub fields : List ℕ → List Field
+fields [] = [] ∷ []
+fields (b ∷ t) = let fs = fields t in if eqb b space then [] ∷ fs else begun b fs
+
+-- those from place `at` on; none past the line's end
+unfoldable pub fieldsAt : List ℕ → ℕ → List Field
+fieldsAt t at = if leb at (length t) then fields (drop at t) else []
+
+-- the field that starts at `at` ends at e, and the next starts behind the space there
+pub record Ends (t : List ℕ) (at e : ℕ) : Type 0 where
+  pub from : at ≤ e
+  pub within : e ≤ length t
+  pub cut : fieldsAt t at ≡ win t at (e - at) ∷ fieldsAt t (e + 1)
+
+-- ---- one after the other: where something is read, what follows it
+
+infixr 20 _>>=_
+abbrev pub _>>=_ : {A B : Type 0} → Option A → (A → Option B) → Option B
+none >>= f = none
+some x >>= f = f x
+
+-- ---- numbers
+
+-- a count without a leading zero
+unfoldable pub readNumber : Field → Count
+readNumber f = if leb 2 (length f) && eqb (getD f 0 0) 48 then Count.Not else readCount f
+
+-- a number, and the fields behind it
+pub record Numbered : Type 0 where
+  pub number : ℕ
+  pub rest : List Field
+
+abbrev pub counted : Count → List Field → Option Numbered
+counted (Count.Is n) fs = some (record { number = n; rest = fs })
+counted Count.Not fs = none
+
+-- the first field as a number, where one is wanted; where none is, 0 and all fields are left
+abbrev pub number : Bool → List Field → Option Numbered
+number false fs = some (record { number = 0; rest = fs })
+number true [] = none
+number true (f ∷ fs) = counted (readNumber f) fs
+
+pub record Numbers : Type 0 where
+  pub a : ℕ
+  pub b : ℕ
+  pub c : ℕ
+  pub d : ℕ
+  pub rest : List Field
+
+-- the first k fields as numbers, at most four; the others of the four are 0
+unfoldable pub numbers : ℕ → List Field → Option Numbers
+numbers k fs =
+    number (ltb 0 k) fs >>= λ a.
+    number (ltb 1 k) (a .rest) >>= λ b.
+    number (ltb 2 k) (b .rest) >>= λ c.
+    number (ltb 3 k) (c .rest) >>= λ d.
+    some (record { a = a .number; b = b .number; c = c .number; d = d .number; rest = d .rest })
+
+-- ---- a letter
+
+pub record Lettered : Type 0 where
+  pub letter : ℕ
+  pub rest : List Field
+
+-- the first field as a letter: it has one byte
+abbrev pub letter : List Field → Option Lettered
+letter [] = none
+letter ([] ∷ fs) = none
+letter ((b ∷ []) ∷ fs) = some (record { letter = b; rest = fs })
+letter ((b ∷ c ∷ f) ∷ fs) = none
+
+-- ---- a value
+
+abbrev pub upTo : ℕ → Option (List ℕ) → Option (List ℕ)
+upTo most none = none
+upTo most (some v) = if ltb most (length v) then none else some v
+
+-- the one field that is left as a value of at most `most` bytes
+abbrev pub lastValue : ℕ → List Field → Option (List ℕ)
+lastValue most [] = none
+lastValue most (f ∷ []) = upTo most (readHex f)
+lastValue most (f ∷ g ∷ fs) = none
+
+-- ---- what the code's answers say of a line t
+
+abbrev pub numberAt : List ℕ → Taken → Option Numbered
+numberAt t (Taken.Is n next) = some (record { number = n; rest = fieldsAt t next })
+numberAt t Taken.Not = none
+
+abbrev pub numbersAt : List ℕ → Four → Option Numbers
+numbersAt t (Four.Are a b c d next) = some (record { a = a; b = b; c = c; d = d; rest = fieldsAt t next })
+numbersAt t Four.Not = none
+
+abbrev pub letterAt : List ℕ → Letter → Option Lettered
+letterAt t (Letter.Is b next) = some (record { letter = b; rest = fieldsAt t next })
+letterAt t Letter.Not = none

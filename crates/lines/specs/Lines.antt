@@ -1,0 +1,105 @@
+-- What a line of the rehearsal says. 01, "The rehearsal": "Letters in the order above, without SHOW: B, G, F, Q, S, D, V, X (DONE), U, E, T; `C s k v` is a register write; `A r w` (no time) starts."
+-- Whether an A line comes first and once is not decided here.
+use Prim.Native.Nat.{ℕ}
+use mathlib.Core.Bool.{true}
+use mathlib.Core.Path.{_≡_}
+use mathlib.Core.List.{List, [], _∷_}
+use mathlib.Core.Option.{Option, none, some}
+use lib.ListN.{length}
+use lib.Dec.{eqb, ltb}
+use Rattle.lent.specs.Bytes.{splice}
+use Rattle.lent.specs.Tables.{if_then_else_}
+use Rattle.lines.specs.Fields.{lineMax, valueRoom, Field, fields, _>>=_, number, numbers, Lettered, letter, lastValue}
+use Rattle.lines.specs.declared.Line.{Line}
+use Rattle.lines.specs.declared.Shape.{Shape}
+
+-- what is read: the line, and the bytes of the value that it carries
+pub record Read : Type 0 where
+  pub line : Line
+  pub value : List ℕ
+
+-- a line that carries no value
+abbrev pub said : Line → Read
+said l = record { line = l; value = [] }
+
+abbrev pub orUnreadable : Option Read → Read
+orUnreadable (some r) = r
+orUnreadable none = said Line.Unreadable
+
+-- r, if no field is left
+abbrev pub ended : List Field → Read → Option Read
+ended [] r = some r
+ended (f ∷ fs) r = none
+
+-- a letter's command, by its place in the document's list, how many numbers follow it, and whether a value does
+unfoldable pub shapeOf : ℕ → Shape
+shapeOf l =
+    if eqb l 66 then Shape.Plain 1 0  -- B
+    else if eqb l 71 then Shape.Plain 2 2  -- G session key
+    else if eqb l 70 then Shape.Valued 3 2  -- F token key value
+    else if eqb l 81 then Shape.Plain 4 3  -- Q session key kind
+    else if eqb l 83 then Shape.Valued 5 3  -- S session step key value
+    else if eqb l 68 then Shape.Valued 6 4  -- D session step key operation operand
+    else if eqb l 86 then Shape.Plain 7 2  -- V session n
+    else if eqb l 88 then Shape.Plain 8 1  -- X session
+    else if eqb l 85 then Shape.Plain 9 1  -- U session
+    else if eqb l 69 then Shape.Plain 10 1  -- E key
+    else if eqb l 84 then Shape.Plain 11 0  -- T
+    else Shape.Unknown
+
+-- what follows a command's letter: its numbers, the value if it has one, and nothing else
+unfoldable pub commandLine : ℕ → Shape → List Field → Option Read
+commandLine time (Shape.Plain place k) fs =
+    numbers k fs >>= λ n. ended (n .rest) (said (Line.Command place time (n .a) (n .b) (n .c) (n .d) 0))
+commandLine time (Shape.Valued place k) fs =
+    numbers k fs >>= λ n.
+    lastValue valueRoom (n .rest) >>= λ v.
+    some (record { line = Line.Command place time (n .a) (n .b) (n .c) (n .d) (length v); value = v })
+commandLine time Shape.Unknown fs = none
+
+-- `A` and `C`
+abbrev pub startLetter : ℕ
+startLetter = 65
+
+abbrev pub writeLetter : ℕ
+writeLetter = 67
+
+-- the largest key, and the most bytes of a value that the register holds
+abbrev pub keyMax : ℕ
+keyMax = 255
+
+abbrev pub valueMax : ℕ
+valueMax = 64
+
+-- `A r w`, behind the letter
+unfoldable pub startLine : List Field → Option Read
+startLine fs = numbers 2 fs >>= λ n. ended (n .rest) (said (Line.Start (n .a) (n .b)))
+
+-- `C s k v`, behind the letter
+unfoldable pub writeLine : List Field → Option Read
+writeLine fs =
+    numbers 2 fs >>= λ n.
+    if ltb keyMax (n .b) then none
+    else lastValue valueMax (n .rest) >>= λ v. some (record { line = Line.Write (n .a) (n .b) (length v); value = v })
+
+-- time, letter, fields
+unfoldable pub timedLine : List Field → Option Read
+timedLine fs =
+    number true fs >>= λ t.
+    letter (t .rest) >>= λ l.
+    if eqb (l .letter) writeLetter then writeLine (l .rest) else commandLine (t .number) (shapeOf (l .letter)) (l .rest)
+
+-- the letter A comes first, and any other behind a time
+abbrev pub lineBy : Option Lettered → List Field → Option Read
+lineBy (some l) fs = if eqb (l .letter) startLetter then startLine (l .rest) else timedLine fs
+lineBy none fs = timedLine fs
+
+unfoldable pub readLine : List ℕ → Read
+readLine t =
+    if ltb lineMax (length t) then said Line.Unreadable
+    else orUnreadable (lineBy (letter (fields t)) (fields t))
+
+-- the answer is the line, and the buffer has the value at its front
+pub record Gives (x : Read) (r : Line) (before after : List ℕ) : Type 0 where
+  pub line : r ≡ x .line
+  pub value : after ≡ splice before 0 (x .value)

@@ -1,0 +1,261 @@
+-- A line by its cases, and its printing. A line that is not taken changes nothing; a HIT comes only from a cache of 65,536 bytes, so its value can be
+-- printed from them; and the text depends on a value only where the word is HIT.
+use Prim.Native.Nat.{ℕ, _+_, _-_, _≤_, _<_}
+use mathlib.Core.Path.{_≡_, refl, sym, ap, _∙_}
+use mathlib.Core.Bool.{Bool, true, false, _&&_}
+use mathlib.Core.Logic.{_⊎_, inl, inr}
+use mathlib.Core.List.{List, []}
+use mathlib.Core.Option.{Option, none, some}
+use native.Mathlib.Omega.{arith}
+use lib.Dec.{eqb, leb}
+use lib.ListN.{length, take, drop}
+use borrow.Author.Tests.{eqb-true, eq-eqb, ne-eqb, le-leb, lt-leb}
+use Rattle.lent.specs.Bytes.{win, splice}
+use Rattle.lent.specs.Tables.{if_then_else_}
+use Rattle.lent.proofs.Splice.{win-splice}
+use Rattle.machine.specs.Sizes.{stateSize, valueMax}
+use Rattle.machine.specs.Words.{wordOf}
+use Rattle.machine.specs.State.{Value}
+use Rattle.machine.specs.Refusals.{startRefusals}
+use Rattle.machine.specs.Step.{started, start}
+use Rattle.machine.specs.Tables.{first}
+use Rattle.machine.specs.declared.Command.{Command}
+use Rattle.machine.proofs.Views.{caseOf, clash}
+use Rattle.layout.specs.Layout.{decode}
+use Rattle.layout.specs.WellFormed.{wellFormed}
+use Rattle.layout.proofs.Formed.{formed}
+use Rattle.startup.specs.Start.{replied, startRefusal, startOf}
+use Rattle.cache.specs.Run.{ran, commandOf}
+use Rattle.cache.specs.declared.Numbered.{Numbered}
+use Rattle.book.specs.Book as book
+use Rattle.book.specs.Book.{bookSize, linesIn, counted}
+use Rattle.rules.specs.Rules as rules
+use Rattle.rules.specs.Rules.{unreadable, begins, writes, commands}
+use Rattle.rules.specs.Says.{Says}
+use Rattle.rules.specs.declared.Said.{Said}
+use Rattle.lines.specs.Fields.{lineMax, valueRoom}
+use Rattle.lines.specs.Lines as lines
+use Rattle.lines.specs.Lines.{keyMax, readLine}
+use Rattle.lines.proofs.Laws.{line-sound}
+use Rattle.lines.specs.declared.Line.{Line}
+use Rattle.replies.specs.Replies as replies
+use Rattle.replies.specs.Replies.{lineRoom, detailed, ended}
+use Rattle.rehearsal.specs.Rehearsal.{numbered, commanded, acted, saidOf, turn, lineOf, endOf, Left, Leaves}
+use Rattle.rehearsal.specs.Saying.{notRead, Within, handed, textOf, Prints}
+
+-- ---- the cases of a line
+
+-- what is said stands where it stands
+pub here : {s : rules.Said} {at : ℕ} {r : Said} {x b : List ℕ} → Says s at r x b → Says s (r .at) r x b
+here h = record { word = h .word; detail = h .detail; place = refl; rule = h .rule; cache = h .cache; book = h .book; value = h .value; inside = h .inside; short = h .short }
+
+-- a line that is not taken
+pub not-taken : (s : rules.Said) (x b : List ℕ) (r : Said) → r ≡ notRead → s ≡ unreadable x b → Says s (r .at) r x b
+not-taken s x b r e q = rw (e, q) (record { word = refl; detail = refl; place = refl; rule = refl; cache = refl; book = refl; value = λ w. absurd (omega arith); inside = λ w. absurd (omega arith); short = λ w. absurd (omega arith) })
+
+module _ (x b : List ℕ) where
+  pub start-late : (readLife writeLife : ℕ) → book.started b ≡ true → acted x b (Line.Start readLife writeLife) [] ≡ unreadable x b
+  unfolding acted
+  start-late readLife writeLife e = rw e refl
+
+  pub start-first : (readLife writeLife : ℕ) → book.started b ≡ false → acted x b (Line.Start readLife writeLife) [] ≡ begins x b readLife writeLife
+  unfolding acted
+  start-first readLife writeLife e = rw e refl
+
+  pub write-early : (n k l : ℕ) (v : Value) → book.started b ≡ false → acted x b (Line.Write n k l) v ≡ unreadable x b
+  unfolding acted
+  write-early n k l v e = rw e refl
+
+  pub write-started : (n k l : ℕ) (v : Value) → book.started b ≡ true → acted x b (Line.Write n k l) v ≡ writes x b n k v
+  unfolding acted
+  write-started n k l v e = rw e refl
+
+  pub command-early : (time : ℕ) (c : Numbered) (v : Value) → book.started b ≡ false → commanded x b time c v ≡ unreadable x b
+  command-early time c v e = rw e refl
+
+  pub command-is : (time : ℕ) (q : Numbered) (c : Command) (v : Value) → q ≡ Numbered.Is c → book.started b ≡ true → commanded x b time q v ≡ commands x b time c v
+  command-is time q c v p e = rw (e, p) refl
+
+  pub command-unknown : (time : ℕ) (q : Numbered) (v : Value) → q ≡ Numbered.Unknown → book.started b ≡ true → commanded x b time q v ≡ unreadable x b
+  command-unknown time q v p e = rw (e, p) refl
+
+-- ---- a line by what is read
+
+-- the value that was read stands at the front of the buffer
+front : (n : ℕ) (v buf : List ℕ) → n ≡ length v → length v ≤ length buf → take n (splice buf 0 v) ≡ v
+unfolding win
+front n v buf e l = win-splice buf 0 v n (sym e) (omega arith)
+
+module _ (x b t : List ℕ) (r : Line) (is : r ≡ readLine t .line) where
+  pub said-unreadable : r ≡ Line.Unreadable → saidOf x b t ≡ unreadable x b
+  unfolding saidOf acted
+  said-unreadable e = rw (← is, e) refl
+
+  pub said-start : (readLife writeLife : ℕ) → r ≡ Line.Start readLife writeLife → saidOf x b t ≡ acted x b (Line.Start readLife writeLife) []
+  unfolding saidOf acted
+  said-start readLife writeLife e = rw (← is, e) refl
+
+  module _ (n k l : ℕ) (e : r ≡ Line.Write n k l) where
+    pub write-size : (l ≡ length (readLine t .value)) × ((l ≤ valueMax) × (l ≤ valueRoom))
+    write-size =
+        let s = line-sound t in
+        let q : l ≡ length (readLine t .value) = rw (← is, e) at (s .size) in
+        let g : (k ≤ keyMax) × (l ≤ lines.valueMax) = rw (← is, e) at (s .range) in
+        (q, (g .1, omega (arith, s .room)))
+
+    pub said-write : (buf buf′ : List ℕ) → length buf ≡ lineMax → buf′ ≡ splice buf 0 (readLine t .value) → saidOf x b t ≡ acted x b (Line.Write n k l) (take l buf′)
+    unfolding saidOf
+    said-write buf buf′ f q = rw (q, front l (readLine t .value) buf (write-size .0) (omega (arith, line-sound t .room)), ← is, e) refl
+
+  module _ (p time a₁ a₂ a₃ a₄ l : ℕ) (e : r ≡ Line.Command p time a₁ a₂ a₃ a₄ l) where
+    pub command-size : (l ≡ length (readLine t .value)) × (l ≤ valueRoom)
+    command-size =
+        let s = line-sound t in
+        let q : l ≡ length (readLine t .value) = rw (← is, e) at (s .size) in
+        (q, omega (arith, s .room))
+
+    pub said-command : (buf buf′ : List ℕ) (c : Numbered) → length buf ≡ lineMax → buf′ ≡ splice buf 0 (readLine t .value) → c ≡ commandOf p a₁ a₂ a₃ a₄ → saidOf x b t ≡ commanded x b time c (take l buf′)
+    unfolding saidOf acted
+    said-command buf buf′ c f q d = rw (q, front l (readLine t .value) buf (command-size .0) (omega (arith, line-sound t .room)), ← is, e, d) refl
+
+-- ---- a HIT comes from a cache of its size
+
+ran-hit : (x : List ℕ) (time : ℕ) (c : Command) (v : Value) → wordOf (ran x time c v .answer) ≡ 3 → length x ≡ stateSize
+unfolding ran
+ran-hit x time c v = go (wellFormed x) refl
+  where
+    go : (t : Bool) → wellFormed x ≡ t → wordOf (ran x time c v .answer) ≡ 3 → length x ≡ stateSize
+    go true e w = formed x e .size
+    go false e w = absurd (let z = rw e at w in omega (arith, z))
+
+start-hit : (x : List ℕ) (readLife writeLife : ℕ) → wordOf (startOf x readLife writeLife .answer) ≡ 3 → length x ≡ stateSize
+unfolding startOf start
+start-hit x readLife writeLife = go (startRefusal x readLife writeLife) (first (startRefusals readLife writeLife))
+  where
+    go : (o p : Option ℕ) → wordOf (replied x o (started readLife writeLife p (decode x)) .answer) ≡ 3 → length x ≡ stateSize
+    go none none w = absurd (omega arith)
+    go none (some e) w = absurd (omega arith)
+    go (some e) p w = absurd (omega arith)
+
+if-hit : (q : Bool) (s t : rules.Said) (x : List ℕ) → (s .word ≡ 3 → length x ≡ stateSize) → (t .word ≡ 3 → length x ≡ stateSize) → (if q then s else t) .word ≡ 3 → length x ≡ stateSize
+if-hit true s t x f g = f
+if-hit false s t x f g = g
+
+unreadable-hit : (x b : List ℕ) → unreadable x b .word ≡ 3 → length x ≡ stateSize
+unreadable-hit x b w = absurd (omega arith)
+
+begins-hit : (x b : List ℕ) (readLife writeLife : ℕ) → begins x b readLife writeLife .word ≡ 3 → length x ≡ stateSize
+unfolding begins
+begins-hit x b readLife writeLife w = start-hit x readLife writeLife w
+
+writes-hit : (x b : List ℕ) (n k : ℕ) (v : Value) → writes x b n k v .word ≡ 3 → length x ≡ stateSize
+unfolding writes
+writes-hit x b n k v w = absurd (omega arith)
+
+numbered-hit : (x b : List ℕ) (time : ℕ) (q : Numbered) (v : Value) → numbered x b time q v .word ≡ 3 → length x ≡ stateSize
+unfolding commands
+numbered-hit x b time (Numbered.Is c) v w = ran-hit x time c v w
+numbered-hit x b time Numbered.Unknown v w = unreadable-hit x b w
+
+acted-hit : (x b : List ℕ) (l : Line) (v : Value) → acted x b l v .word ≡ 3 → length x ≡ stateSize
+unfolding acted
+acted-hit x b Line.Unreadable v = unreadable-hit x b
+acted-hit x b (Line.Start r w) v = if-hit (book.started b) (unreadable x b) (begins x b r w) x (unreadable-hit x b) (begins-hit x b r w)
+acted-hit x b (Line.Write n k l) v = if-hit (book.started b) (writes x b n k v) (unreadable x b) x (writes-hit x b n k v) (unreadable-hit x b)
+acted-hit x b (Line.Command p t a₁ a₂ a₃ a₄ l) v = if-hit (book.started b) (numbered x b t (commandOf p a₁ a₂ a₃ a₄) v) (unreadable x b) x (numbered-hit x b t (commandOf p a₁ a₂ a₃ a₄) v) (unreadable-hit x b)
+
+said-hit : (x b t : List ℕ) → saidOf x b t .word ≡ 3 → length x ≡ stateSize
+unfolding saidOf
+said-hit x b t = acted-hit x b (readLine t .line) (readLine t .value)
+
+-- so a value that is handed out stands within the cache's bytes after the line
+pub said-within : (x b t x′ b′ : List ℕ) (r : Said) → Says (saidOf x b t) (r .at) r x′ b′ → length x′ ≡ length x → Within r x′
+said-within x b t x′ b′ r h e = record { inside = λ w. let l = said-hit x b t (sym (h .word) ∙ w) in omega (arith, h .inside w); short = h .short }
+
+-- ---- printing
+
+value-only : (word detail : ℕ) (v u : Value) → (word ≡ 3 → v ≡ u) → detailed word detail v ≡ detailed word detail u
+unfolding detailed
+value-only word detail v u f = go (caseOf (eqb word 3))
+  where
+    go : (eqb word 3 ≡ true) ⊎ (eqb word 3 ≡ false) → detailed word detail v ≡ detailed word detail u
+    go (inl q) = rw (f (eqb-true word 3 q)) refl
+    go (inr q) = rw q refl
+
+text-only : (n word detail : ℕ) (v u : Value) (rule : ℕ) → (word ≡ 3 → v ≡ u) → replies.replied n word detail v rule ≡ replies.replied n word detail u rule
+unfolding replies.replied
+text-only n word detail v u rule f = rw (value-only word detail v u f) refl
+
+handed-hit : (r : Said) (x : List ℕ) → r .word ≡ 3 → handed r x ≡ win x (r .at) (r .detail)
+handed-hit r x w = rw (eq-eqb (r .word) 3 w) refl
+
+-- the text of what is said is that of the definition
+text-is : (s : rules.Said) (at : ℕ) (r : Said) (x b b′ : List ℕ) → Says s at r x b → textOf r x b′ ≡ replies.replied (linesIn b′) (s .word) (s .detail) (s .value) (s .rule)
+text-is s at r x b b′ h =
+    text-only (linesIn b′) (r .word) (r .detail) (handed r x) (s .value) (r .rule) (λ w. handed-hit r x w ∙ h .value w)
+    ∙ rw (h .word, h .detail, h .rule) refl
+
+-- a part of the cache's bytes, by its ends
+pub part-win : (x : List ℕ) (at d : ℕ) → take (at + d - at) (drop at x) ≡ win x at d
+unfolding win
+part-win x at d = let e : at + d - at ≡ d = omega arith in rw e refl
+
+-- the text stands at the front of what was lent
+pub prints : (r : Said) (x b o : List ℕ) (n m : ℕ) (b′ o′ v : List ℕ)
+    → (m ≡ length (replies.replied n (r .word) (r .detail) v (r .rule))) × (o′ ≡ splice o 0 (replies.replied n (r .word) (r .detail) v (r .rule)))
+    → (r .word ≡ 3 → v ≡ win x (r .at) (r .detail)) → b′ ≡ counted b (r .rule) → n ≡ linesIn b′ → Prints r x b o m b′ o′
+prints r x b o n m b′ o′ v h f k e =
+    let y : replies.replied n (r .word) (r .detail) v (r .rule) ≡ textOf r x b′ = text-only n (r .word) (r .detail) v (handed r x) (r .rule) (λ w. f w ∙ sym (handed-hit r x w)) ∙ rw e refl in
+    record { book = k; size = rw (← y) (h .0); out = rw (← y) (h .1) }
+
+-- ---- the public functions
+
+both-true : (p q : Bool) → p ≡ true → q ≡ true → (p && q) ≡ true
+both-true p q e f = rw (e, f) refl
+
+right : (b out : List ℕ) → length b ≡ bookSize → lineRoom ≤ length out → (eqb (length b) bookSize && leb lineRoom (length out)) ≡ true
+right b out e l = both-true (eqb (length b) bookSize) (leb lineRoom (length out)) (eq-eqb (length b) bookSize e) (le-leb lineRoom (length out) l)
+
+wrong-size : (b out : List ℕ) → (length b ≡ bookSize → ⊥) → (eqb (length b) bookSize && leb lineRoom (length out)) ≡ false
+wrong-size b out e = rw (ne-eqb (length b) bookSize e) refl
+
+no-room : (b out : List ℕ) → length b ≡ bookSize → length out < lineRoom → (eqb (length b) bookSize && leb lineRoom (length out)) ≡ false
+no-room b out e l = rw (eq-eqb (length b) bookSize e, lt-leb lineRoom (length out) l) refl
+
+module _ (x b t out : List ℕ) where
+  idle : (eqb (length b) bookSize && leb lineRoom (length out)) ≡ false → Leaves (lineOf x b t out) 0 x b out
+  unfolding lineOf
+  idle q = rw q (record { length = refl; cache = refl; book = refl; out = refl })
+
+  pub line-wrong : (length b ≡ bookSize → ⊥) → Leaves (lineOf x b t out) 0 x b out
+  line-wrong e = idle (wrong-size b out e)
+
+  pub line-roomless : length b ≡ bookSize → length out < lineRoom → Leaves (lineOf x b t out) 0 x b out
+  line-roomless e l = idle (no-room b out e l)
+
+  pub line-printed : length b ≡ bookSize → lineRoom ≤ length out → (r : Said) (x′ b′ b″ out′ : List ℕ) (n : ℕ) → Says (saidOf x b t) (r .at) r x′ b′ → Prints r x′ b′ out n b″ out′
+      → Leaves (lineOf x b t out) n x′ b″ out′
+  unfolding lineOf turn
+  line-printed e l r x′ b′ b″ out′ n h p =
+      let k : b″ ≡ counted (saidOf x b t .book) (saidOf x b t .rule) = p .book ∙ rw (h .book, h .rule) refl in
+      let y = text-is (saidOf x b t) (r .at) r x′ b′ b″ h in
+      rw (right b out e l) (record {
+        length = p .size ∙ rw (y, k) refl;
+        cache = h .cache;
+        book = k;
+        out = p .out ∙ rw (y, k) refl;
+      })
+
+module _ (b out : List ℕ) where
+  pub end-wrong : (length b ≡ bookSize → ⊥) → (0 ≡ endOf b out .length) × (out ≡ endOf b out .out)
+  unfolding endOf
+  end-wrong e = rw (wrong-size b out e) (refl, refl)
+
+  pub end-roomless : length b ≡ bookSize → length out < lineRoom → (0 ≡ endOf b out .length) × (out ≡ endOf b out .out)
+  unfolding endOf
+  end-roomless e l = rw (no-room b out e l) (refl, refl)
+
+  pub end-printed : length b ≡ bookSize → lineRoom ≤ length out → (n m k : ℕ) (out′ : List ℕ) → n ≡ linesIn b → m ≡ book.brokenIn b → (k ≡ length (ended n m)) × (out′ ≡ splice out 0 (ended n m))
+      → (k ≡ endOf b out .length) × (out′ ≡ endOf b out .out)
+  unfolding endOf
+  end-printed e l n m k out′ p q h = rw (right b out e l, ← p, ← q) h

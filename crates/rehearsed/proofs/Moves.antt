@@ -1,0 +1,178 @@
+-- What every command does to leases and sessions, under no rule of the clients: a lease stood before on its key, or it is the one that a GET was
+-- answered with; a session stands at its place with its number, or its number is new. Each effect reads its tables back to those before it.
+use mathlib.Core.Path.{_≡_, refl, sym, ap, _∙_}
+use mathlib.Core.Bool.{false}
+use mathlib.Core.Logic.{_⊎_, inl, inr}
+use mathlib.Core.List.{List, [], _∷_}
+use mathlib.Core.Option.{Option, none, some}
+use Prim.Native.Nat.{ℕ, _+_, _≤_}
+use native.Mathlib.Omega.{arith}
+use lib.Dec.{eqb, ltb}
+use lib.ListN.{getD, set}
+use Rattle.machine.specs.Tables.{place, isNone}
+use Rattle.machine.specs.Words.{wordOf}
+use Rattle.machine.specs.Session.{opened, advanced, sealed, isDue}
+use Rattle.machine.specs.Decision.{grants}
+use Rattle.machine.specs.State.{Value, Lease, Key, blank, noSession, session, Staged, nothing, staged, DROP, State, free, freeRow, kindOf, stagedIn, rowOf, cached, leaseOn, sessionAt}
+use Rattle.machine.specs.Expiry.{withKeys, withClock, setValue, setLease, settle, leave, finish, those, expire}
+use Rattle.machine.specs.Refusals.{decide, blocked, Sight, sight, countOf, refusal}
+use Rattle.machine.specs.Effects.{Outcome, told, begins, wait, leased, missed, looked, matches, fills, asks, changed, stagedAnswer, withSession, withStaged, stages, toCache, effect}
+use Rattle.machine.specs.Step.{settled, step}
+use Rattle.machine.specs.declared.Session.{Session}
+use Rattle.machine.specs.declared.Answer.{Answer}
+use Rattle.machine.specs.declared.Command.{Command}
+use Rattle.machine.specs.declared.Command.the-variants.{Begin, Get, Fill, Quar, Stage, Delta, Validate, Done, Undo, Evict, Tick}
+use Rattle.machine.proofs.Views
+use Rattle.machine.proofs.Orderly
+use Rattle.machine.proofs.Frames.{expire-lease}
+
+-- the leases of t: no answer grants one and each was there, or a GET was answered with the next token on its key and each other was there
+pub data Leases (s : State) (c : Command) (a : Answer) (t : State) : Type 0 where
+  quiet : eqb (wordOf a) 6 ≡ false → ((k : ℕ) (l : Lease) → leaseOn t k ≡ some l → leaseOn s k ≡ some l) → Leases s c a t
+  grant : (n k : ℕ) → c ≡ Get n k → a ≡ Answer.Lease (s .head .nextToken)
+      → ((j : ℕ) (l : Lease) → leaseOn t j ≡ some l → ((k ≡ j → ⊥) × (leaseOn s j ≡ some l)) ⊎ ((k ≡ j) × (l .token ≡ s .head .nextToken))) → Leases s c a t
+
+-- a session of t at place i: its number is new, or it stood there
+abbrev pub Stood : State → ℕ → Session → Type 0
+Stood s i x = (s .head .nextSession ≤ x .number) ⊎ ((m : Session) × (sessionAt s i ≡ session m) × (m .number ≡ x .number))
+
+pub record Moves (s : State) (c : Command) (r : Outcome) : Type 0 where
+  pub leases : Leases s c (r .answer) (r .after)
+  pub places : (i : ℕ) (x : Session) → sessionAt (r .after) i ≡ session x → Stood s i x
+  pub grows : s .head .nextSession ≤ r .after .head .nextSession
+
+-- the answer that stages grants no lease
+staged-quiet : (u : Staged) → eqb (wordOf (stagedAnswer u)) 6 ≡ false
+staged-quiet nothing = refl
+staged-quiet (staged v) = refl
+staged-quiet DROP = refl
+
+module _ (s : State) (c : Command) where
+  -- nothing changes
+  still : (a : Answer) (v : Value) → eqb (wordOf a) 6 ≡ false → Moves s c (record { answer = a; handed = v; after = s })
+  still a v q = record { leases = quiet q (λ k l e. e); places = λ i x e. inr (x, e, refl); grows = omega arith }
+
+  -- values change, and leases go
+  keyed : (a : Answer) (ks : List Key) → eqb (wordOf a) 6 ≡ false → ((k : ℕ) (l : Lease) → getD ks k blank .lease ≡ some l → leaseOn s k ≡ some l) → Moves s c (told a (withKeys s ks))
+  keyed a ks q f = record { leases = quiet q f; places = λ i x e. inr (x, e, refl); grows = omega arith }
+
+  -- sessions end
+  ends : (a : Answer) (ns : List ℕ) (ks : List Key) → eqb (wordOf a) 6 ≡ false → ((k : ℕ) (l : Lease) → getD ks k blank .lease ≡ some l → leaseOn s k ≡ some l) → Moves s c (told a (leave ns (withKeys s ks)))
+  unfolding leave
+  ends a ns ks q f = record { leases = quiet q f; places = λ i x e. inr (x, Orderly.was-session ns (s .sessions) i x e .0, refl); grows = omega arith }
+
+  leaves : (a : Answer) (n : ℕ) → eqb (wordOf a) 6 ≡ false → Moves s c (told a (leave (n ∷ []) s))
+  leaves a n q = ends a (n ∷ []) (s .keys) q (λ k l e. e)
+
+  finishes : (n : ℕ) → Moves s c (told Answer.Done (finish (n ∷ []) toCache s))
+  unfolding finish
+  finishes n = ends Answer.Done (n ∷ []) (settle (n ∷ []) toCache (s .rows) (s .keys)) refl (λ k l e. sym (Views.settle-lease (n ∷ []) toCache k (s .rows) (s .keys)) ∙ e)
+
+  -- one session is put through f, which keeps its number
+  stood-slot : (n : ℕ) (f : Session → Session) → ((m : Session) → f m .number ≡ m .number) → (i : ℕ) (x : Session) → sessionAt (withSession s n f) i ≡ session x → Stood s i x
+  stood-slot n f same i x e = let r = Orderly.was-slot s n f i x e in
+      inr (r .0, r .1, elim (r .2) [ inl p ↦ sym (ap (λ (y : Session). y .number) p) | inr p ↦ sym (ap (λ (y : Session). y .number) (p .1) ∙ same (r .0)) ])
+
+  new-session : (now : ℕ) → Moves s c (begins s now)
+  unfolding begins
+  new-session now = record {
+    leases = quiet refl (λ k l e. e);
+    places = λ i x e. elim (Orderly.was-set (s .sessions) (place free (s .sessions)) (session (opened (s .head .nextSession) (now + s .head .writeLife))) i noSession (session x) (Views.no-session x) e) [
+      | inl p ↦ inr (x, p, refl)
+      | inr p ↦ inl (let y = p .1 in let z : s .head .nextSession ≡ x .number = cc in omega arith)
+    ];
+    grows = omega arith;
+  }
+
+  stages-row : (n k : ℕ) (u : Staged) → Moves s c (told (stagedAnswer u) (withStaged (withSession s n advanced) n k u))
+  stages-row n k u = record { leases = quiet (staged-quiet u) (λ j l e. e); places = stood-slot n advanced (λ m. refl); grows = omega arith }
+
+  seals : (n : ℕ) → Moves s c (told Answer.Validated (withSession s n sealed))
+  seals n = record { leases = quiet refl (λ j l e. e); places = stood-slot n sealed (λ m. refl); grows = omega arith }
+
+  staging : (n i k : ℕ) (u : Staged) → Moves s c (stages s n i k u)
+  unfolding stages
+  staging n i k u = Views.if-ind (Moves s c) (ltb i (countOf s n)) (λ p. still Answer.Repeated [] refl) (λ p. stages-row n k u)
+
+  asked : (n k kind : ℕ) → Moves s c (asks s n k kind)
+  unfolding asks
+  asked n k kind = Views.if-ind (Moves s c) (grants (decide s k kind))
+      (λ e. record { leases = quiet refl (λ j l p. Orderly.voided-was s k j l p .1); places = λ i x p. inr (x, p, refl); grows = omega arith }) (λ e. leaves Answer.Aborted n refl)
+
+-- GET answered LEASE
+leases-key : (s : State) (now n k : ℕ) → Moves s (Get n k) (leased s now k)
+unfolding leased
+leases-key s now n k = record {
+  leases = grant n k refl refl (λ j l e. there j l e (Views.lease-after (s .keys) k (some new) j));
+  places = λ i x e. inr (x, e, refl);
+  grows = omega arith;
+}
+  where
+    new : Lease
+    new = record { token = s .head .nextToken; until = now + s .head .readLife }
+
+    ks : List Key
+    ks = setLease (s .keys) k (some new)
+
+    there : (j : ℕ) (l : Lease) → getD ks j blank .lease ≡ some l
+        → ((k ≡ j → ⊥) × (getD ks j blank .lease ≡ leaseOn s j)) ⊎ ((k ≡ j) × ((getD ks j blank .lease ≡ some new) ⊎ (getD ks j blank .lease ≡ none)))
+        → ((k ≡ j → ⊥) × (leaseOn s j ≡ some l)) ⊎ ((k ≡ j) × (l .token ≡ s .head .nextToken))
+    there j l e (inl x) = inl (x .0, sym (x .1) ∙ e)
+    there j l e (inr x) = elim (x .1) [
+      | inl y ↦ inr (x .0, sym (ap (λ (z : Lease). z .token) (Views.some-eq new l (sym y ∙ e))))
+      | inr y ↦ Views.no-some l (sym y ∙ e)
+    ]
+
+looks : (s : State) (now n k : ℕ) (o : Option Sight) → Moves s (Get n k) (looked s now n k o)
+unfolding looked missed
+looks s now n k (some x) = still s (Get n k) (Answer.Hit (x .at) _) (x .value) refl
+looks s now n k none = Views.if-ind (Moves s (Get n k)) (freeRow (rowOf s n k))
+    (λ e. Views.if-ind (Moves s (Get n k)) (blocked s k) (λ b. still s (Get n k) (Answer.Backoff (wait s k now)) [] refl) (λ b. leases-key s now n k))
+    (λ e. still s (Get n k) Answer.Ask [] refl)
+
+pub moves-effect : (s : State) (now : ℕ) (c : Command) (v : Value) → Moves s c (effect s now c v)
+unfolding effect fills
+moves-effect s now Begin v = new-session s Begin now
+moves-effect s now (Get n k) v = looks s now n k (sight s n k)
+moves-effect s now (Fill t k) v = Views.if-ind (Moves s (Fill t k)) (matches t (leaseOn s k))
+    (λ m. keyed s (Fill t k) Answer.Stored (set (s .keys) k (record { value = some v; lease = none })) refl (Orderly.filled-was s k v)) (λ m. still s (Fill t k) Answer.Ignored [] refl)
+moves-effect s now (Quar n k d) v = Views.if-ind (Moves s (Quar n k d)) (eqb (kindOf (rowOf s n k)) d) (λ m. still s (Quar n k d) Answer.Held [] refl) (λ m. asked s (Quar n k d) n k d)
+moves-effect s now (Stage n i k) v = staging s (Stage n i k) n i k (staged v)
+moves-effect s now (Delta n i k o) v = staging s (Delta n i k o) n i k (changed o v (stagedIn (rowOf s n k)) (cached s k))
+moves-effect s now (Validate n m) v = Views.if-ind (Moves s (Validate n m)) (eqb m (countOf s n)) (λ p. seals s (Validate n m) n) (λ p. leaves s (Validate n m) Answer.Lost n refl)
+moves-effect s now (Done n) v = finishes s (Done n) n
+moves-effect s now (Undo n) v = leaves s (Undo n) Answer.Undone n refl
+moves-effect s now (Evict k) v = Views.if-ind (Moves s (Evict k)) (isNone (cached s k)) (λ p. still s (Evict k) Answer.Empty [] refl)
+    (λ p. keyed s (Evict k) Answer.Evicted (setValue (s .keys) k none) refl (λ j l e. sym (Views.value-lease (s .keys) k none j) ∙ e))
+moves-effect s now Tick v = still s Tick Answer.Ticked [] refl
+
+-- Expiry before the effect, and the clock after it
+
+pub expire-session : (now : ℕ) (s : State) (i : ℕ) (x : Session) → sessionAt (expire now s) i ≡ session x → sessionAt s i ≡ session x
+unfolding expire finish leave
+expire-session now s i x e = Orderly.was-session (those (isDue now) (s .sessions)) (s .sessions) i x e .0
+
+moves-expired : (s : State) (now : ℕ) (c : Command) (r : Outcome) → Moves (expire now s) c r → Moves s c r
+unfolding expire finish leave
+moves-expired s now c r m = record {
+  leases = back (m .leases);
+  places = λ i x e. elim (m .places i x e) [ inl p ↦ inl p | inr p ↦ inr (p .0, expire-session now s i (p .0) (p .1), p .2) ];
+  grows = m .grows;
+}
+  where
+    back : Leases (expire now s) c (r .answer) (r .after) → Leases s c (r .answer) (r .after)
+    back (quiet q f) = quiet q (λ k l e. expire-lease now s k l (f k l e))
+    back (grant n k p q f) = grant n k p q (λ j l e. elim (f j l e) [ inl y ↦ inl (y .0, expire-lease now s j l (y .1)) | inr y ↦ inr y ])
+
+moves-settled : (s : State) (now : ℕ) (c : Command) (o : Option ℕ) (r : Outcome) → Moves s c r → Moves s c (settled s now o r)
+unfolding settled
+moves-settled s now c (some e) r m = still s c (Answer.Refused e) [] refl
+moves-settled s now c none r m = record { leases = clocked (m .leases); places = m .places; grows = m .grows }
+  where
+    clocked : Leases s c (r .answer) (r .after) → Leases s c (r .answer) (withClock (r .after) now)
+    clocked (quiet q f) = quiet q f
+    clocked (grant n k p q f) = grant n k p q f
+
+pub moves-step : (s : State) (now : ℕ) (c : Command) (v : Value) → Moves s c (step s now c v)
+unfolding step
+moves-step s now c v = moves-settled s now c (refusal (expire now s) now c v) (effect (expire now s) now c v) (moves-expired s now c (effect (expire now s) now c v) (moves-effect (expire now s) now c v))

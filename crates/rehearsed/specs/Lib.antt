@@ -1,0 +1,2 @@
+pub mod TwoValues
+pub mod Column

@@ -1,0 +1,39 @@
+-- `end` meets its contract: the three fields stand one behind the other.
+-- Assumes nothing.
+use Rattle.replies.proofs.Lines.{end-put, number-most}
+use native.Mathlib.Omega.{arith}
+use borrow.Author.Needs.{needs}
+use Rattle.replies.specs.Text.{space}
+use Rattle.replies.proofs.end.Statement.{statement}
+use Rattle.replies.proofs.end.Tie as tie
+
+slice-aggregate-text : tie.Need-slice-aggregate-text
+slice-aggregate-text c = search needs
+
+text-requires : tie.Need-text-requires
+text-requires c κs = search needs
+
+number-requires : tie.Need-number-requires
+number-requires c κs = search needs
+
+number-requires-2 : tie.Need-number-requires-2
+number-requires-2 c κs = omega (arith, number-most (c .before .before .before .before .before .before .before .before .before .before .before .args .lines) space)
+
+same-length : tie.Need-same-length
+same-length c = search needs
+
+returns : tie.Need-returns
+returns c =
+    end-put (c .before .before .before .before .before .before .before .before .before .before .before .before .before .before .args .lines) (c .before .before .before .before .before .before .before .before .before .before .before .before .before .before .args .broken) (c .before .before .before .before .before .before .before .before .before .before .before .before .before .before .pre)
+    (c .before .before .before .before .before .before .before .before .before .before .text .ensures) (c .before .before .before .before .before .before .number .ensures) (c .before .before .number2 .ensures)
+
+pub end-spec : {M : Type 1} → statement M
+end-spec =
+    tie.close
+    (tie.spec
+    slice-aggregate-text
+    text-requires
+    number-requires
+    number-requires-2
+    same-length
+    returns)

@@ -1,0 +1,131 @@
+-- What a HIT hands out stands within the cache's bytes and has at most 64: it is the value of a key or one staged in a row of a sound state, and no
+-- other command is answered HIT. START never is.
+-- Assumes nothing.
+use Prim.Native.Nat.{ℕ, _+_, _≤_, _<_}
+use mathlib.Core.Path.{_≡_, refl}
+use mathlib.Core.Bool.{Bool, true, false}
+use mathlib.Core.List.{List}
+use mathlib.Core.Option.{Option, none, some}
+use native.Mathlib.Omega.{arith}
+use lib.Dec.{eqb}
+use lib.ListN.{length}
+use borrow.Author.Tests.{leb-false}
+use Rattle.lent.specs.Tables.{if_then_else_}
+use Rattle.machine.specs.Sizes.{stateSize, keyCount, rowCount, valueMax, valueAt, stagedAt}
+use Rattle.machine.specs.Tables.{first, mem}
+use Rattle.machine.specs.Words.{wordOf, detailOf, wordsOf}
+use Rattle.machine.specs.State.{Value, nothing, staged, DROP, Row, noRow, row, State, freeRow, rowPlace, rowOf, rowAt, cached}
+use Rattle.machine.specs.Sound.{sound}
+use Rattle.machine.specs.Expiry.{expire}
+use Rattle.machine.specs.Refusals.{Sight, cachedSight, rowSight, sight, blocked, refusals, refusal, startRefusals}
+use Rattle.machine.specs.Effects.{Outcome, leased, missed, looked, effect}
+use Rattle.machine.specs.Step.{settled, step, started, start}
+use Rattle.machine.specs.declared.Answer.{Answer}
+use Rattle.machine.specs.declared.Command.{Command}
+use Rattle.machine.specs.declared.Command.the-variants.{Begin, Get, Fill, Quar, Stage, Delta, Validate, Done, Undo, Evict, Tick}
+use Rattle.machine.proofs.Views.{clash, if-ind, no-some, some-eq}
+use Rattle.machine.proofs.Accepted.{passed}
+use Rattle.machine.proofs.KeepsSound.{expire-sound}
+use Rattle.machine.proofs.Refused.{accepted-word}
+use Rattle.machine.proofs.SoundFacts as facts
+use Rattle.layout.specs.Layout.{decode}
+use Rattle.layout.specs.WellFormed.{wellFormed}
+use Rattle.layout.proofs.Formed.{formed}
+use Rattle.startup.specs.Start.{replied, startRefusal, startOf}
+use Rattle.words.specs.Place.{placeOf}
+use Rattle.cache.specs.Run.{ran}
+
+-- n bytes at a place, within the state and no more than a value has
+pub record Within (at n : ℕ) : Type 0 where
+  pub inside : at + n ≤ stateSize
+  pub short : n ≤ valueMax
+
+-- ---- what is in sight
+
+module _ (s : State) (ok : sound s ≡ true) (k : ℕ) (l : k < keyCount) where
+  cached-within : (o : Option Value) → cached s k ≡ o → (x : Sight) → cachedSight k o ≡ some x → Within (x .at) (length (x .value))
+  cached-within none q x e = no-some x e
+  cached-within (some v) q x e =
+      let f : length v ≤ valueMax = facts.value-fine s ok k q .short in
+      rw (← some-eq (record { at = valueAt k; value = v }) x e) (record { inside = omega arith; short = f })
+
+  row-within : (i : ℕ) (r : Row) → rowAt s i ≡ r → (x : Sight) → rowSight i k r (cached s k) ≡ some x → Within (x .at) (length (x .value))
+  row-within i noRow q x e = cached-within (cached s k) refl x e
+  row-within i (row n j d nothing) q x e = go (eqb d 1) e
+    where
+      go : (t : Bool) → (if t then none else cachedSight k (cached s k)) ≡ some x → Within (x .at) (length (x .value))
+      go true f = no-some x f
+      go false f = cached-within (cached s k) refl x f
+  row-within i (row n j d (staged v)) q x e =
+      let p : i < rowCount = facts.row-place s ok i q in
+      let f : length v ≤ valueMax = facts.row-staged s ok i q .1 .short in
+      rw (← some-eq (record { at = stagedAt i; value = v }) x e) (record { inside = omega arith; short = f })
+  row-within i (row n j d DROP) q x e = no-some x e
+
+  sight-within : (n : ℕ) (x : Sight) → sight s n k ≡ some x → Within (x .at) (length (x .value))
+  unfolding sight
+  sight-within n x e = row-within (rowPlace s n k) (rowOf s n k) refl x e
+
+-- ---- a HIT
+
+abbrev HitWithin : Answer → Type 0
+HitWithin a = wordOf a ≡ 3 → Within (placeOf a) (detailOf a)
+
+looked-within : (s : State) (now n k : ℕ) → sound s ≡ true → k < keyCount → (o : Option Sight) → sight s n k ≡ o → HitWithin (looked s now n k o .answer)
+unfolding looked missed leased
+looked-within s now n k ok l (some x) q = λ w. sight-within s ok k l n x q
+looked-within s now n k ok l none q = if-ind (λ (r : Outcome). HitWithin (r .answer)) (freeRow (rowOf s n k))
+    (λ p. if-ind (λ (r : Outcome). HitWithin (r .answer)) (blocked s k) (λ b w. absurd (omega arith)) (λ b w. absurd (omega arith)))
+    (λ p w. absurd (omega arith))
+
+get-within : (s : State) (now n k : ℕ) (v : Value) → sound s ≡ true → refusal s now (Get n k) v ≡ none → HitWithin (effect s now (Get n k) v .answer)
+unfolding effect refusals
+get-within s now n k v ok e = looked-within s now n k ok (leb-false keyCount k (passed s now (Get n k) v e 1)) (sight s n k) refl
+
+-- the word of no other command
+no-hit : (s : State) (now : ℕ) (c : Command) (v : Value) → refusal (expire now s) now c v ≡ none → mem 3 (wordsOf c) ≡ false → HitWithin (step s now c v .answer)
+unfolding refusal
+no-hit s now c v e f w = clash (mem 3 (wordsOf c)) (rw w at (accepted-word s now c v e)) f
+
+refused-within : (s : State) (now : ℕ) (c : Command) (v : Value) (m : ℕ) → refusal (expire now s) now c v ≡ some m → HitWithin (step s now c v .answer)
+unfolding step settled
+refused-within s now c v m e = rw e (λ w. absurd (omega arith))
+
+module _ (s : State) (now : ℕ) (v : Value) (ok : sound s ≡ true) where
+  accepted-within : (c : Command) → refusal (expire now s) now c v ≡ none → HitWithin (step s now c v .answer)
+  unfolding step settled
+  accepted-within Begin e = no-hit s now Begin v e refl
+  accepted-within (Get n k) e = rw e (get-within (expire now s) now n k v (expire-sound s now ok) e)
+  accepted-within (Fill t k) e = no-hit s now (Fill t k) v e refl
+  accepted-within (Quar n k d) e = no-hit s now (Quar n k d) v e refl
+  accepted-within (Stage n i k) e = no-hit s now (Stage n i k) v e refl
+  accepted-within (Delta n i k o) e = no-hit s now (Delta n i k o) v e refl
+  accepted-within (Validate n m) e = no-hit s now (Validate n m) v e refl
+  accepted-within (Done n) e = no-hit s now (Done n) v e refl
+  accepted-within (Undo n) e = no-hit s now (Undo n) v e refl
+  accepted-within (Evict k) e = no-hit s now (Evict k) v e refl
+  accepted-within Tick e = no-hit s now Tick v e refl
+
+  step-within : (c : Command) → HitWithin (step s now c v .answer)
+  step-within c = go (refusal (expire now s) now c v) refl
+    where
+      go : (o : Option ℕ) → refusal (expire now s) now c v ≡ o → HitWithin (step s now c v .answer)
+      go none e = accepted-within c e
+      go (some m) e = refused-within s now c v m e
+
+pub ran-within : (x : List ℕ) (now : ℕ) (c : Command) (v : Value) → wordOf (ran x now c v .answer) ≡ 3 → Within (placeOf (ran x now c v .answer)) (detailOf (ran x now c v .answer))
+unfolding ran
+ran-within x now c v = go (wellFormed x) refl
+  where
+    go : (t : Bool) → wellFormed x ≡ t → HitWithin (ran x now c v .answer)
+    go true e = rw e (step-within (decode x) now v (formed x e .sound) c)
+    go false e = rw e (λ w. absurd (omega arith))
+
+pub start-within : (x : List ℕ) (readLife writeLife : ℕ) → wordOf (startOf x readLife writeLife .answer) ≡ 3 → Within (placeOf (startOf x readLife writeLife .answer)) (detailOf (startOf x readLife writeLife .answer))
+unfolding startOf start
+start-within x readLife writeLife = go (startRefusal x readLife writeLife) (first (startRefusals readLife writeLife))
+  where
+    go : (o p : Option ℕ) → HitWithin (replied x o (started readLife writeLife p (decode x)) .answer)
+    go none none = λ w. absurd (omega arith)
+    go none (some e) = λ w. absurd (omega arith)
+    go (some e) p = λ w. absurd (omega arith)

@@ -1,0 +1,4 @@
+pub mod Stale
+pub mod Written
+pub mod Hits
+pub mod Told

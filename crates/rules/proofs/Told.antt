@@ -1,0 +1,156 @@
+-- What the acts hand back is what is said of the line: a rule by the word at which it counts, a grant by its key, and an answer by its numbers.
+-- Assumes nothing.
+use Prim.Native.Nat.{ℕ}
+use mathlib.Core.Path.{_≡_, refl, sym, ap, _∙_}
+use mathlib.Core.Bool.{Bool, true, false, not, _&&_, _||_}
+use mathlib.Core.List.{List}
+use native.Mathlib.Omega.{arith}
+use lib.Dec.{eqb}
+use borrow.Author.Tests.{eq-eqb, ne-eqb}
+use Rattle.lent.specs.Tables.{if_then_else_, same}
+use Rattle.lent.proofs.Choices.{if-same}
+use Rattle.machine.specs.Sizes.{keyCount}
+use Rattle.machine.specs.State.{Value}
+use Rattle.machine.specs.Words.{wordOf, detailOf}
+use Rattle.machine.specs.declared.Answer.{Answer}
+use Rattle.machine.specs.declared.Command.{Command}
+use Rattle.machine.specs.declared.Command.the-variants.{Begin, Get, Fill, Quar, Stage, Delta, Validate, Done, Undo, Evict, Tick}
+use Rattle.layout.specs.WellFormed.{wellFormed}
+use Rattle.startup.specs.Start.{Reply, startOf}
+use Rattle.words.specs.Place.{placeOf}
+use Rattle.cache.specs.Run.{ran}
+use Rattle.book.specs.Book.{withStarted, registered, granted, withRegistered, withGranted}
+use Rattle.rules.specs.Rules.{writtenWord, unreadableWord, answered, begins, mayWrite, marked, writes, wroteFor, staleFor, ruleOf, noted, commands}
+use Rattle.rules.specs.Says.{toldOf, Says}
+use Rattle.rules.specs.Tests.{riskOf, watched, asksFor}
+use Rattle.rules.proofs.Hits.{Within, ran-within, start-within}
+
+-- ---- the rule broken, by the word at which it counts
+
+counts : (t u : Bool) (n : ℕ) → (if t && u then n else 0) ≡ (if t then (if u then n else 0) else 0)
+counts true u n = refl
+counts false u n = refl
+
+counts-not : (t u : Bool) (n : ℕ) → (if t && not u then n else 0) ≡ (if t then (if u then 0 else n) else 0)
+counts-not true true n = refl
+counts-not true false n = refl
+counts-not false u n = refl
+
+rule-is : (x b : List ℕ) (c : Command) (v : Value) (w : ℕ) → ruleOf x b c v w ≡ (if eqb w (watched c) then riskOf x b c v else 0)
+rule-is x b Begin v w = sym (if-same (eqb w unreadableWord) 0)
+rule-is x b (Get n k) v w = sym (if-same (eqb w unreadableWord) 0)
+rule-is x b (Fill t k) v w = counts-not (eqb w 7) (same v (registered b k) || same v (granted b k)) 1
+rule-is x b (Quar n k d) v w = sym (if-same (eqb w unreadableWord) 0)
+rule-is x b (Stage n i k) v w = sym (if-same (eqb w unreadableWord) 0)
+rule-is x b (Delta n i k o) v w = sym (if-same (eqb w unreadableWord) 0)
+rule-is x b (Validate n m) v w = sym (if-same (eqb w unreadableWord) 0)
+rule-is x b (Done n) v w = counts (eqb w 17) (staleFor x b n) 4
+rule-is x b (Undo n) v w = counts (eqb w 18) (wroteFor x b n) 3
+rule-is x b (Evict k) v w = sym (if-same (eqb w unreadableWord) 0)
+rule-is x b Tick v w = sym (if-same (eqb w unreadableWord) 0)
+
+-- no rule counts at a refusal
+unwatched : (c : Command) → eqb 0 (watched c) ≡ false
+unwatched Begin = refl
+unwatched (Get n k) = refl
+unwatched (Fill t k) = refl
+unwatched (Quar n k d) = refl
+unwatched (Stage n i k) = refl
+unwatched (Delta n i k o) = refl
+unwatched (Validate n m) = refl
+unwatched (Done n) = refl
+unwatched (Undo n) = refl
+unwatched (Evict k) = refl
+unwatched Tick = refl
+
+-- on bytes that are not well formed what would be broken does not matter
+pub rule-told : (x b : List ℕ) (now : ℕ) (c : Command) (v : Value) (risk w : ℕ) → w ≡ wordOf (ran x now c v .answer) → (wellFormed x ≡ true → risk ≡ riskOf x b c v)
+    → (if eqb w (watched c) then risk else 0) ≡ ruleOf x b c v w
+unfolding ran
+rule-told x b now c v risk w e f = go (wellFormed x) refl ∙ sym (rule-is x b c v w)
+  where
+    go : (t : Bool) → wellFormed x ≡ t → (if eqb w (watched c) then risk else 0) ≡ (if eqb w (watched c) then riskOf x b c v else 0)
+    go true q = rw (f q)
+    go false q = let z : w ≡ 0 = e ∙ rw q in rw (z, unwatched c)
+
+-- ---- a grant, by its key
+
+no-key : (b : List ℕ) (v : Value) → withGranted b keyCount v ≡ b
+unfolding withGranted
+no-key b v = refl
+
+noted-other : (b : List ℕ) (w : ℕ) → b ≡ (if eqb w 6 then withGranted b keyCount (registered b keyCount) else b)
+noted-other b w = rw (no-key b (registered b keyCount)) (sym (if-same (eqb w 6) b))
+
+noted-is : (b : List ℕ) (c : Command) (w : ℕ) → noted b c w ≡ (if eqb w 6 then withGranted b (asksFor c) (registered b (asksFor c)) else b)
+noted-is b Begin w = noted-other b w
+noted-is b (Get n k) w = refl
+noted-is b (Fill t k) w = noted-other b w
+noted-is b (Quar n k d) w = noted-other b w
+noted-is b (Stage n i k) w = noted-other b w
+noted-is b (Delta n i k o) w = noted-other b w
+noted-is b (Validate n m) w = noted-other b w
+noted-is b (Done n) w = noted-other b w
+noted-is b (Undo n) w = noted-other b w
+noted-is b (Evict k) w = noted-other b w
+noted-is b Tick w = noted-other b w
+
+pub noted-none : (b : List ℕ) (c : Command) (w : ℕ) → (w ≡ 6 → ⊥) → b ≡ noted b c w
+noted-none b c w h = rw (noted-is b c w, ne-eqb w 6 h)
+
+pub noted-grant : (b : List ℕ) (c : Command) (w k : ℕ) → w ≡ 6 → k ≡ asksFor c → withGranted b k (registered b k) ≡ noted b c w
+noted-grant b c w k h e = rw (noted-is b c w, eq-eqb w 6 h, e)
+
+-- ---- an answer by its numbers
+
+says : (r : Reply) (rule : ℕ) (b : List ℕ) → (wordOf (r .answer) ≡ 3 → Within (placeOf (r .answer)) (detailOf (r .answer))) → Says (answered r rule b) (placeOf (r .answer)) (toldOf (r .answer) rule) (r .bytes) b
+says r rule b h = record {
+  word = refl;
+  detail = refl;
+  place = refl;
+  rule = refl;
+  cache = refl;
+  book = refl;
+  value = λ e. rw (eq-eqb (wordOf (r .answer)) 3 e);
+  inside = λ e. h e .inside;
+  short = λ e. h e .short;
+}
+
+module _ (x b : List ℕ) (readLife writeLife : ℕ) (a : Answer) (x′ : List ℕ) (e : a ≡ startOf x readLife writeLife .answer) (f : x′ ≡ startOf x readLife writeLife .bytes) where
+  abbrev Started : List ℕ → Type 0
+  Started b′ = Says (begins x b readLife writeLife) (placeOf (startOf x readLife writeLife .answer)) (toldOf a 0) x′ b′
+
+  begin-says : (b′ : List ℕ) → b′ ≡ (if eqb (wordOf a) 1 then withStarted b else b) → Started b′
+  unfolding begins
+  begin-says b′ g = rw (g, f, e) (says (startOf x readLife writeLife) 0 (if eqb (wordOf (startOf x readLife writeLife .answer)) 1 then withStarted b else b) (start-within x readLife writeLife))
+
+  pub begin-refused : (wordOf a ≡ 1 → ⊥) → Started b
+  begin-refused h = begin-says b (rw (ne-eqb (wordOf a) 1 h))
+
+  pub begin-ready : wordOf a ≡ 1 → (b′ : List ℕ) → b′ ≡ withStarted b → Started b′
+  begin-ready h b′ g = begin-says b′ (g ∙ rw (eq-eqb (wordOf a) 1 h))
+
+pub write-says : (x b : List ℕ) (n k : ℕ) (v : Value) (rule : ℕ) (b₁ b′ : List ℕ) → rule ≡ (if mayWrite x n k then 0 else 2) → b₁ ≡ marked x b n → b′ ≡ withRegistered b₁ k v
+    → Says (writes x b n k v) 0 (record { word = writtenWord; detail = 0; at = 0; rule = rule }) x b′
+unfolding writes
+write-says x b n k v rule b₁ b′ e f g = record {
+  word = refl;
+  detail = refl;
+  place = refl;
+  rule = e;
+  cache = refl;
+  book = g ∙ ap (λ (y : List ℕ). withRegistered y k v) f;
+  value = λ w. absurd (omega arith);
+  inside = λ w. absurd (omega arith);
+  short = λ w. absurd (omega arith);
+}
+
+pub command-says : (x b : List ℕ) (now : ℕ) (c : Command) (v : Value) (a : Answer) (x′ b′ : List ℕ) (risk w rule : ℕ)
+    → (wellFormed x ≡ true → risk ≡ riskOf x b c v) → (a ≡ ran x now c v .answer) × (x′ ≡ ran x now c v .bytes) → w ≡ wordOf a → b′ ≡ noted b c w → rule ≡ (if eqb w (watched c) then risk else 0)
+    → Says (commands x b now c v) (placeOf (ran x now c v .answer)) (toldOf a rule) x′ b′
+unfolding commands
+command-says x b now c v a x′ b′ risk w rule f e g h q =
+    let p : w ≡ wordOf (ran x now c v .answer) = g ∙ ap wordOf (e .0) in
+    let r : rule ≡ ruleOf x b c v (wordOf (ran x now c v .answer)) = q ∙ rule-told x b now c v risk w p f ∙ ap (ruleOf x b c v) p in
+    let k : b′ ≡ noted b c (wordOf (ran x now c v .answer)) = h ∙ ap (noted b c) p in
+    rw (r, k, e .1, e .0) (says (ran x now c v) (ruleOf x b c v (wordOf (ran x now c v .answer))) (noted b c (wordOf (ran x now c v .answer))) (ran-within x now c v))

@@ -1,0 +1,52 @@
+-- The answer is START's, and READY is noted in the book.
+-- Assumes nothing.
+use mathlib.Core.Path.{sym, _∙_}
+use Rattle.rules.proofs.Told.{begin-refused, begin-ready}
+use borrow.Author.Needs.{needs}
+use Rattle.rules.proofs.begin.Statement.{statement}
+use Rattle.rules.proofs.begin.Tie as tie
+
+start-requires : tie.Need-start-requires
+start-requires c κs = search needs
+
+word-requires : tie.Need-word-requires
+word-requires c κs = search needs
+
+tell-requires : tie.Need-tell-requires
+tell-requires c κs = search needs
+
+same-length : tie.Need-same-length
+same-length c = search needs
+
+returns : tie.Need-returns
+returns c = rw (c .tell .ensures) (begin-refused _ _ _ _ _ _ (c .before .before .before .before .before .start .ensures .0) (c .before .before .before .before .before .start .ensures .1) (λ q. c .before .if1 .taken (c .before .before .word .ensures ∙ q)))
+
+set-started-requires : tie.Need-set-started-requires
+set-started-requires c κs = search needs
+
+tell-requires-2 : tie.Need-tell-requires-2
+tell-requires-2 c κs = search needs
+
+same-length-2 : tie.Need-same-length-2
+same-length-2 c = search needs
+
+same-length-3 : tie.Need-same-length-3
+same-length-3 c = search needs
+
+returns-2 : tie.Need-returns-2
+returns-2 c = rw (c .tell2 .ensures) (begin-ready _ _ _ _ _ _ (c .before .before .before .before .before .before .before .before .before .start .ensures .0) (c .before .before .before .before .before .before .before .before .before .start .ensures .1) (sym (c .before .before .before .before .before .before .word .ensures) ∙ c .before .before .before .before .before .if1 .left) _ (c .before .before .before .set-started .ensures))
+
+pub begin-spec : {M : Type 1} → statement M
+begin-spec =
+    tie.close
+    (tie.spec
+    start-requires
+    word-requires
+    tell-requires
+    same-length
+    returns
+    set-started-requires
+    tell-requires-2
+    same-length-2
+    same-length-3
+    returns-2)

@@ -1,0 +1,26 @@
+-- Only a LEASE is noted, on the key that the command asks for.
+-- Assumes nothing.
+use mathlib.Core.Path.{_∙_}
+use Rattle.rules.proofs.Told.{noted-none, noted-grant}
+use borrow.Author.Needs.{needs}
+use Rattle.rules.proofs.note_grant.Statement.{statement}
+use Rattle.rules.proofs.note_grant.Tie as tie
+
+returns : tie.Need-returns
+returns c = noted-none (c .before .before .args .book .now) (c .before .before .args .command) (c .before .before .args .word) (c .if1 .taken)
+
+asks-for-requires : tie.Need-asks-for-requires
+asks-for-requires c κs = search needs
+
+grant-requires : tie.Need-grant-requires
+grant-requires c κs = search needs
+
+same-length : tie.Need-same-length
+same-length c = search needs
+
+returns-2 : tie.Need-returns-2
+returns-2 c = c .before .before .grant .ensures ∙ noted-grant (c .before .before .before .before .before .before .before .args .book .now) (c .before .before .before .before .before .before .before .args .command) (c .before .before .before .before .before .before .before .args .word) _ (c .before .before .before .before .before .if1 .left) (c .before .before .before .asks-for .ensures)
+
+pub note-grant-spec : {M : Type 1} → statement M
+note-grant-spec =
+    tie.close (tie.spec returns asks-for-requires grant-requires same-length returns-2)
