@@ -1,0 +1,5 @@
+pub mod Prints
+pub mod Library
+pub mod Steps
+pub mod Stretches
+pub mod Whole

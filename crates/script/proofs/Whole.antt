@@ -1,0 +1,43 @@
+-- However an input is cut into chunks, the texts of the chunks and of the end are, one behind the other, those of its rehearsal.
+-- Assumes nothing.
+use mathlib.Core.Path.{_≡_, refl, sym, ap, _∙_}
+use mathlib.Core.List.{List, [], _∷_, _++_, append-assoc}
+use Prim.Native.Nat.{ℕ}
+use Rattle.feed.specs.Lines.{handed}
+use Rattle.feed.specs.Answers.{Said, Open, behind, answers, fed, last}
+use Rattle.feed.proofs.Cut.{fed-none, fed-append, whole-lines}
+use Rattle.script.specs.World.{World, answerLine, endLine, closed, ended, rehearsed}
+
+-- nothing has been read
+abbrev pub unread : World → Open World
+unread w = record { world = w; held = [] }
+
+-- all of an input at once, and then its end
+pub fed-ended : (w : World) (input : List ℕ)
+    → let f = fed answerLine (unread w) input in behind (f .text) (ended (f .world .world) (f .world .held)) ≡ rehearsed w input
+unfolding ended rehearsed
+fed-ended w input =
+    let f = fed answerLine (unread w) input in
+    let l = last answerLine (f .world .world) (f .world .held) in
+    let a : behind (f .text) (closed l) ≡ closed (behind (f .text) l) =
+    ap (λ (t : List ℕ). record { world = l .world; text = t }) (sym (append-assoc (f .text) (l .text) (endLine (l .world)))) in
+    a ∙ ap closed (whole-lines answerLine w input)
+
+-- chunks in turn
+abbrev joined : List (List ℕ) → List ℕ
+joined [] = []
+joined (c ∷ cs) = c ++ joined cs
+
+unfoldable pub chunks : Open World → List (List ℕ) → Said (Open World)
+chunks o [] = record { world = o; text = [] }
+chunks o (c ∷ cs) = let s = fed answerLine o c in behind (s .text) (chunks (s .world) cs)
+
+chunks-joined : (o : Open World) (cs : List (List ℕ)) → chunks o cs ≡ fed answerLine o (joined cs)
+unfolding chunks
+chunks-joined o [] = sym (fed-none answerLine o)
+chunks-joined o (c ∷ cs) =
+    ap (behind (fed answerLine o c .text)) (chunks-joined (fed answerLine o c .world) cs) ∙ sym (fed-append answerLine o c (joined cs))
+
+pub chunks-ended : (w : World) (cs : List (List ℕ))
+    → let f = chunks (unread w) cs in behind (f .text) (ended (f .world .world) (f .world .held)) ≡ rehearsed w (joined cs)
+chunks-ended w cs = rw (chunks-joined (unread w) cs) (fed-ended w (joined cs))

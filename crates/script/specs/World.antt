@@ -1,0 +1,39 @@
+-- A rehearsal of an input, by the library's definitions of a line and of the end.
+use Prim.Native.Nat.{ℕ}
+use mathlib.Core.List.{List, [], _++_}
+use lib.Dec.{eqb}
+use lib.ListN.{length}
+use Rattle.lent.specs.Tables.{if_then_else_}
+use Rattle.feed.specs.Lines.{handed}
+use Rattle.feed.specs.Answers.{Said, answers, last}
+use Rattle.book.specs.Book.{bookSize, linesIn, brokenIn}
+use Rattle.replies.specs.Replies as replies
+use Rattle.rehearsal.specs.Rehearsal.{Turn, turn}
+
+-- what a line changes: the cache's bytes and the book's
+pub record World : Type 0 where
+  pub cache : List ℕ
+  pub book : List ℕ
+
+abbrev pub turned : Turn → Said World
+turned t = record { world = record { cache = t .cache; book = t .book }; text = t .text }
+
+-- a line and its output line; where the book has not its size nothing is said
+unfoldable pub answerLine : World → List ℕ → Said World
+answerLine w l = if eqb (length (w .book)) bookSize then turned (turn (w .cache) (w .book) l) else record { world = w; text = [] }
+
+-- the end line
+unfoldable pub endLine : World → List ℕ
+endLine w = if eqb (length (w .book)) bookSize then replies.ended (linesIn (w .book)) (brokenIn (w .book)) else []
+
+-- the end line behind what was said last
+abbrev pub closed : Said World → Said World
+closed s = record { world = s .world; text = s .text ++ endLine (s .world) }
+
+-- the end of the input, where the bytes `held` came since the last newline
+unfoldable pub ended : World → List ℕ → Said World
+ended w held = closed (last answerLine w held)
+
+-- a whole input: an output line for each of its lines, and the end line
+unfoldable pub rehearsed : World → List ℕ → Said World
+rehearsed w input = closed (answers answerLine w (handed input))

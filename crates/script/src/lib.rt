@@ -1,0 +1,115 @@
+// The input of a rehearsal as it comes: its bytes are answered into an output buffer.
+ghost use Prim.Native.Nat.{_+_, _≤_};
+ghost use lib.ListN.{length, take};
+ghost use Rattle.feed.specs.Answers.{byte};
+ghost use Rattle.script.specs.World.{answerLine, endLine, ended};
+ghost use Rattle.script.specs.Buffers.{textMax, worldOf, opened, Holds, Printed, Says, Stretched};
+use feed::Taken;
+
+// Room that an output line or the end line asks for.
+const TEXT_MAX: usize = 256;
+
+// How many bytes of a line are held, and how many of the output are put.
+struct Place {
+    held: usize,
+    put: usize,
+}
+
+// The same, with the place of the chunk's next byte.
+pub struct Reached {
+    pub from: usize,
+    pub held: usize,
+    pub put: usize,
+}
+
+// Answers a line into `out` at `put`; the place behind the answer.
+fn answer(cache: &mut [u8], book: &mut [u8], line: &[u8], out: &mut [u8], put: usize) -> usize
+    requires { ⌜ put + textMax ≤ length (now out) ⌝ }
+    ensures { λ r. ⌜ Says (answerLine (worldOf (now (cache .entry)) (now (book .entry))) (now (line .entry))) (worldOf (now (cache .exit)) (now (book .exit))) (now (out .entry)) put (now (out .exit)) r ⌝ }
+    ensures { λ r. ⌜ r ≤ put + textMax ⌝ }
+{
+    let until = put + TEXT_MAX;
+    let n = rehearsal::line(cache, book, line, &mut out[put..until]);
+    put + n
+}
+
+// The end line into `out` at `put`; the place behind it.
+fn end(cache: &[u8], book: &[u8], out: &mut [u8], put: usize) -> usize
+    requires { ⌜ put + textMax ≤ length (now out) ⌝ }
+    ensures { λ r. ⌜ Printed (endLine (worldOf (now (cache .entry)) (now (book .entry)))) (now (out .entry)) put (now (out .exit)) r ⌝ }
+{
+    let until = put + TEXT_MAX;
+    let n = rehearsal::end(book, &mut out[put..until]);
+    put + n
+}
+
+// Takes a byte; where it ends a line, answers that line.
+fn step(
+    cache: &mut [u8],
+    book: &mut [u8],
+    line: &mut [u8],
+    b: u8,
+    out: &mut [u8],
+    at: Place,
+) -> Place
+    requires { ⌜ (at .put + textMax ≤ length (now out)) × Holds (now line) (at .held) ⌝ }
+    ensures { λ r. ⌜ Says (byte answerLine (opened (now (cache .entry)) (now (book .entry)) (now (line .entry)) (at .held)) b) (opened (now (cache .exit)) (now (book .exit)) (now (line .exit)) (r .held)) (now (out .entry)) (at .put) (now (out .exit)) (r .put) ⌝ }
+    ensures { λ r. ⌜ Holds (now (line .exit)) (r .held) ⌝ }
+{
+    let put = at.put;
+    let taken = feed::push(line, at.held, b);
+    match taken {
+        Taken::Held(n) => Place { held: n, put },
+        Taken::Line(n) => {
+            let next = answer(cache, book, &line[..n], out, put);
+            Place { held: 0, put: next }
+        }
+    }
+}
+
+// Takes bytes of the chunk from `from` on, while there is room for an answer.
+pub fn stretch(
+    cache: &mut [u8],
+    book: &mut [u8],
+    line: &mut [u8],
+    held: usize,
+    chunk: &[u8],
+    from: usize,
+    out: &mut [u8],
+) -> Reached
+    requires { ⌜ (from ≤ length (now chunk)) × Holds (now line) held ⌝ }
+    ensures { λ r. ⌜ Stretched (opened (now (cache .entry)) (now (book .entry)) (now (line .entry)) held) (now (chunk .entry)) from (r .from) (opened (now (cache .exit)) (now (book .exit)) (now (line .exit)) (r .held)) (now (out .entry)) (now (out .exit)) (r .put) ⌝ }
+    ensures { λ r. ⌜ Holds (now (line .exit)) (r .held) ⌝ }
+{
+    let mut at = Place { held, put: 0 };
+    let mut i = from;
+    while i < chunk.len() {
+        let put = at.put;
+        if out.len() - put < TEXT_MAX {
+            return Reached {
+                from: i,
+                held: at.held,
+                put,
+            };
+        }
+        at = step(cache, book, line, chunk[i], out, at);
+        i += 1;
+    }
+    Reached {
+        from: i,
+        held: at.held,
+        put: at.put,
+    }
+}
+
+// The end of the input: an unended last line is answered, and the end line follows.
+pub fn finish(cache: &mut [u8], book: &mut [u8], line: &[u8], held: usize, out: &mut [u8]) -> usize
+    requires { ⌜ (textMax + textMax ≤ length (now out)) × Holds (now line) held ⌝ }
+    ensures { λ r. ⌜ Says (ended (worldOf (now (cache .entry)) (now (book .entry))) (take held (now (line .entry)))) (worldOf (now (cache .exit)) (now (book .exit))) (now (out .entry)) 0 (now (out .exit)) r ⌝ }
+{
+    if held == 0 {
+        return end(cache, book, out, 0);
+    }
+    let put = answer(cache, book, &line[..held], out, 0);
+    end(cache, book, out, put)
+}
