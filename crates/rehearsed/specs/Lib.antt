@@ -1,2 +1,3 @@
 pub mod TwoValues
 pub mod Column
+pub mod Text
