@@ -1,6 +1,6 @@
 -- Stretches that are all 0: two in step, one byte of each at a turn; and one that two shorter ones cover, whose common bytes count once.
 -- Assumes nothing.
-use Prim.Native.Nat.{ℕ, _+_, _-_, _≤_, _<_}
+use Prim.Native.Nat.{ℕ, suc, _+_, _-_, _≤_, _<_}
 use mathlib.Core.Path.{_≡_, refl, sym, ap, _∙_}
 use mathlib.Core.Bool.{Bool, true, false, _&&_, and-true, and-false, and-assoc}
 use mathlib.Core.List.{List}
@@ -12,7 +12,7 @@ use Rattle.lent.specs.Bytes.{le32, le64, win}
 use Rattle.lent.specs.Tables.{allZero}
 use Rattle.lent.proofs.Choices.{and-swap}
 use Rattle.lent.proofs.Numbers.{zero-le32, zero-le64}
-use Rattle.lent.proofs.Splice.{win-add, win-more, win-whole}
+use Rattle.lent.proofs.Splice.{win-add, win-cons, win-more, win-whole}
 use Rattle.lent.proofs.Zeros.{zero-append, eqb-or}
 use Rattle.machine.specs.Sizes.{sessionWidth}
 
@@ -53,3 +53,8 @@ zero-ends32 s a n h k l = rw (← zero-le32 s a (omega arith), ← zero-le32 s (
 -- the 16 bytes of a session
 pub session-free : (x : List ℕ) → length x ≡ sessionWidth → allZero x ≡ eqb (le64 x 0) 0 && eqb (le64 x 8) 0
 session-free x h = ap allZero (sym (win-whole x sessionWidth h)) ∙ sym (zero-ends64 x 0 sessionWidth (omega arith) (omega arith) (omega arith))
+
+-- the first of some bytes, and the rest
+pub zero-first : (s : List ℕ) (a n : ℕ) → a < length s → allZero (win s a (suc n)) ≡ eqb (getD s a 0) 0 && allZero (win s (a + 1) n)
+unfolding allZero
+zero-first s a n h = rw (win-cons s a n h)

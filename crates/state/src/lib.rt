@@ -3,8 +3,9 @@ ghost use mathlib.Core.Path.{_≡_};
 ghost use mathlib.Core.Bool.{_&&_};
 ghost use Prim.Native.Nat.{_+_, _≤_};
 ghost use lib.ListN.{length};
+ghost use lib.Dec.{eqb};
 ghost use Rattle.lent.specs.Bytes.{le64, le32, win};
-ghost use Rattle.lent.specs.Tables.{allZero};
+ghost use Rattle.lent.specs.Tables.{if_then_else_, allZero};
 ghost use Rattle.machine.specs.Sizes.{stateSize, keyWidth, rowWidth, sessionWidth, valueMax, timeMax};
 ghost use Rattle.machine.specs.Sound.{lifetime};
 ghost use Rattle.layout.specs.WellFormed.{wellFormed};
@@ -14,9 +15,6 @@ ghost use Rattle.state.specs.Forms.{headFormed, fitted, valueFormed, lea
 const HEAD_USED: usize = 24;
 
 const HEAD_UNUSED: usize = layout::KEYS_FROM - HEAD_USED;
-
-// The bytes of a row that stages no value, from its length on.
-const ROW_UNUSED: usize = layout::ROW_WIDTH - layout::ROW_LENGTH;
 
 // Behind the tables, to the end of the buffer.
 const REST_FROM: usize = layout::SESSIONS_FROM + layout::SESSION_COUNT * layout::SESSION_WIDTH;
@@ -156,6 +154,27 @@ fn key_formed(r: &[u8], limit: u64, next: u32) -> bool
     lease_formed(r, limit, next)
 }
 
+// No value in a row: length and bytes are 0.
+fn is_plain(r: &[u8]) -> bool
+    requires { ⌜ length (now r) ≡ rowWidth ⌝ }
+    ensures { λ b. ⌜ b ≡ allZero (win (now (r .entry)) 7 65) ⌝ }
+{
+    if r[layout::ROW_LENGTH] != 0 {
+        return false;
+    }
+    lent::is_zero(r, layout::ROW_VALUE, layout::VALUE_MAX)
+}
+
+// Whether a row of this kind may have the mark of a row without a value: nothing, or DROP.
+fn is_marked(mark: u8, kind: u8) -> bool
+    ensures { λ b. ⌜ b ≡ (if eqb mark 2 then eqb kind 3 else eqb mark 0) ⌝ }
+{
+    if mark == 2 {
+        return kind == 3;
+    }
+    mark == 0
+}
+
 fn staged_formed(r: &[u8], kind: u8) -> bool
     requires { ⌜ length (now r) ≡ rowWidth ⌝ }
     ensures { λ b. ⌜ b ≡ stagedFormed kind (now (r .entry)) ⌝ }
@@ -167,16 +186,10 @@ fn staged_formed(r: &[u8], kind: u8) -> bool
         }
         return is_fitted(r, layout::ROW_VALUE, lent::index(r[layout::ROW_LENGTH]));
     }
-    if mark == 2 {
-        if kind != 3 {
-            return false;
-        }
-        return lent::is_zero(r, layout::ROW_LENGTH, ROW_UNUSED);
-    }
-    if mark != 0 {
+    if !is_marked(mark, kind) {
         return false;
     }
-    lent::is_zero(r, layout::ROW_LENGTH, ROW_UNUSED)
+    is_plain(r)
 }
 
 fn row_formed(r: &[u8]) -> bool
@@ -304,14 +317,6 @@ fn records_join(s: &[u8]) -> bool
     requires { ⌜ length (now s) ≡ stateSize ⌝ }
     ensures { λ r. ⌜ r ≡ recordsJoin (now (s .entry)) ⌝ }
 {
-    if !joins::distinct(
-        s,
-        layout::SESSIONS_FROM,
-        layout::SESSION_WIDTH,
-        layout::SESSION_COUNT,
-    ) {
-        return false;
-    }
     if !joins::distinct(s, TOKENS_FROM, layout::KEY_WIDTH, layout::KEY_COUNT) {
         return false;
     }
