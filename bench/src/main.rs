@@ -70,7 +70,7 @@ fn main() {
         _ => None,
     };
     if done.is_none() {
-        eprintln!("bench times | bench call plain|proved|second fresh|light|full|colliding|one-slot TIMES");
+        eprintln!("bench times | bench call plain|proved|second fresh|light|full|colliding|one-slot|crowded TIMES");
         std::process::exit(2);
     }
 }

@@ -7,6 +7,7 @@ use mathlib.Core.Bool.{Bool, true, false, not}
 use mathlib.Core.Logic.{_⊎_, ⊎-elim, inl, inr}
 use mathlib.Core.List.{List}
 use Prim.Native.Nat.{ℕ, _+_, _-_, _≤_, _<_}
+use native.Mathlib.Numerals.{add-one}
 use native.Mathlib.Omega.{arith}
 use lib.ListN.{length, set, length-set, length-replicate, replicate}
 use lib.Seq.{getD-set-same, getD-set-other}
@@ -16,7 +17,7 @@ use Rattle.lent.specs.Tables.{every}
 use Rattle.lent.proofs.Choices.{clash}
 use Rattle.lent.proofs.Walks.{all-every, every-fails}
 use Rattle.machine.specs.Sound.{newAt}
-use Rattle.joins.specs.Joins.{item, seatCount, tries, seatOf, Small, Passed, Sought, stop, full, Seated}
+use Rattle.joins.specs.Joins.{item, seatCount, tries, spun, spread, seatBy, seatOf, Small, Passed, Sought, stop, full, Seated}
 use Rattle.joins.proofs.Numbers.{last-or, same-or, item-zeros, new-zero, new-used}
 
 pub seated-none : (nums : List ℕ) → Seated nums 0 (replicate seatCount 0)
@@ -29,6 +30,15 @@ pub small-more : {m n : ℕ} {seats : List ℕ} → m ≤ n → Small m seats �
 small-more h y = record { long = y .long; low = λ k. omega (arith, y .low k) }
 
 -- ---- a search
+
+pub spread-more : (n t x : ℕ) → x ≡ spread n t → spun x ≡ spread n (t + 1)
+unfolding spread
+spread-more n t x e = rw (add-one t) (ap spun e)
+
+-- the first seat
+pub seat-first : (n h : ℕ) → h ≡ seatBy n n → h ≡ seatOf n 0
+unfolding spread
+seat-first n h e = e
 
 module _ (nums seats : List ℕ) (n : ℕ) where
   pub passed-more : (t q : ℕ) → Passed nums seats n t → q ≡ item seats (seatOf n t) → (q ≡ 0 → ⊥) → (item nums (q - 1) ≡ n → ⊥) → Passed nums seats n (t + 1)

@@ -77,15 +77,23 @@ seatCount = 1024
 
 -- how many seats a number tries
 abbrev pub tries : ℕ
-tries = 8
+tries = 16
 
 -- the 32 low bits of the product with 2^32 over the golden ratio
-abbrev pub spread : ℕ → ℕ
-spread n = n * 2654435769 % 4294967296
+unfoldable pub spun : ℕ → ℕ
+spun x = x * 2654435769 % 4294967296
 
--- the seat that n tries at turn t: by its low bits, and from there on by bits of the product
-unfoldable pub seatOf : ℕ → ℕ → ℕ
-seatOf n t = (n + t * (spread n / 4194304) + t * t * (spread n / 4096 % 1024)) % 1024
+-- n spun t times
+unfoldable pub spread : ℕ → ℕ → ℕ
+spread n zero = n
+spread n (suc t) = spun (spread n t)
+
+-- the seat of n by the ten high bits of x, and the one that it tries at turn t
+unfoldable pub seatBy : ℕ → ℕ → ℕ
+seatBy n x = (n + x / 4194304) % 1024
+
+abbrev pub seatOf : ℕ → ℕ → ℕ
+seatOf n t = seatBy n (spread n t)
 
 -- the seats have places below m
 pub record Small (m : ℕ) (seats : List ℕ) : Type 0 where
