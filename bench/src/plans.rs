@@ -38,7 +38,7 @@ fn spaced(place: u64, apart: u64) -> u64 {
 /// The seats that the proved check tries for a number, in their order.
 fn seats(number: u32) -> impl Iterator<Item = usize> {
     let spun = std::iter::successors(Some(number), |bits| Some(bits.wrapping_mul(2_654_435_769)));
-    spun.take(16).map(move |bits| (number as usize + (bits >> 22) as usize) % 1024)
+    std::iter::once(number as usize % 1024).chain(spun.skip(1).take(15).map(|bits| (bits >> 22) as usize))
 }
 
 /// Numbers that meet in the proved check's seats: each finds more of its seats taken by those before it than any other of many.

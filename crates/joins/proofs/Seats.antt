@@ -6,7 +6,7 @@ use mathlib.Core.Path.{_≡_, refl, sym, ap, _∙_}
 use mathlib.Core.Bool.{Bool, true, false, not}
 use mathlib.Core.Logic.{_⊎_, ⊎-elim, inl, inr}
 use mathlib.Core.List.{List}
-use Prim.Native.Nat.{ℕ, _+_, _-_, _≤_, _<_}
+use Prim.Native.Nat.{ℕ, zero, suc, _+_, _-_, _≤_, _<_}
 use native.Mathlib.Numerals.{add-one}
 use native.Mathlib.Omega.{arith}
 use lib.ListN.{length, set, length-set, length-replicate, replicate}
@@ -35,10 +35,11 @@ pub spread-more : (n t x : ℕ) → x ≡ spread n t → spun x ≡ spread n (t 
 unfolding spread
 spread-more n t x e = rw (add-one t) (ap spun e)
 
--- the first seat
-pub seat-first : (n h : ℕ) → h ≡ seatBy n n → h ≡ seatOf n 0
-unfolding spread
-seat-first n h e = e
+-- a seat from the second on
+pub seat-later : (n t x h : ℕ) → 1 ≤ t → x ≡ spread n t → h ≡ seatBy x → h ≡ seatOf n t
+unfolding seatOf
+seat-later n zero x h l e q = absurd (omega arith)
+seat-later n (suc t) x h l e q = q ∙ ap seatBy e
 
 module _ (nums seats : List ℕ) (n : ℕ) where
   pub passed-more : (t q : ℕ) → Passed nums seats n t → q ≡ item seats (seatOf n t) → (q ≡ 0 → ⊥) → (item nums (q - 1) ≡ n → ⊥) → Passed nums seats n (t + 1)

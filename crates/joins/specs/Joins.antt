@@ -88,12 +88,14 @@ unfoldable pub spread : ℕ → ℕ → ℕ
 spread n zero = n
 spread n (suc t) = spun (spread n t)
 
--- the seat of n by the ten high bits of x, and the one that it tries at turn t
-unfoldable pub seatBy : ℕ → ℕ → ℕ
-seatBy n x = (n + x / 4194304) % 1024
+-- the seat of the ten high bits of x
+unfoldable pub seatBy : ℕ → ℕ
+seatBy x = x / 4194304 % 1024
 
-abbrev pub seatOf : ℕ → ℕ → ℕ
-seatOf n t = seatBy n (spread n t)
+-- the seat that n tries at turn t: that of its low bits, and then those of n spun
+unfoldable pub seatOf : ℕ → ℕ → ℕ
+seatOf n zero = n % 1024
+seatOf n (suc t) = seatBy (spread n (suc t))
 
 -- the seats have places below m
 pub record Small (m : ℕ) (seats : List ℕ) : Type 0 where

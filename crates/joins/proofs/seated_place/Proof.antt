@@ -12,7 +12,7 @@ use Rattle.joins.proofs.seated_place.Statement.{statement}
 use Rattle.joins.proofs.seated_place.Tie as tie
 
 seek-requires : tie.Need-seek-requires
-seek-requires c κs = small-more (omega arith) (c .pre .1)
+seek-requires c κs = (small-more (omega arith) (c .pre .1 .0), c .pre .1 .1)
 
 find-requires : tie.Need-find-requires
 find-requires c κs = search needs
@@ -37,7 +37,7 @@ returns-2 c = search needs
 
 returns-3 : tie.Need-returns-3
 returns-3 c = let q : ℕ = c .before .widen .result in
-    let low : q ≤ sessionCount = omega (arith, c .before .before .before .before .before .pre .1 .low (c .before .before .before .before .seek .result)) in
+    let low : q ≤ sessionCount = omega (arith, c .before .before .before .before .before .pre .1 .0 .low (c .before .before .before .before .seek .result)) in
     let own : item (c .before .before .before .before .before .args .nums .now) (q - 1) ≡ c .before .before .before .before .before .args .n = ap (λ (v : ℕ). item (c .before .before .before .before .before .args .nums .now) (v - 1)) (c .before .widen .ensures) ∙ stop-own _ _ _ (c .before .before .before .before .seek .ensures) (c .before .before .before .if1 .left) (λ z. c .if2 .left (c .before .widen .ensures ∙ z)) in
     let o : q ≡ q - 1 + 1 = omega arith in
     (o ∙ first-at (c .before .before .before .before .before .args .nums .now) (c .before .before .before .before .before .args .n) (c .before .before .before .before .before .pre .0) (omega arith) own, low)
