@@ -20,15 +20,19 @@ pub const CLOCK: u64 = 500;
 const LEASES_END: u64 = 900;
 pub const SESSIONS_END: u64 = 5_000;
 
-/// Multiples of this, modulo 2^32, are the numbers that share one slot of the proved check's marks.
+/// The golden factor's inverse over 2^32: multiples of this have small products with the factor, whose high bits are alike.
 const ONE_SLOT: u64 = 340_573_321;
 
-pub const PLANS: [Plan; 5] = [
+/// Numbers that are not spaced but chosen to crowd the proved check's seats.
+const CROWDED: u64 = 0;
+
+pub const PLANS: [Plan; 6] = [
     Plan { name: "fresh", sessions: 0, rows: 0, values: 0, leases: 0, apart: 1 },
     Plan { name: "light", sessions: 10, rows: 20, values: 100, leases: 10, apart: 1 },
     Plan { name: "full", sessions: 128, rows: 384, values: 256, leases: 253, apart: 1 },
     Plan { name: "colliding", sessions: 128, rows: 384, values: 256, leases: 253, apart: 1 << 24 },
     Plan { name: "one-slot", sessions: 128, rows: 384, values: 256, leases: 253, apart: ONE_SLOT },
+    Plan { name: "crowded", sessions: 128, rows: 384, values: 256, leases: 253, apart: CROWDED },
 ];
 
 /// The number of a place.
@@ -41,6 +45,32 @@ pub fn named(name: &str) -> Option<&'static Plan> {
     PLANS.iter().find(|plan| plan.name == name)
 }
 
+/// The seats that the proved check tries for a number, in their order.
+fn seats(number: u32) -> impl Iterator<Item = usize> {
+    let spun = std::iter::successors(Some(number), |bits| Some(bits.wrapping_mul(2_654_435_769)));
+    std::iter::once(number as usize % 1024).chain(spun.skip(1).take(15).map(|bits| (bits >> 22) as usize))
+}
+
+/// Numbers that meet in the proved check's seats: each finds more of its seats taken by those before it than any other of many.
+fn crowd() -> Vec<u64> {
+    let mut taken = [false; 1024];
+    let mut numbers = Vec::new();
+    let mut next = 1u32;
+    for _ in 0..KEYS {
+        let some = (0..1 << 13).map(|_| {
+            next = next.wrapping_mul(1_664_525).wrapping_add(1_013_904_223);
+            next
+        });
+        let met = |number: &u32| seats(*number).take_while(|seat| taken[*seat]).count();
+        let worst = some.filter(|number| *number != u32::MAX).max_by_key(met).unwrap_or(1);
+        if let Some(free) = seats(worst).find(|seat| !taken[*seat]) {
+            taken[free] = true;
+        }
+        numbers.push(u64::from(worst));
+    }
+    numbers
+}
+
 /// A well-formed state of the plan.
 pub fn state(plan: &Plan) -> Vec<u8> {
     encode(&tables(plan))
@@ -49,24 +79,29 @@ pub fn state(plan: &Plan) -> Vec<u8> {
 /// The tables of the plan; its first keys have the rows, its last the leases.
 pub fn tables(plan: &Plan) -> Tables {
     let held_keys = if plan.rows > 128 { 3 } else { plan.rows };
+    let crowd = if plan.apart == CROWDED { crowd() } else { Vec::new() };
+    let number = |place: u64, apart: u64| match plan.apart {
+        CROWDED => crowd[place as usize],
+        _ => spaced(place, apart),
+    };
     let keys = (0..KEYS as u64).map(|key| {
         let spread = key * 151 % KEYS as u64;
         let value = (spread < plan.values)
             .then(|| Value::of(&[b'v'; 64][..(spread * 37 % 65) as usize]).unwrap_or(Value::EMPTY));
         let lease = (key >= KEYS as u64 - plan.leases && key >= held_keys)
-            .then_some(Lease { token: spaced(key, if plan.apart == 1 << 24 { 1 << 23 } else { plan.apart }), deadline: LEASES_END });
+            .then(|| Lease { token: number(key - held_keys, if plan.apart == 1 << 24 { 1 << 23 } else { plan.apart }), deadline: LEASES_END });
         KeyRecord { value, lease }
     });
     let sessions = (0..SESSIONS as u64).map(|place| {
-        (place < plan.sessions).then_some(SessionRecord {
-            number: spaced(place, plan.apart),
+        (place < plan.sessions).then(|| SessionRecord {
+            number: number(place, plan.apart),
             standing: Standing::Open { deadline: SESSIONS_END },
             count: place,
         })
     });
     let rows = (0..ROWS as u64).map(|place| {
         (place < plan.rows).then(|| RowRecord {
-            session: spaced(place % plan.sessions, plan.apart),
+            session: number(place % plan.sessions, plan.apart),
             key: (place % held_keys) as u8,
             kind: if plan.rows > 128 { 1 } else { 2 },
             staged: match plan.rows > 128 {

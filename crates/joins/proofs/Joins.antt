@@ -17,7 +17,7 @@ use Rattle.lent.specs.Tables.{if_then_else_, every}
 use Rattle.lent.proofs.Choices.{and-yes, clash}
 use Rattle.lent.proofs.Walks.{all-every, every-all, every-fails}
 use Rattle.machine.specs.Sizes.{keyCount, keysFrom, keyWidth, sessionCount}
-use Rattle.joins.specs.Joins.{rowSession, rowKey, rowKind, isLive, pairOk, joinOk, item, placeOf, pairBit, Noted, mayShare, On, Seen, Ready, Joined}
+use Rattle.joins.specs.Joins.{rowSession, rowKey, rowKind, isLive, pairOk, joinOk, item, firstPlace, pairBit, Noted, mayShare, On, Seen, Ready, Joined}
 use Rattle.joins.proofs.Lookup.{Stands, place-dead, place-live}
 use Rattle.joins.proofs.Numbers.{last-or, same-or, item-zeros}
 
@@ -79,9 +79,9 @@ seen-none s place bit f = record {
   left = λ k q e. clash (bit k q) e (f k q);
 }
 
-module _ {s nums hint seen near far : List ℕ} {i : ℕ} (y : Ready s i nums hint seen near far) where
+module _ {s nums seen near far : List ℕ} {i : ℕ} (y : Ready s i nums seen near far) where
   abbrev P : ℕ → ℕ
-  P = placeOf nums hint
+  P = firstPlace nums
 
   abbrev bit : ℕ → ℕ → Bool
   bit = pairBit near far
@@ -100,11 +100,11 @@ module _ {s nums hint seen near far : List ℕ} {i : ℕ} (y : Ready s i nums hi
         left = λ k q u. let w = h .left k q u in (w .0, on-more (w .1), w .2);
       }
 
-  pub join-free : rowSession s i ≡ 0 → Joined s i true nums hint seen near far
+  pub join-free : rowSession s i ≡ 0 → Joined s i true nums seen near far
   unfolding joinOk
   join-free e = record {
     is = rw (eq-eqb (rowSession s i) 0 e);
-    next = λ r. record { gathered = y .gathered; sized = y .sized; rows = seen-skip e };
+    next = λ r. record { sessions = y .sessions; sized = y .sized; rows = seen-skip e };
   }
 
   -- row i of session n on key k
@@ -119,19 +119,19 @@ module _ {s nums hint seen near far : List ℕ} {i : ℕ} (y : Ready s i nums hi
     unfolding joinOk
     join-is = rw (isk, isn, ne-eqb (rowSession s i) 0 (λ e. used (isn ∙ e)))
 
-    refused : {seen′ near′ far′ : List ℕ} → joinOk s i ≡ false → Joined s i false nums hint seen′ near′ far′
+    refused : {seen′ near′ far′ : List ℕ} → joinOk s i ≡ false → Joined s i false nums seen′ near′ far′
     refused e = record { is = sym e; next = λ r. clash false r refl }
 
-    pub join-leased : (token ≡ 0 → ⊥) → Joined s i false nums hint seen near far
+    pub join-leased : (token ≡ 0 → ⊥) → Joined s i false nums seen near far
     join-leased e = refused (join-is ∙ rw (ne-eqb token 0 e))
 
     module _ {p : ℕ} (isp : p ≡ P n) (free : token ≡ 0) where
-      pub join-dead : p ≡ 0 → Joined s i false nums hint seen near far
-      join-dead l = refused (join-is ∙ rw (eq-eqb token 0 free, place-dead s nums hint (y .gathered) n used (sym isp ∙ l)))
+      pub join-dead : p ≡ 0 → Joined s i false nums seen near far
+      join-dead l = refused (join-is ∙ rw (eq-eqb token 0 free, place-dead s nums (y .sessions .gathered) n (sym isp ∙ l)))
 
       module _ (live : p ≡ 0 → ⊥) where
         stands : Stands s nums n p
-        stands = rw isp (place-live s nums hint (y .gathered) n used (λ e. live (isp ∙ e)))
+        stands = rw isp (place-live s nums (y .sessions .gathered) n (λ e. live (isp ∙ e)))
 
         pub place-low : p - 1 < sessionCount
         place-low = stands .low
@@ -155,7 +155,7 @@ module _ {s nums hint seen near far : List ℕ} {i : ℕ} (y : Ready s i nums hi
           twice e =
               let w = y .rows .left k (p - 1) e in
               let j : ℕ = w .0 in
-              let v = place-live s nums hint (y .gathered) (rowSession s j) (w .1 .used) (y .rows .placed k j (w .1)) .here in
+              let v = place-live s nums (y .sessions .gathered) (rowSession s j) (y .rows .placed k j (w .1)) .here in
               let o : rowSession s j ≡ n = sym v ∙ (ap (item nums) (w .2) ∙ stands .here) in
               every-fails pairs i j (w .1 .before) (pair-on s n k (rowKind s i) j i (w .1) ∙ rw (eq-eqb (rowSession s j) n o))
 
@@ -217,10 +217,10 @@ module _ {s nums hint seen near far : List ℕ} {i : ℕ} (y : Ready s i nums hi
                     (or-cases (bit v q) (eqb v k && eqb q (p - 1)) (sym (note .bits v q) ∙ e));
               }
 
-          pub join-shared : k < keyCount → {r m : Bool} {near′ far′ : List ℕ} → Noted near far k (p - 1) m near′ far′ → r ≡ mayShare (item seen k) d m → Joined s i r nums hint (set seen k d) near′ far′
+          pub join-shared : k < keyCount → {r m : Bool} {near′ far′ : List ℕ} → Noted near far k (p - 1) m near′ far′ → r ≡ mayShare (item seen k) d m → Joined s i r nums (set seen k d) near′ far′
           join-shared b {r} note t =
               let all : r ≡ every pairs i = t ∙ (ap (mayShare (item seen k) d) (note .is) ∙ share-is) in
               record {
                 is = all ∙ sym (join-is ∙ rw (eq-eqb token 0 free, stands .live));
-                next = λ e. record { gathered = y .gathered; sized = note .sized; rows = seen-next b (sym all ∙ e) note };
+                next = λ e. record { sessions = y .sessions; sized = note .sized; rows = seen-next b (sym all ∙ e) note };
               }

@@ -1,4 +1,5 @@
-pub mod Joins
-pub mod Lookup
 pub mod Numbers
+pub mod Seats
+pub mod Lookup
 pub mod Pairs
+pub mod Joins

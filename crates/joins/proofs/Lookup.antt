@@ -1,43 +1,47 @@
--- The place of a number among numbers side by side. A hint is tested; else the places of the number are joined bit by bit, which gives
--- its one place, and that is tested too; else it is searched for. So whatever is chosen is a place of the number, or it has none.
+-- The place of a number among numbers side by side, where none but 0 stands twice: a place at which it stands is its first.
 -- Assumes nothing.
 use mathlib.Core.Path.{_≡_, refl, sym, ap, _∙_}
 use mathlib.Core.Bool.{Bool, true, false, not}
 use mathlib.Core.List.{List}
-use Prim.Native.Nat.{ℕ, zero, suc, _+_, _-_, _<_}
+use Prim.Native.Nat.{ℕ, _+_, _-_, _<_}
 use native.Mathlib.Numerals.{add-one}
 use native.Mathlib.Omega.{arith}
 use lib.Bits.{bitOr}
-use lib.Dec.{eqb, leb, ltb, eqb·suc-zero}
-use borrow.Author.Tests.{eq-eqb, ne-eqb, eqb-true, eqb-false, leb-true, leb-false, ltb-false, not-true}
+use lib.Dec.{eqb, ltb, eqb·suc-zero}
+use borrow.Author.Tests.{eq-eqb, ne-eqb, eqb-true, eqb-false, ltb-true, ltb-false, not-true}
 use Rattle.lent.specs.Tables.{if_then_else_, every}
 use Rattle.lent.proofs.Walks.{every-all, some-at, none-some, Search, found, nowhere, first-search}
 use Rattle.lent.proofs.Zeros.{eqb-or}
 use Rattle.machine.specs.Sizes.{sessionCount, sessionsFrom, sessionWidth}
-use Rattle.joins.specs.Joins.{numbers, isLive, side, item, Gathered, slotOf, joinedPlaces, firstPlace, chosenPlace, findPlace, placeOf}
-
--- ---- the places joined
-
-pub joined-more : (nums : List ℕ) (n j f : ℕ) → f ≡ joinedPlaces nums n j → bitOr f (if eqb (item nums j) n then j + 1 else 0) ≡ joinedPlaces nums n (j + 1)
-unfolding joinedPlaces
-joined-more nums n j f e = rw (add-one j) (rw (e, add-one j))
+use Rattle.machine.specs.Sound.{newAt, distinct}
+use Rattle.joins.specs.Joins.{numbers, isLive, item, Gathered, Alone, firstPlace}
+use Rattle.joins.proofs.Numbers.{new-used}
 
 -- 0 if the test fails
 zero-choice : (t : Bool) (m : ℕ) → eqb (if t then m + 1 else 0) 0 ≡ not t
 zero-choice true m = rw add-one (eqb·suc-zero m)
 zero-choice false m = refl
 
--- a turn of a loop that looks whether n stands anywhere
-pub absent-more : (nums : List ℕ) (n j f : ℕ) → eqb f 0 ≡ every (λ k. not (eqb (item nums k) n)) j → eqb (bitOr f (if eqb (item nums j) n then 1 else 0)) 0 ≡ every (λ k. not (eqb (item nums k) n)) (j + 1)
+-- a turn of a loop that looks where n stands
+pub places-more : (nums : List ℕ) (n j f : ℕ) → eqb f 0 ≡ every (λ k. not (eqb (item nums k) n)) j → eqb (bitOr f (if eqb (item nums j) n then j + 1 else 0)) 0 ≡ every (λ k. not (eqb (item nums k) n)) (j + 1)
 unfolding every
-absent-more nums n j f e = rw (add-one j, eqb-or, e, zero-choice (eqb (item nums j) n) 0)
+places-more nums n j f e = rw (add-one j, eqb-or, e) (rw (← add-one j, zero-choice (eqb (item nums j) n) j))
 
-pub joined-zero : (nums : List ℕ) (n m : ℕ) → eqb (joinedPlaces nums n m) 0 ≡ every (λ j. not (eqb (item nums j) n)) m
-unfolding joinedPlaces every
-joined-zero nums n zero = refl
-joined-zero nums n (suc m) = rw (eqb-or, joined-zero nums n m, zero-choice)
+-- ---- a number that stands once
 
--- ---- a place
+pub once-alone : (nums : List ℕ) (n : ℕ) → distinct (item nums) sessionCount ≡ true → (n ≡ 0 → ⊥) → Alone nums n
+unfolding distinct
+once-alone nums n d used j k a b e g = go (ltb j k) (ltb k j) refl refl
+  where
+    apart : (u v : ℕ) → u < v → v < sessionCount → item nums u ≡ n → item nums v ≡ n → ⊥
+    apart u v h l p q =
+        eqb-false (item nums u) n
+        (not-true _ (every-all (λ x. not (eqb (item nums x) n)) v u (sym (new-used (item nums) v n (sym q) used) ∙ every-all (newAt (item nums)) sessionCount v d l) h)) p
+
+    go : (t u : Bool) → ltb j k ≡ t → ltb k j ≡ u → j ≡ k
+    go true u p q = absurd (apart j k (ltb-true j k p) b e g)
+    go false true p q = absurd (apart k j (ltb-true k j q) a g e)
+    go false false p q = omega (arith, ltb-false j k p, ltb-false k j q)
 
 module _ (nums : List ℕ) (n : ℕ) where
   -- m + 1 says that n stands at m, and 0 that it stands nowhere
@@ -52,41 +56,29 @@ module _ (nums : List ℕ) (n : ℕ) where
       go r (found k q a b c f) = rw q (at-place {m = k} (omega arith) (eqb-true (item nums k) n c))
       go r (nowhere q f) = rw q (no-place (λ j h e. eqb-false (item nums j) n (f j (omega arith) (omega arith)) e))
 
-  found-is : Place (findPlace nums n)
-  unfolding findPlace
-  found-is = go (joinedPlaces nums n sessionCount) refl (eqb (joinedPlaces nums n sessionCount) 0) refl
+  -- a place at which it stands
+  pub first-at : Alone nums n → {m : ℕ} → m < sessionCount → item nums m ≡ n → m + 1 ≡ firstPlace nums n
+  first-at a {m} l e = go (firstPlace nums n) first-is
     where
-      at-last : (p : ℕ) → (p ≡ 0 → ⊥) → (t u : Bool) → ltb sessionCount p ≡ t → eqb (item nums (p - 1)) n ≡ u → Place (if t then firstPlace nums n else if u then p else firstPlace nums n)
-      at-last p z true u e f = first-is
-      at-last p z false true e f =
-          let o : p - 1 + 1 ≡ p = omega arith in
-          rw o at (at-place {m = p - 1} (omega (arith, ltb-false sessionCount p e)) (eqb-true _ n f))
-      at-last p z false false e f = first-is
+      go : (p : ℕ) → Place p → m + 1 ≡ p
+      go _ (at-place {m = k} h o) = ap (λ (x : ℕ). x + 1) (a m k l h e o)
+      go _ (no-place f) = absurd (f m l e)
 
-      go : (p : ℕ) → p ≡ joinedPlaces nums n sessionCount → (t : Bool) → eqb p 0 ≡ t → Place (chosenPlace nums n p)
-      go p q true e = rw e (no-place (λ j h o. eqb-false (item nums j) n (not-true _ (every-all (λ j. not (eqb (item nums j) n)) sessionCount j (sym (joined-zero nums n sessionCount) ∙ (ap (λ (x : ℕ). eqb x 0) (sym q) ∙ e)) h)) o))
-      go p q false e = rw e (at-last p (eqb-false p 0 e) (ltb sessionCount p) (eqb (item nums (p - 1)) n) refl refl)
+  pub first-none : every (λ j. not (eqb (item nums j) n)) sessionCount ≡ true → 0 ≡ firstPlace nums n
+  first-none d = go (firstPlace nums n) first-is
+    where
+      go : (p : ℕ) → Place p → 0 ≡ p
+      go _ (at-place {m = k} h o) = absurd (eqb-false (item nums k) n (not-true _ (every-all (λ j. not (eqb (item nums j) n)) sessionCount k d h)) o)
+      go _ (no-place f) = refl
 
-  module _ (f : ℕ → ℕ) (g : Gathered f sessionCount nums) (used : n ≡ 0 → ⊥) where
-    place-is : (hint : List ℕ) → Place (placeOf nums hint n)
-    unfolding placeOf
-    place-is hint = go (item hint (slotOf n)) (eqb (item nums (item hint (slotOf n))) n) refl
-      where
-        low : (m : ℕ) → item nums m ≡ n → (t : Bool) → leb sessionCount m ≡ t → m < sessionCount
-        low m e true q = absurd (used (sym e ∙ g .rest m (leb-true sessionCount m q)))
-        low m e false q = leb-false sessionCount m q
+-- ---- what a place says of the session
 
-        go : (m : ℕ) (t : Bool) → eqb (item nums m) n ≡ t → Place (if t then m + 1 else findPlace nums n)
-        go m true e = let o = eqb-true (item nums m) n e in at-place {m = m} (low m o (leb sessionCount m) refl) o
-        go m false e = found-is
-
--- what a place says of the session
 pub record Stands (s nums : List ℕ) (n p : ℕ) : Type 0 where
   pub live : isLive s n ≡ true
   pub here : item nums (p - 1) ≡ n
   pub low : p - 1 < sessionCount
 
-module _ (s nums hint : List ℕ) (g : Gathered (numbers s sessionsFrom sessionWidth) sessionCount nums) (n : ℕ) (used : n ≡ 0 → ⊥) where
+module _ (s nums : List ℕ) (g : Gathered (numbers s sessionsFrom sessionWidth) sessionCount nums) (n : ℕ) where
   abbrev session : ℕ → ℕ
   session = numbers s sessionsFrom sessionWidth
 
@@ -106,8 +98,8 @@ module _ (s nums hint : List ℕ) (g : Gathered (numbers s sessionsFrom sessionW
       }
   live-by _ (no-place f) z = absurd (z refl)
 
-  pub place-dead : placeOf nums hint n ≡ 0 → isLive s n ≡ false
-  place-dead = dead-by (placeOf nums hint n) (place-is nums n session g used hint)
+  pub place-dead : firstPlace nums n ≡ 0 → isLive s n ≡ false
+  place-dead = dead-by (firstPlace nums n) (first-is nums n)
 
-  pub place-live : (placeOf nums hint n ≡ 0 → ⊥) → Stands s nums n (placeOf nums hint n)
-  place-live = live-by (placeOf nums hint n) (place-is nums n session g used hint)
+  pub place-live : (firstPlace nums n ≡ 0 → ⊥) → Stands s nums n (firstPlace nums n)
+  place-live = live-by (firstPlace nums n) (first-is nums n)

@@ -3,12 +3,12 @@ use Prim.Native.Nat.{ℕ, zero, suc, _+_, _*_, _-_, _/_, _%_, _≤_, _<_}
 use mathlib.Core.Path.{_≡_}
 use mathlib.Core.Bool.{Bool, true, false, not, _&&_, _||_}
 use mathlib.Core.List.{List}
-use lib.Bits.{bitOr}
 use lib.ListN.{length, getD}
 use lib.Dec.{eqb, ltb}
 use Rattle.lent.specs.Bits.{hasBit}
 use Rattle.lent.specs.Bytes.{le32}
 use Rattle.lent.specs.Tables.{if_then_else_, every, some, first}
+use Rattle.machine.specs.Sound.{distinct}
 use Rattle.machine.specs.Sizes.{keyCount, keysFrom, keyWidth, rowsFrom, rowWidth, sessionCount, sessionsFrom, sessionWidth}
 
 -- the number at +0 of record i of a table of records of w bytes from off
@@ -48,12 +48,9 @@ joinOk s i =
 
 -- Numbers side by side
 
--- how many there are at most, and how many slots for them
+-- how many there are at most
 abbrev pub side : ℕ
 side = 256
-
-abbrev pub slots : ℕ
-slots = 2048
 
 -- the number at place j
 abbrev pub item : List ℕ → ℕ → ℕ
@@ -65,40 +62,59 @@ pub record Gathered (f : ℕ → ℕ) (m : ℕ) (nums : List ℕ) : Type 0 where
   pub is : (j : ℕ) → j < m → item nums j ≡ f j
   pub rest : (j : ℕ) → m ≤ j → item nums j ≡ 0
 
--- the 11 high bits of the 32 low ones of the product with 2^32 over the golden ratio
-unfoldable pub slotOf : ℕ → ℕ
-slotOf n = n * 2654435769 % 4294967296 / 2097152
+-- n stands at one place at most
+abbrev pub Alone : List ℕ → ℕ → Type 0
+Alone nums n = (j k : ℕ) → j < sessionCount → k < sessionCount → item nums j ≡ n → item nums k ≡ n → j ≡ k
 
--- each number before i that is not 0 has left a mark in its slot
-pub record Marked (f : ℕ → ℕ) (i : ℕ) (mark : List ℕ) : Type 0 where
-  pub long : length mark ≡ slots
-  pub left : (j : ℕ) → j < i → (f j ≡ 0 → ⊥) → item mark (slotOf (f j)) ≡ 0 → ⊥
-
--- the places below m at which n stands, each plus 1, joined bit by bit
-unfoldable pub joinedPlaces : List ℕ → ℕ → ℕ → ℕ
-joinedPlaces nums n zero = 0
-joinedPlaces nums n (suc m) = bitOr (joinedPlaces nums n m) (if eqb (item nums m) n then m + 1 else 0)
-
--- The place of a session by its number, plus 1; 0 where there is none
-
--- the first
+-- its first place, plus 1; 0 where there is none
 abbrev pub firstPlace : List ℕ → ℕ → ℕ
 firstPlace nums n = first (λ j. eqb (item nums j) n) (λ j. j + 1) 0 0 sessionCount
 
--- the joined places if they are a place of n, and else the first
-abbrev pub chosenPlace : List ℕ → ℕ → ℕ → ℕ
-chosenPlace nums n p =
-    if eqb p 0 then 0
-    else if ltb sessionCount p then firstPlace nums n
-    else if eqb (item nums (p - 1)) n then p
-    else firstPlace nums n
+-- Seats: each has a place, plus 1, or 0 if it is free
 
-unfoldable pub findPlace : List ℕ → ℕ → ℕ
-findPlace nums n = chosenPlace nums n (joinedPlaces nums n sessionCount)
+abbrev pub seatCount : ℕ
+seatCount = 1024
 
--- what the hint says if it is a place of n
-unfoldable pub placeOf : List ℕ → List ℕ → ℕ → ℕ
-placeOf nums hint n = if eqb (item nums (item hint (slotOf n))) n then item hint (slotOf n) + 1 else findPlace nums n
+-- how many seats a number tries
+abbrev pub tries : ℕ
+tries = 16
+
+-- the 32 low bits of the product with 2^32 over the golden ratio
+unfoldable pub spun : ℕ → ℕ
+spun x = x * 2654435769 % 4294967296
+
+-- n spun t times
+unfoldable pub spread : ℕ → ℕ → ℕ
+spread n zero = n
+spread n (suc t) = spun (spread n t)
+
+-- the seat of the ten high bits of x
+unfoldable pub seatBy : ℕ → ℕ
+seatBy x = x / 4194304 % 1024
+
+-- the seat that n tries at turn t: that of its low bits, and then those of n spun
+unfoldable pub seatOf : ℕ → ℕ → ℕ
+seatOf n zero = n % 1024
+seatOf n (suc t) = seatBy (spread n (suc t))
+
+-- the seats have places below m
+pub record Small (m : ℕ) (seats : List ℕ) : Type 0 where
+  pub long : length seats ≡ seatCount
+  pub low : (h : ℕ) → item seats h ≤ m
+
+-- others than n have the seats that it tries before turn t
+abbrev pub Passed : List ℕ → List ℕ → ℕ → ℕ → Type 0
+Passed nums seats n t = (u : ℕ) → u < t → (item seats (seatOf n u) ≡ 0 → ⊥) × (item nums (item seats (seatOf n u) - 1) ≡ n → ⊥)
+
+-- the first seat that n tries and that is free or has n in it, or none
+pub data Sought (nums seats : List ℕ) (n : ℕ) : ℕ → Type 0 where
+  stop : {t h : ℕ} → t < tries → h ≡ seatOf n t → h < seatCount → Passed nums seats n t → ((item seats h ≡ 0 → ⊥) → item nums (item seats h - 1) ≡ n) → Sought nums seats n h
+  full : Passed nums seats n tries → Sought nums seats n seatCount
+
+-- each number before place i that is not 0 has its seat before any that it tries and that is free
+pub record Seated (nums : List ℕ) (i : ℕ) (seats : List ℕ) : Type 0 where
+  pub small : Small i seats
+  pub held : (j : ℕ) → j < i → (item nums j ≡ 0 → ⊥) → (u : ℕ) → u < tries → item seats (seatOf (item nums j) u) ≡ 0 → (t : ℕ) × (t < u) × (item seats (seatOf (item nums j) t) ≡ j + 1)
 
 -- One pass over the rows
 
@@ -139,13 +155,18 @@ pub record Seen (s : List ℕ) (P : ℕ → ℕ) (i : ℕ) (seen : List ℕ) (bi
   pub marks : (k j : ℕ) → On s i k j → bit k (P (rowSession s j) - 1) ≡ true
   pub left : (k q : ℕ) → bit k q ≡ true → (j : ℕ) × On s i k j × (P (rowSession s j) - 1 ≡ q)
 
--- all that the pass knows at row i
-pub record Ready (s : List ℕ) (i : ℕ) (nums hint seen near far : List ℕ) : Type 0 where
+-- the sessions' numbers side by side, each that is not 0 once
+pub record Sessions (s nums : List ℕ) : Type 0 where
   pub gathered : Gathered (numbers s sessionsFrom sessionWidth) sessionCount nums
+  pub once : distinct (item nums) sessionCount ≡ true
+
+-- all that the pass knows at row i
+pub record Ready (s : List ℕ) (i : ℕ) (nums seen near far : List ℕ) : Type 0 where
+  pub sessions : Sessions s nums
   pub sized : Sized near far
-  pub rows : Seen s (placeOf nums hint) i seen (pairBit near far)
+  pub rows : Seen s (firstPlace nums) i seen (pairBit near far)
 
 -- r says of row i what is to be said, and if it is true the pass goes on
-pub record Joined (s : List ℕ) (i : ℕ) (r : Bool) (nums hint seen near far : List ℕ) : Type 0 where
+pub record Joined (s : List ℕ) (i : ℕ) (r : Bool) (nums seen near far : List ℕ) : Type 0 where
   pub is : r ≡ joinOk s i
-  pub next : r ≡ true → Ready s (i + 1) nums hint seen near far
+  pub next : r ≡ true → Ready s (i + 1) nums seen near far

@@ -1,3 +1,4 @@
+pub mod Zeros
 pub mod Tests
 pub mod Widths
 pub mod Records

@@ -1,58 +1,34 @@
 // Whether a lent buffer holds a well-formed state: the header, each record by itself, then what joins records.
 ghost use mathlib.Core.Path.{_≡_};
+ghost use mathlib.Core.Bool.{_&&_};
 ghost use Prim.Native.Nat.{_+_, _≤_};
 ghost use lib.ListN.{length};
-ghost use Rattle.lent.specs.Bytes.{le64, le32};
+ghost use lib.Dec.{eqb};
+ghost use Rattle.lent.specs.Bytes.{le64, le32, win};
+ghost use Rattle.lent.specs.Tables.{if_then_else_, allZero};
 ghost use Rattle.machine.specs.Sizes.{stateSize, keyWidth, rowWidth, sessionWidth, valueMax, timeMax};
 ghost use Rattle.machine.specs.Sound.{lifetime};
 ghost use Rattle.layout.specs.WellFormed.{wellFormed};
 ghost use Rattle.state.specs.Forms.{headFormed, fitted, valueFormed, leaseFormed, keyFormed, stagedFormed, rowFormed, lifeFormed, sessionFormed, keysFormed, rowsFormed, sessionsFormed, tablesFormed, recordsJoin, stateFormed};
 
-// The layout: docs/LAYOUT.md.
-const STATE_SIZE: usize = 65536;
+// The header's bytes that are used, and those behind them.
+const HEAD_USED: usize = 24;
 
-const KEYS_FROM: usize = 64;
+const HEAD_UNUSED: usize = layout::KEYS_FROM - HEAD_USED;
 
-const KEY_WIDTH: usize = 80;
+// Behind the tables, to the end of the buffer.
+const REST_FROM: usize = layout::SESSIONS_FROM + layout::SESSION_COUNT * layout::SESSION_WIDTH;
 
-const KEY_COUNT: usize = 256;
+const REST_SIZE: usize = layout::STATE_SIZE - REST_FROM;
 
-const ROWS_FROM: usize = 20544;
-
-const ROW_WIDTH: usize = 72;
-
-const ROW_COUNT: usize = 384;
-
-const SESSIONS_FROM: usize = 48192;
-
-const SESSION_WIDTH: usize = 16;
-
-const SESSION_COUNT: usize = 128;
-
-const REST_FROM: usize = 50240;
-
-const REST_SIZE: usize = 15296;
-
-// Places in the header, and of the token in a key's record.
-const CLOCK: usize = 0;
-
-const READ_LIFE: usize = 8;
-
-const WRITE_LIFE: usize = 12;
-
-const NEXT_SESSION: usize = 16;
-
-const NEXT_TOKEN: usize = 20;
-
-const TOKENS_FROM: usize = 68;
+// The tokens of the keys' leases.
+const TOKENS_FROM: usize = layout::KEYS_FROM + layout::KEY_TOKEN;
 
 const TIME_MAX: u64 = 281474976710655;
 
 const LIFE_MAX: u32 = 600000;
 
 const STEP_MAX: u32 = 1000;
-
-const VALUE_MAX: usize = 64;
 
 fn lifetime_at(s: &[u8], at: usize) -> bool
     requires { ⌜ at + 4 ≤ length (now s) ⌝ }
@@ -69,22 +45,61 @@ fn head_formed(s: &[u8]) -> bool
     requires { ⌜ length (now s) ≡ stateSize ⌝ }
     ensures { λ r. ⌜ r ≡ headFormed (now (s .entry)) ⌝ }
 {
-    if TIME_MAX < lent::load_u64(s, CLOCK) {
+    if TIME_MAX < lent::load_u64(s, layout::CLOCK) {
         return false;
     }
-    if !lifetime_at(s, READ_LIFE) {
+    if !lifetime_at(s, layout::READ_LIFE) {
         return false;
     }
-    if !lifetime_at(s, WRITE_LIFE) {
+    if !lifetime_at(s, layout::WRITE_LIFE) {
         return false;
     }
-    if lent::load_u32(s, NEXT_SESSION) < 1 {
+    if lent::load_u32(s, layout::NEXT_SESSION) < 1 {
         return false;
     }
-    if lent::load_u32(s, NEXT_TOKEN) < 1 {
+    if lent::load_u32(s, layout::NEXT_TOKEN) < 1 {
         return false;
     }
-    lent::is_zero(s, 24, 40)
+    lent::is_zero(s, HEAD_USED, HEAD_UNUSED)
+}
+
+// Whether the n bytes at a and the n bytes at b are all 0.
+fn are_zero(s: &[u8], a: usize, b: usize, n: usize) -> bool
+    requires { ⌜ (a + n ≤ length (now s)) × (b + n ≤ length (now s)) ⌝ }
+    ensures { λ r. ⌜ r ≡ (allZero (win (now (s .entry)) a n) && allZero (win (now (s .entry)) b n)) ⌝ }
+{
+    let mut seen: u8 = 0;
+    for i in 0..n {
+        seen = seen | (s[a + i] | s[b + i]);
+    }
+    seen == 0
+}
+
+// Whether the n bytes at `from` are all 0, n at most 64: the first 32, 16, 8 or 4 and the last as many, which may overlap. Each has a length that is
+// known, so that no loop is left but that of the last three bytes.
+fn is_bare(s: &[u8], from: usize, n: usize) -> bool
+    requires { ⌜ (n ≤ valueMax) × (from + n ≤ length (now s)) ⌝ }
+    ensures { λ r. ⌜ r ≡ allZero (win (now (s .entry)) from n) ⌝ }
+{
+    if 32 <= n {
+        return are_zero(s, from, from + (n - 32), 32);
+    }
+    if 16 <= n {
+        return are_zero(s, from, from + (n - 16), 16);
+    }
+    if 8 <= n {
+        if lent::load_u64(s, from) != 0 {
+            return false;
+        }
+        return lent::load_u64(s, from + (n - 8)) == 0;
+    }
+    if 4 <= n {
+        if lent::load_u32(s, from) != 0 {
+            return false;
+        }
+        return lent::load_u32(s, from + (n - 4)) == 0;
+    }
+    lent::is_zero(s, from, n)
 }
 
 // A value of n bytes in the 64 at `at`, zero behind it.
@@ -92,10 +107,10 @@ fn is_fitted(r: &[u8], at: usize, n: usize) -> bool
     requires { ⌜ at + valueMax ≤ length (now r) ⌝ }
     ensures { λ b. ⌜ b ≡ fitted (now (r .entry)) at n ⌝ }
 {
-    if VALUE_MAX < n {
+    if layout::VALUE_MAX < n {
         return false;
     }
-    lent::is_zero(r, at + n, VALUE_MAX - n)
+    is_bare(r, at + n, layout::VALUE_MAX - n)
 }
 
 fn value_formed(r: &[u8]) -> bool
@@ -103,7 +118,7 @@ fn value_formed(r: &[u8]) -> bool
     ensures { λ b. ⌜ b ≡ valueFormed (now (r .entry)) ⌝ }
 {
     if lent::load_u32(r, 0) == 0 {
-        return lent::is_zero(r, 16, VALUE_MAX);
+        return lent::is_zero(r, layout::KEY_VALUE, layout::VALUE_MAX);
     }
     if r[0] != 1 {
         return false;
@@ -111,15 +126,15 @@ fn value_formed(r: &[u8]) -> bool
     if lent::load_u16(r, 2) != 0 {
         return false;
     }
-    is_fitted(r, 16, lent::index(r[1]))
+    is_fitted(r, layout::KEY_VALUE, lent::index(r[layout::KEY_LENGTH]))
 }
 
 fn lease_formed(r: &[u8], limit: u64, next: u32) -> bool
     requires { ⌜ length (now r) ≡ keyWidth ⌝ }
     ensures { λ b. ⌜ b ≡ leaseFormed limit next (now (r .entry)) ⌝ }
 {
-    let token = lent::load_u32(r, 4);
-    let until = lent::load_u64(r, 8);
+    let token = lent::load_u32(r, layout::KEY_TOKEN);
+    let until = lent::load_u64(r, layout::KEY_UNTIL);
     if token == 0 {
         return until == 0;
     }
@@ -139,27 +154,42 @@ fn key_formed(r: &[u8], limit: u64, next: u32) -> bool
     lease_formed(r, limit, next)
 }
 
+// No value in a row: length and bytes are 0.
+fn is_plain(r: &[u8]) -> bool
+    requires { ⌜ length (now r) ≡ rowWidth ⌝ }
+    ensures { λ b. ⌜ b ≡ allZero (win (now (r .entry)) 7 65) ⌝ }
+{
+    if r[layout::ROW_LENGTH] != 0 {
+        return false;
+    }
+    lent::is_zero(r, layout::ROW_VALUE, layout::VALUE_MAX)
+}
+
+// Whether a row of this kind may have the mark of a row without a value: nothing, or DROP.
+fn is_marked(mark: u8, kind: u8) -> bool
+    ensures { λ b. ⌜ b ≡ (if eqb mark 2 then eqb kind 3 else eqb mark 0) ⌝ }
+{
+    if mark == 2 {
+        return kind == 3;
+    }
+    mark == 0
+}
+
 fn staged_formed(r: &[u8], kind: u8) -> bool
     requires { ⌜ length (now r) ≡ rowWidth ⌝ }
     ensures { λ b. ⌜ b ≡ stagedFormed kind (now (r .entry)) ⌝ }
 {
-    let mark = r[6];
+    let mark = r[layout::ROW_STAGED];
     if mark == 1 {
         if kind < 2 {
             return false;
         }
-        return is_fitted(r, 8, lent::index(r[7]));
+        return is_fitted(r, layout::ROW_VALUE, lent::index(r[layout::ROW_LENGTH]));
     }
-    if mark == 2 {
-        if kind != 3 {
-            return false;
-        }
-        return lent::is_zero(r, 7, 65);
-    }
-    if mark != 0 {
+    if !is_marked(mark, kind) {
         return false;
     }
-    lent::is_zero(r, 7, 65)
+    is_plain(r)
 }
 
 fn row_formed(r: &[u8]) -> bool
@@ -167,9 +197,9 @@ fn row_formed(r: &[u8]) -> bool
     ensures { λ b. ⌜ b ≡ rowFormed (now (r .entry)) ⌝ }
 {
     if lent::load_u32(r, 0) == 0 {
-        return lent::is_zero(r, 0, ROW_WIDTH);
+        return lent::is_zero(r, 0, layout::ROW_WIDTH);
     }
-    let kind = r[5];
+    let kind = r[layout::ROW_KIND];
     if kind < 1 {
         return false;
     }
@@ -183,11 +213,11 @@ fn life_formed(r: &[u8], limit: u64) -> bool
     requires { ⌜ length (now r) ≡ sessionWidth ⌝ }
     ensures { λ b. ⌜ b ≡ lifeFormed limit (now (r .entry)) ⌝ }
 {
-    let until = lent::load_u64(r, 8);
-    if r[4] == 2 {
+    let until = lent::load_u64(r, layout::SESSION_UNTIL);
+    if r[layout::SESSION_LIFE] == 2 {
         return until == 0;
     }
-    if r[4] != 1 {
+    if r[layout::SESSION_LIFE] != 1 {
         return false;
     }
     until <= limit
@@ -199,7 +229,10 @@ fn session_formed(r: &[u8], limit: u64, next: u32) -> bool
 {
     let number = lent::load_u32(r, 0);
     if number == 0 {
-        return lent::is_zero(r, 0, SESSION_WIDTH);
+        if lent::load_u64(r, 0) != 0 {
+            return false;
+        }
+        return lent::load_u64(r, layout::SESSION_UNTIL) == 0;
     }
     if next <= number {
         return false;
@@ -207,7 +240,7 @@ fn session_formed(r: &[u8], limit: u64, next: u32) -> bool
     if r[5] != 0 {
         return false;
     }
-    if STEP_MAX < lent::load_u16(r, 6) {
+    if STEP_MAX < lent::load_u16(r, layout::SESSION_STEPS) {
         return false;
     }
     life_formed(r, limit)
@@ -218,18 +251,18 @@ fn limit(s: &[u8], life: usize) -> u64
     requires { ⌜ (length (now s) ≡ stateSize) × ((life + 4 ≤ stateSize) × (le64 (now s) 0 ≤ timeMax)) ⌝ }
     ensures { λ r. ⌜ r ≡ le64 (now (s .entry)) 0 + le32 (now (s .entry)) life ⌝ }
 {
-    lent::load_u64(s, CLOCK) + lent::load_u32(s, life) as u64
+    lent::load_u64(s, layout::CLOCK) + lent::load_u32(s, life) as u64
 }
 
 fn keys_formed(s: &[u8]) -> bool
     requires { ⌜ (length (now s) ≡ stateSize) × (le64 (now s) 0 ≤ timeMax) ⌝ }
     ensures { λ r. ⌜ r ≡ keysFormed (now (s .entry)) ⌝ }
 {
-    let until = limit(s, READ_LIFE);
-    let next = lent::load_u32(s, NEXT_TOKEN);
-    for k in 0..KEY_COUNT {
-        let at = KEYS_FROM + k * KEY_WIDTH;
-        if !key_formed(&s[at..at + KEY_WIDTH], until, next) {
+    let until = limit(s, layout::READ_LIFE);
+    let next = lent::load_u32(s, layout::NEXT_TOKEN);
+    for k in 0..layout::KEY_COUNT {
+        let at = layout::KEYS_FROM + k * layout::KEY_WIDTH;
+        if !key_formed(&s[at..at + layout::KEY_WIDTH], until, next) {
             return false;
         }
     }
@@ -240,9 +273,9 @@ fn rows_formed(s: &[u8]) -> bool
     requires { ⌜ length (now s) ≡ stateSize ⌝ }
     ensures { λ r. ⌜ r ≡ rowsFormed (now (s .entry)) ⌝ }
 {
-    for i in 0..ROW_COUNT {
-        let at = ROWS_FROM + i * ROW_WIDTH;
-        if !row_formed(&s[at..at + ROW_WIDTH]) {
+    for i in 0..layout::ROW_COUNT {
+        let at = layout::ROWS_FROM + i * layout::ROW_WIDTH;
+        if !row_formed(&s[at..at + layout::ROW_WIDTH]) {
             return false;
         }
     }
@@ -253,11 +286,11 @@ fn sessions_formed(s: &[u8]) -> bool
     requires { ⌜ (length (now s) ≡ stateSize) × (le64 (now s) 0 ≤ timeMax) ⌝ }
     ensures { λ r. ⌜ r ≡ sessionsFormed (now (s .entry)) ⌝ }
 {
-    let until = limit(s, WRITE_LIFE);
-    let next = lent::load_u32(s, NEXT_SESSION);
-    for j in 0..SESSION_COUNT {
-        let at = SESSIONS_FROM + j * SESSION_WIDTH;
-        if !session_formed(&s[at..at + SESSION_WIDTH], until, next) {
+    let until = limit(s, layout::WRITE_LIFE);
+    let next = lent::load_u32(s, layout::NEXT_SESSION);
+    for j in 0..layout::SESSION_COUNT {
+        let at = layout::SESSIONS_FROM + j * layout::SESSION_WIDTH;
+        if !session_formed(&s[at..at + layout::SESSION_WIDTH], until, next) {
             return false;
         }
     }
@@ -284,10 +317,7 @@ fn records_join(s: &[u8]) -> bool
     requires { ⌜ length (now s) ≡ stateSize ⌝ }
     ensures { λ r. ⌜ r ≡ recordsJoin (now (s .entry)) ⌝ }
 {
-    if !joins::distinct(s, SESSIONS_FROM, SESSION_WIDTH, SESSION_COUNT) {
-        return false;
-    }
-    if !joins::distinct(s, TOKENS_FROM, KEY_WIDTH, KEY_COUNT) {
+    if !joins::distinct(s, TOKENS_FROM, layout::KEY_WIDTH, layout::KEY_COUNT) {
         return false;
     }
     joins::rows_join(s)
@@ -309,7 +339,7 @@ fn state_formed(s: &[u8]) -> bool
 pub fn well_formed(s: &[u8]) -> bool
     ensures { λ r. ⌜ r ≡ wellFormed (now (s .entry)) ⌝ }
 {
-    if s.len() != STATE_SIZE {
+    if s.len() != layout::STATE_SIZE {
         return false;
     }
     state_formed(s)

@@ -1,10 +1,11 @@
--- By the four returns, each the branch of `chosenPlace` that its tests choose.
-use Prim.Native.Nat.{ℕ, _-_}
-use mathlib.Core.Path.{sym, ap, _∙_}
-use borrow.Author.Tests.{eq-eqb, ne-eqb, lt-ltb, le-ltb}
-use Rattle.machine.specs.Sizes.{sessionCount}
-use Rattle.joins.specs.Joins.{item, chosenPlace, findPlace}
+-- A place at which n stands is its first, since it stands once; it stands nowhere if its places joined are 0.
+-- Assumes nothing.
+use Prim.Native.Nat.{_+_, _-_}
+use mathlib.Core.Path.{_≡_, sym, _∙_}
+use native.Mathlib.Omega.{arith}
+use borrow.Author.Tests.{eq-eqb}
 use borrow.Author.Needs.{needs}
+use Rattle.joins.proofs.Lookup.{first-at, first-none}
 use Rattle.joins.proofs.find.Statement.{statement}
 use Rattle.joins.proofs.find.Tie as tie
 
@@ -15,17 +16,13 @@ cast-r : tie.Need-cast-r
 cast-r c = search needs
 
 returns : tie.Need-returns
-unfolding findPlace
-returns c = let p : ℕ = c .before .places .result in
-    (sym (ap (chosenPlace (c .before .before .args .nums .now) (c .before .before .args .n)) (sym (c .before .places .ensures)) ∙ rw (eq-eqb p 0 (c .if1 .taken))), search needs)
+returns c = (first-none (c .before .before .args .nums .now) (c .before .before .args .n) (sym (c .before .places .ensures) ∙ eq-eqb (c .before .places .result) 0 (c .if1 .taken)), search needs)
 
 first-requires : tie.Need-first-requires
 first-requires c κs = search needs
 
 returns-2 : tie.Need-returns-2
-unfolding findPlace
-returns-2 c = let p : ℕ = c .before .before .before .places .result in
-    (sym (ap (chosenPlace (c .before .before .before .before .args .nums .now) (c .before .before .before .before .args .n)) (sym (c .before .before .before .places .ensures)) ∙ rw (ne-eqb p 0 (c .before .before .if1 .left), lt-ltb sessionCount p (c .before .if2 .taken)) (sym (c .first .ensures .0))), c .first .ensures .1)
+returns-2 c = search needs
 
 sub-if3 : tie.Need-sub-if3
 sub-if3 c = search needs
@@ -40,14 +37,11 @@ first-requires-2 : tie.Need-first-requires-2
 first-requires-2 c κs = search needs
 
 returns-3 : tie.Need-returns-3
-unfolding findPlace
-returns-3 c = let p : ℕ = c .before .before .before .before .before .places .result in
-    (sym (ap (chosenPlace (c .before .before .before .before .before .before .args .nums .now) (c .before .before .before .before .before .before .args .n)) (sym (c .before .before .before .before .before .places .ensures)) ∙ rw (ne-eqb p 0 (c .before .before .before .before .if1 .left), le-ltb sessionCount p (c .before .before .before .if2 .left), ne-eqb (item (c .before .before .before .before .before .before .args .nums .now) (p - 1)) (c .before .before .before .before .before .before .args .n) (c .before .if3 .taken)) (sym (c .first2 .ensures .0))), c .first2 .ensures .1)
+returns-3 c = search needs
 
 returns-4 : tie.Need-returns-4
-unfolding findPlace
-returns-4 c = let p : ℕ = c .before .before .before .before .places .result in
-    (sym (ap (chosenPlace (c .before .before .before .before .before .args .nums .now) (c .before .before .before .before .before .args .n)) (sym (c .before .before .before .before .places .ensures)) ∙ rw (ne-eqb p 0 (c .before .before .before .if1 .left), le-ltb sessionCount p (c .before .before .if2 .left), eq-eqb (item (c .before .before .before .before .before .args .nums .now) (p - 1)) (c .before .before .before .before .before .args .n) (c .if3 .left))), search needs)
+returns-4 c = let o : c .before .before .before .before .places .result ≡ c .before .before .before .before .places .result - 1 + 1 = omega arith in
+    (o ∙ first-at (c .before .before .before .before .before .args .nums .now) (c .before .before .before .before .before .args .n) (c .before .before .before .before .before .pre) (omega arith) (c .if3 .left), search needs)
 
 pub find-spec : {M : Type 1} → statement M
 find-spec =

@@ -1,66 +1,32 @@
--- The invariant: each row passed joins, and all is known at row i that `join` asks.
-use borrow.Author.Needs.{needs}
-use Prim.Native.Nat.{_-_, _≤_}
-use mathlib.Core.Path.{_≡_, refl, sym, _∙_}
-use mathlib.Core.Bool.{true}
-use native.Mathlib.Omega.{arith}
+-- The numbers side by side are those of the sessions; once they are distinct, the pass over the rows may start.
+-- Assumes nothing.
+use mathlib.Core.Path.{_≡_, sym, _∙_}
+use mathlib.Core.Bool.{true, false}
 use borrow.Author.Tests.{not-true, not-false}
-use Rattle.lent.specs.Tables.{every}
-use Rattle.lent.proofs.Walks.{every-more, every-fails}
-use Rattle.machine.specs.Sizes.{rowCount}
-use Rattle.joins.specs.Joins.{joinOk, Ready}
-use Rattle.joins.proofs.Joins.{seen-none}
-use Rattle.joins.proofs.Numbers.{gathered-none}
-use Rattle.joins.proofs.Pairs.{sized-none, no-pairs}
+use borrow.Author.Needs.{needs}
+use Rattle.machine.specs.Sizes.{sessionCount, sessionsFrom, sessionWidth}
+use Rattle.machine.specs.Sound.{distinct}
+use Rattle.joins.specs.Joins.{numbers}
+use Rattle.joins.proofs.Numbers.{gathered-none, distinct-gathered}
+use Rattle.joins.proofs.Seats.{seated-none}
 use Rattle.joins.proofs.rows_join.Statement.{statement}
 use Rattle.joins.proofs.rows_join.Tie as tie
 
-abbrev Inv-loop : tie.InvT-loop
-Inv-loop s nums hint seen₀ near₀ far₀ i₀ seen near far i = (i ≤ rowCount) × ((every (joinOk s) i ≡ true) × Ready s i nums hint seen near far)
-
-abbrev μ-loop : tie.MeasureT-loop
-μ-loop s nums hint seen₀ near₀ far₀ i₀ seen near far i = rowCount - i
-
-gather-requires : tie.Need-gather-requires Inv-loop μ-loop
+gather-requires : tie.Need-gather-requires
 gather-requires c κs = (search needs, (search needs, (search needs, gathered-none _)))
 
-hints-requires : tie.Need-hints-requires Inv-loop μ-loop
-hints-requires c κs = search needs
+all-new-requires : tie.Need-all-new-requires
+all-new-requires c κs = (search needs, seated-none _)
 
-loop-holds : tie.Need-loop-holds Inv-loop μ-loop
-unfolding every
-loop-holds c = (search needs, (refl, record { gathered = c .before .before .before .gather .ensures; sized = sized-none; rows = seen-none _ _ _ no-pairs }))
+returns : tie.Need-returns
+returns c = let d : distinct (numbers (c .before .before .before .before .before .before .before .args .s .now) sessionsFrom sessionWidth) sessionCount ≡ false = sym (distinct-gathered _ _ _ (c .before .before .before .before .gather .ensures)) ∙ (sym (c .before .all-new .ensures .0) ∙ not-true _ (c .if1 .taken)) in rw d
 
-join-requires : tie.Need-join-requires Inv-loop μ-loop
-join-requires c κs = (search needs, (search needs, c .before .before .before .before .before .before .loop .inv .1 .1))
+all-join-requires : tie.Need-all-join-requires
+all-join-requires c κs = (search needs, (c .before .before .before .all-new .ensures .1 (not-false _ (c .before .before .if1 .left)) .small, record { gathered = c .before .before .before .before .before .before .gather .ensures; once = sym (c .before .before .before .all-new .ensures .0) ∙ not-false _ (c .before .before .if1 .left) }))
 
-returns : tie.Need-returns Inv-loop μ-loop
-returns c = sym (every-fails _ rowCount (c .before .before .before .before .before .before .before .before .loop .i) (search needs) (sym (c .before .join .ensures .is) ∙ not-true _ (c .if1 .taken)))
-
-add-i : tie.Need-add-i Inv-loop μ-loop
-add-i c = search needs
-
-loop-less : tie.Need-loop-less Inv-loop μ-loop
-loop-less c = search needs
-
-loop-again : tie.Need-loop-again Inv-loop μ-loop
-loop-again c = (search needs, (every-more _ _ (c .before .before .before .before .before .before .before .before .loop .inv .1 .0) (sym (c .before .join .ensures .is) ∙ not-false _ (c .if1 .left)), c .before .join .ensures .next (not-false _ (c .if1 .left))))
-
-returns-2 : tie.Need-returns-2 Inv-loop μ-loop
-returns-2 c = let e : c .before .loop .i ≡ rowCount = omega arith in sym (rw e at (c .before .loop .inv .1 .0))
+returns-2 : tie.Need-returns-2
+returns-2 c = let d : distinct (numbers (c .before .before .before .before .before .before .before .before .before .before .args .s .now) sessionsFrom sessionWidth) sessionCount ≡ true = sym (distinct-gathered _ _ _ (c .before .before .before .before .before .before .before .gather .ensures)) ∙ (sym (c .before .before .before .before .all-new .ensures .0) ∙ not-false _ (c .before .before .before .if1 .left)) in rw d (c .all-join .ensures)
 
 pub rows-join-spec : {M : Type 1} → statement M
 rows-join-spec =
-    tie.close
-    (tie.spec
-    Inv-loop
-    μ-loop
-    gather-requires
-    hints-requires
-    loop-holds
-    join-requires
-    returns
-    add-i
-    loop-less
-    loop-again
-    returns-2)
+    tie.close (tie.spec gather-requires all-new-requires returns all-join-requires returns-2)

@@ -12,15 +12,15 @@ returns : tie.Need-returns
 unfolding fitted
 returns c = rw (lt-leb (c .before .before .args .n) valueMax (omega arith))
 
-add-is-zero : tie.Need-add-is-zero
-add-is-zero c = search needs
+add-is-bare : tie.Need-add-is-bare
+add-is-bare c = search needs
 
-is-zero-requires : tie.Need-is-zero-requires
-is-zero-requires c κs = search needs
+is-bare-requires : tie.Need-is-bare-requires
+is-bare-requires c κs = search needs
 
 returns-2 : tie.Need-returns-2
 unfolding fitted
-returns-2 c = rw (le-leb (c .before .before .before .args .n) valueMax (omega arith)) (c .is-zero .ensures)
+returns-2 c = rw (le-leb (c .before .before .before .args .n) valueMax (omega arith)) (c .is-bare .ensures)
 
 pub is-fitted-spec : {M : Type 1} → statement M
-is-fitted-spec = tie.close (tie.spec returns add-is-zero is-zero-requires returns-2)
+is-fitted-spec = tie.close (tie.spec returns add-is-bare is-bare-requires returns-2)

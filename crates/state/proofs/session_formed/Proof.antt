@@ -1,64 +1,74 @@
--- A session is free, or each test is the next of its conditions.
+-- A session is free, and its two words are 0, or each test is the next of its conditions.
 -- Assumes nothing.
-use mathlib.Core.Path.{ap, _∙_}
+use Prim.Native.Nat.{ℕ}
+use mathlib.Core.Path.{ap}
 use native.Mathlib.Omega.{arith}
+use lib.Dec.{eqb}
 use lib.ListN.{getD}
 use borrow.Author.Tests.{eq-eqb, ne-eqb, lt-ltb, le-ltb, le-leb, lt-leb}
 use borrow.Author.Needs.{needs}
-use Rattle.lent.specs.Bytes.{le16, le32}
-use Rattle.lent.specs.Tables.{allZero}
-use Rattle.lent.proofs.Splice.{win-whole}
-use Rattle.machine.specs.Sizes.{sessionWidth, stepMax}
+use Rattle.lent.specs.Bytes.{le16, le32, le64}
+use Rattle.machine.specs.Sizes.{stepMax}
 use Rattle.state.specs.Forms.{sessionFormed}
+use Rattle.state.proofs.Zeros.{session-free}
 use Rattle.state.proofs.session_formed.Statement.{statement}
 use Rattle.state.proofs.session_formed.Tie as tie
 
 load-u32-requires : tie.Need-load-u32-requires
 load-u32-requires c κs = search needs
 
-is-zero-requires : tie.Need-is-zero-requires
-is-zero-requires c κs = search needs
+load-u64-requires : tie.Need-load-u64-requires
+load-u64-requires c κs = search needs
 
 returns : tie.Need-returns
 unfolding sessionFormed
-returns c = let x = c .before .before .before .before .args .r .now in rw (eq-eqb (le32 x 0) 0 (omega arith)) (c .is-zero .ensures ∙ ap allZero (win-whole x sessionWidth (omega arith)))
+returns c = let x = c .before .before .before .before .before .args .r .now in rw (eq-eqb (le32 x 0) 0 (omega arith), session-free x (omega arith), ne-eqb (le64 x 0) 0 (omega arith))
+
+load-u64-requires-2 : tie.Need-load-u64-requires-2
+load-u64-requires-2 c κs = search needs
 
 returns-2 : tie.Need-returns-2
 unfolding sessionFormed
-returns-2 c = let x = c .before .before .before .before .args .r .now in rw (ne-eqb (le32 x 0) 0 (omega arith), le-ltb (le32 x 0) (c .before .before .before .before .args .next) (omega arith))
-
-shared-slice-read-if3 : tie.Need-shared-slice-read-if3
-shared-slice-read-if3 c = search needs
+returns-2 c = let x = c .before .before .before .before .before .before .args .r .now in rw (eq-eqb (le32 x 0) 0 (omega arith), session-free x (omega arith), eq-eqb (le64 x 0) 0 (omega arith)) (ap (λ (v : ℕ). eqb v 0) (c .load-u642 .ensures))
 
 returns-3 : tie.Need-returns-3
 unfolding sessionFormed
-returns-3 c = let x = c .before .before .before .before .before .before .args .r .now in rw (ne-eqb (le32 x 0) 0 (omega arith), lt-ltb (le32 x 0) (c .before .before .before .before .before .before .args .next) (omega arith), ne-eqb (getD x 5 0) 0 (omega arith))
+returns-3 c = let x = c .before .before .before .before .args .r .now in rw (ne-eqb (le32 x 0) 0 (omega arith), le-ltb (le32 x 0) (c .before .before .before .before .args .next) (omega arith))
+
+shared-slice-read-if4 : tie.Need-shared-slice-read-if4
+shared-slice-read-if4 c = search needs
+
+returns-4 : tie.Need-returns-4
+unfolding sessionFormed
+returns-4 c = let x = c .before .before .before .before .before .before .args .r .now in rw (ne-eqb (le32 x 0) 0 (omega arith), lt-ltb (le32 x 0) (c .before .before .before .before .before .before .args .next) (omega arith), ne-eqb (getD x 5 0) 0 (omega arith))
 
 load-u16-requires : tie.Need-load-u16-requires
 load-u16-requires c κs = search needs
 
-returns-4 : tie.Need-returns-4
+returns-5 : tie.Need-returns-5
 unfolding sessionFormed
-returns-4 c = let x = c .before .before .before .before .before .before .before .before .args .r .now in rw (ne-eqb (le32 x 0) 0 (omega arith), lt-ltb (le32 x 0) (c .before .before .before .before .before .before .before .before .args .next) (omega arith), eq-eqb (getD x 5 0) 0 (omega arith), lt-leb (le16 x 6) stepMax (omega arith))
+returns-5 c = let x = c .before .before .before .before .before .before .before .before .args .r .now in rw (ne-eqb (le32 x 0) 0 (omega arith), lt-ltb (le32 x 0) (c .before .before .before .before .before .before .before .before .args .next) (omega arith), eq-eqb (getD x 5 0) 0 (omega arith), lt-leb (le16 x 6) stepMax (omega arith))
 
 life-formed-requires : tie.Need-life-formed-requires
 life-formed-requires c κs = search needs
 
-returns-5 : tie.Need-returns-5
+returns-6 : tie.Need-returns-6
 unfolding sessionFormed
-returns-5 c = let x = c .before .before .before .before .before .before .before .before .before .args .r .now in rw (ne-eqb (le32 x 0) 0 (omega arith), lt-ltb (le32 x 0) (c .before .before .before .before .before .before .before .before .before .args .next) (omega arith), eq-eqb (getD x 5 0) 0 (omega arith), le-leb (le16 x 6) stepMax (omega arith)) (c .life-formed .ensures)
+returns-6 c = let x = c .before .before .before .before .before .before .before .before .before .args .r .now in rw (ne-eqb (le32 x 0) 0 (omega arith), lt-ltb (le32 x 0) (c .before .before .before .before .before .before .before .before .before .args .next) (omega arith), eq-eqb (getD x 5 0) 0 (omega arith), le-leb (le16 x 6) stepMax (omega arith)) (c .life-formed .ensures)
 
 pub session-formed-spec : {M : Type 1} → statement M
 session-formed-spec =
     tie.close
     (tie.spec
     load-u32-requires
-    is-zero-requires
+    load-u64-requires
     returns
+    load-u64-requires-2
     returns-2
-    shared-slice-read-if3
     returns-3
-    load-u16-requires
+    shared-slice-read-if4
     returns-4
+    load-u16-requires
+    returns-5
     life-formed-requires
-    returns-5)
+    returns-6)

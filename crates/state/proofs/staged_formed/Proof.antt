@@ -1,10 +1,14 @@
--- The mark picks the case, and the kind is tested before the bytes.
+-- The mark picks the case, and mark and kind are tested before the bytes.
 -- Assumes nothing.
 use native.Mathlib.Omega.{arith}
+use lib.Dec.{eqb}
 use lib.ListN.{getD}
 use borrow.Author.Tests.{eq-eqb, ne-eqb, le-leb, lt-leb}
 use borrow.Author.Needs.{needs}
+use Rattle.lent.specs.Bytes.{win}
+use Rattle.lent.specs.Tables.{allZero}
 use Rattle.state.specs.Forms.{stagedFormed}
+use Rattle.state.proofs.Tests.{failed, passed, if-both}
 use Rattle.state.proofs.staged_formed.Statement.{statement}
 use Rattle.state.proofs.staged_formed.Tie as tie
 
@@ -28,27 +32,19 @@ returns-2 : tie.Need-returns-2
 unfolding stagedFormed
 returns-2 c = let x = c .before .before .before .before .before .before .before .args .r .now in rw (eq-eqb (getD x 6 0) 1 (omega arith), le-leb 2 (c .before .before .before .before .before .before .before .args .kind) (omega arith), ← c .before .index .ensures .0) (c .is-fitted .ensures)
 
+is-marked-requires : tie.Need-is-marked-requires
+is-marked-requires c κs = search needs
+
 returns-3 : tie.Need-returns-3
 unfolding stagedFormed
-returns-3 c = let x = c .before .before .before .before .before .args .r .now in rw (ne-eqb (getD x 6 0) 1 (omega arith), eq-eqb (getD x 6 0) 2 (omega arith), ne-eqb (c .before .before .before .before .before .args .kind) 3 (omega arith))
+returns-3 c = let x = c .before .before .before .before .before .args .r .now in rw (ne-eqb (getD x 6 0) 1 (omega arith), if-both (eqb (getD x 6 0) 2) (eqb (c .before .before .before .before .before .args .kind) 3) (eqb (getD x 6 0) 0) (allZero (win x 7 65)), failed (c .before .is-marked .ensures) (c .if3 .taken))
 
-is-zero-requires : tie.Need-is-zero-requires
-is-zero-requires c κs = search needs
+is-plain-requires : tie.Need-is-plain-requires
+is-plain-requires c κs = search needs
 
 returns-4 : tie.Need-returns-4
 unfolding stagedFormed
-returns-4 c = let x = c .before .before .before .before .before .before .args .r .now in rw (ne-eqb (getD x 6 0) 1 (omega arith), eq-eqb (getD x 6 0) 2 (omega arith), eq-eqb (c .before .before .before .before .before .before .args .kind) 3 (omega arith)) (c .is-zero .ensures)
-
-returns-5 : tie.Need-returns-5
-unfolding stagedFormed
-returns-5 c = let x = c .before .before .before .before .before .args .r .now in rw (ne-eqb (getD x 6 0) 1 (omega arith), ne-eqb (getD x 6 0) 2 (omega arith), ne-eqb (getD x 6 0) 0 (omega arith))
-
-is-zero-requires-2 : tie.Need-is-zero-requires-2
-is-zero-requires-2 c κs = search needs
-
-returns-6 : tie.Need-returns-6
-unfolding stagedFormed
-returns-6 c = let x = c .before .before .before .before .before .before .args .r .now in rw (ne-eqb (getD x 6 0) 1 (omega arith), ne-eqb (getD x 6 0) 2 (omega arith), eq-eqb (getD x 6 0) 0 (omega arith)) (c .is-zero2 .ensures)
+returns-4 c = let x = c .before .before .before .before .before .before .args .r .now in rw (ne-eqb (getD x 6 0) 1 (omega arith), if-both (eqb (getD x 6 0) 2) (eqb (c .before .before .before .before .before .before .args .kind) 3) (eqb (getD x 6 0) 0) (allZero (win x 7 65)), passed (c .before .before .is-marked .ensures) (c .before .if3 .left)) (c .is-plain .ensures)
 
 pub staged-formed-spec : {M : Type 1} → statement M
 staged-formed-spec =
@@ -60,9 +56,7 @@ staged-formed-spec =
     index-requires
     is-fitted-requires
     returns-2
+    is-marked-requires
     returns-3
-    is-zero-requires
-    returns-4
-    returns-5
-    is-zero-requires-2
-    returns-6)
+    is-plain-requires
+    returns-4)
