@@ -15,7 +15,7 @@ use works::{Trial, PARTS, WORKS};
 const USAGE: &str = "usage:
   bench times                         ns of the check
   bench commands                      commands a second
-  bench call WHO STATE TIMES          the check alone; WHO is plain, proved or second, STATE fresh, light, full, colliding or one-slot|crowded
+  bench call WHO STATE TIMES          the check alone; WHO is plain, proved or second, STATE fresh, light, full, colliding, one-slot or crowded
   bench work PART STATE WORK TIMES    PART is proved, second, proved-check, second-check or nothing, STATE light or full,
                                       WORK get-hit, get-miss, session or sweep";
 
