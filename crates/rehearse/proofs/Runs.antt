@@ -11,9 +11,9 @@ use Rattle.lent.proofs.Splice.{win-splice}
 use Rattle.feed.specs.Lines.{heldMax}
 use Rattle.feed.specs.Answers.{Said, Open, behind, fed}
 use Rattle.feed.proofs.Cut.{fed-append}
-use Rattle.script.specs.World.{World, answerLine, ended, rehearsed}
+use Rattle.script.specs.World.{World, answerLine, ended, rehearsed, unread}
 use Rattle.script.specs.Buffers.{Printed, Says}
-use Rattle.script.proofs.Whole.{unread, fed-ended}
+use Rattle.script.proofs.Whole.{fed-ended}
 use Rattle.rehearse.specs.Turns.{Poured, Turned, Rehearsed}
 use Rattle.rehearse.specs.declared.Went.{Went}
 

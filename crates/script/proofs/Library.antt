@@ -43,18 +43,18 @@ part-room out put h =
     le-leb lineRoom (length (take (put + textMax - put) (drop put out))) (omega arith)
 
 -- the two calls, where there is room
-module _ (cache book part : List ℕ) (room : leb lineRoom (length part) ≡ true) where
-  line-put : (l cache′ book′ x : List ℕ) (r : ℕ) → Leaves (lineOf cache book l part) r cache′ book′ x
+module _ (book part : List ℕ) (room : leb lineRoom (length part) ≡ true) where
+  line-put : (cache l cache′ book′ x : List ℕ) (r : ℕ) → Leaves (lineOf cache book l part) r cache′ book′ x
       → Put (answerLine (worldOf cache book) l .text) part r x × (worldOf cache′ book′ ≡ answerLine (worldOf cache book) l .world)
   unfolding lineOf answerLine
-  line-put l cache′ book′ x r = rw room (go (eqb (length book) bookSize))
+  line-put cache l cache′ book′ x r = rw room (go (eqb (length book) bookSize))
     where
       go : (t : Bool) → Leaves (if t && true then wrote (turn cache book l) part else record { length = 0; cache = cache; book = book; out = part }) r cache′ book′ x
           → let s = if t then turned (turn cache book l) else record { world = worldOf cache book; text = [] } in Put (s .text) part r x × (worldOf cache′ book′ ≡ s .world)
       go true e = (record { number = e .length; bytes = e .out }, rw (e .cache, e .book))
       go false e = (record { number = e .length; bytes = e .out ∙ sym (splice-none part 0) }, rw (e .cache, e .book))
 
-  end-put : (x : List ℕ) (r : ℕ) → (r ≡ endOf book part .length) × (x ≡ endOf book part .out) → Put (endLine (worldOf cache book)) part r x
+  end-put : (x : List ℕ) (r : ℕ) → (r ≡ endOf book part .length) × (x ≡ endOf book part .out) → Put (endLine book) part r x
   unfolding endOf endLine
   end-put x r = rw room (go (eqb (length book) bookSize))
     where
@@ -64,15 +64,15 @@ module _ (cache book part : List ℕ) (room : leb lineRoom (length part) ≡ tru
       go false e = record { number = e .0; bytes = e .1 ∙ sym (splice-none part 0) }
 
 -- the same in the whole buffer
-module _ (cache book out : List ℕ) (put : ℕ) (h : put + textMax ≤ length out) (x : List ℕ) (r : ℕ)
+module _ (book out : List ℕ) (put : ℕ) (h : put + textMax ≤ length out) (x : List ℕ) (r : ℕ)
     (same : length x ≡ length (take (put + textMax - put) (drop put out))) where
-  pub line-said : (l cache′ book′ : List ℕ) → Leaves (lineOf cache book l (take (put + textMax - put) (drop put out))) r cache′ book′ x
+  pub line-said : (cache l cache′ book′ : List ℕ) → Leaves (lineOf cache book l (take (put + textMax - put) (drop put out))) r cache′ book′ x
       → Says (answerLine (worldOf cache book) l) (worldOf cache′ book′) out put (take put out ++ (x ++ drop (put + textMax - put) (drop put out))) (put + r) × (r ≤ textMax)
-  line-said l cache′ book′ e =
-      let p = line-put cache book _ (part-room out put h) l cache′ book′ x r e in
+  line-said cache l cache′ book′ e =
+      let p = line-put book _ (part-room out put h) cache l cache′ book′ x r e in
       let q = put-printed out _ x put r h same (p .0) in
       (record { world = p .1; printed = q .0 }, q .1)
 
   pub end-said : let e = endOf book (take (put + textMax - put) (drop put out)) in (r ≡ e .length) × (x ≡ e .out)
-      → Printed (endLine (worldOf cache book)) out put (take put out ++ (x ++ drop (put + textMax - put) (drop put out))) (put + r) × (r ≤ textMax)
-  end-said e = put-printed out _ x put r h same (end-put cache book _ (part-room out put h) x r e)
+      → Printed (endLine book) out put (take put out ++ (x ++ drop (put + textMax - put) (drop put out))) (put + r) × (r ≤ textMax)
+  end-said e = put-printed out _ x put r h same (end-put book _ (part-room out put h) x r e)

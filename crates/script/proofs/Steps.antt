@@ -45,14 +45,14 @@ module _ (cache book line out : List ℕ) (held b put : ℕ) (after : List ℕ) 
       )
 
 module _ (cache book line out : List ℕ) (held : ℕ) (h : Holds line held) where
-  pub finish-none : (out′ : List ℕ) (next : ℕ) → held ≡ 0 → Printed (endLine (worldOf cache book)) out 0 out′ next
+  pub finish-none : (out′ : List ℕ) (next : ℕ) → held ≡ 0 → Printed (endLine book) out 0 out′ next
       → Says (ended (worldOf cache book) (take held line)) (worldOf cache book) out 0 out′ next
   unfolding ended
   finish-none out′ next z p = rw (z, last-none answerLine (worldOf cache book)) (record { world = refl; printed = p })
 
   pub finish-line : (cache′ book′ mid out′ : List ℕ) (put next : ℕ) → (held ≡ 0 → ⊥)
       → Says (answerLine (worldOf cache book) (take held line)) (worldOf cache′ book′) out 0 mid put
-      → Printed (endLine (worldOf cache′ book′)) mid put out′ next
+      → Printed (endLine book′) mid put out′ next
       → Says (ended (worldOf cache book) (take held line)) (worldOf cache′ book′) out 0 out′ next
   unfolding ended
   finish-line cache′ book′ mid out′ put next z p q =

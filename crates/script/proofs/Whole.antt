@@ -6,11 +6,7 @@ use Prim.Native.Nat.{ℕ}
 use Rattle.feed.specs.Lines.{handed}
 use Rattle.feed.specs.Answers.{Said, Open, behind, answers, fed, last}
 use Rattle.feed.proofs.Cut.{fed-none, fed-append, whole-lines}
-use Rattle.script.specs.World.{World, answerLine, endLine, closed, ended, rehearsed}
-
--- nothing has been read
-abbrev pub unread : World → Open World
-unread w = record { world = w; held = [] }
+use Rattle.script.specs.World.{World, answerLine, endLine, closed, ended, rehearsed, unread, chunks, joined}
 
 -- all of an input at once, and then its end
 pub fed-ended : (w : World) (input : List ℕ)
@@ -20,17 +16,8 @@ fed-ended w input =
     let f = fed answerLine (unread w) input in
     let l = last answerLine (f .world .world) (f .world .held) in
     let a : behind (f .text) (closed l) ≡ closed (behind (f .text) l) =
-    ap (λ (t : List ℕ). record { world = l .world; text = t }) (sym (append-assoc (f .text) (l .text) (endLine (l .world)))) in
+    ap (λ (t : List ℕ). record { world = l .world; text = t }) (sym (append-assoc (f .text) (l .text) (endLine (l .world .book)))) in
     a ∙ ap closed (whole-lines answerLine w input)
-
--- chunks in turn
-abbrev joined : List (List ℕ) → List ℕ
-joined [] = []
-joined (c ∷ cs) = c ++ joined cs
-
-unfoldable pub chunks : Open World → List (List ℕ) → Said (Open World)
-chunks o [] = record { world = o; text = [] }
-chunks o (c ∷ cs) = let s = fed answerLine o c in behind (s .text) (chunks (s .world) cs)
 
 chunks-joined : (o : Open World) (cs : List (List ℕ)) → chunks o cs ≡ fed answerLine o (joined cs)
 unfolding chunks

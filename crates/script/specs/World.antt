@@ -1,11 +1,11 @@
 -- A rehearsal of an input, by the library's definitions of a line and of the end.
 use Prim.Native.Nat.{ℕ}
-use mathlib.Core.List.{List, [], _++_}
+use mathlib.Core.List.{List, [], _∷_, _++_}
 use lib.Dec.{eqb}
 use lib.ListN.{length}
 use Rattle.lent.specs.Tables.{if_then_else_}
 use Rattle.feed.specs.Lines.{handed}
-use Rattle.feed.specs.Answers.{Said, answers, last}
+use Rattle.feed.specs.Answers.{Said, Open, behind, answers, last, fed}
 use Rattle.book.specs.Book.{bookSize, linesIn, brokenIn}
 use Rattle.replies.specs.Replies as replies
 use Rattle.rehearsal.specs.Rehearsal.{Turn, turn}
@@ -22,13 +22,13 @@ turned t = record { world = record { cache = t .cache; book = t .book }; text = 
 unfoldable pub answerLine : World → List ℕ → Said World
 answerLine w l = if eqb (length (w .book)) bookSize then turned (turn (w .cache) (w .book) l) else record { world = w; text = [] }
 
--- the end line
-unfoldable pub endLine : World → List ℕ
-endLine w = if eqb (length (w .book)) bookSize then replies.ended (linesIn (w .book)) (brokenIn (w .book)) else []
+-- the end line of a book
+unfoldable pub endLine : List ℕ → List ℕ
+endLine b = if eqb (length b) bookSize then replies.ended (linesIn b) (brokenIn b) else []
 
 -- the end line behind what was said last
 abbrev pub closed : Said World → Said World
-closed s = record { world = s .world; text = s .text ++ endLine (s .world) }
+closed s = record { world = s .world; text = s .text ++ endLine (s .world .book) }
 
 -- the end of the input, where the bytes `held` came since the last newline
 unfoldable pub ended : World → List ℕ → Said World
@@ -37,3 +37,15 @@ ended w held = closed (last answerLine w held)
 -- a whole input: an output line for each of its lines, and the end line
 unfoldable pub rehearsed : World → List ℕ → Said World
 rehearsed w input = closed (answers answerLine w (handed input))
+
+-- an input that comes in chunks: nothing has been read, the chunks in turn, and all of them
+abbrev pub unread : World → Open World
+unread w = record { world = w; held = [] }
+
+unfoldable pub chunks : Open World → List (List ℕ) → Said (Open World)
+chunks o [] = record { world = o; text = [] }
+chunks o (c ∷ cs) = let s = fed answerLine o c in behind (s .text) (chunks (s .world) cs)
+
+abbrev pub joined : List (List ℕ) → List ℕ
+joined [] = []
+joined (c ∷ cs) = c ++ joined cs

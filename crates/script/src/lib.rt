@@ -34,9 +34,9 @@ fn answer(cache: &mut [u8], book: &mut [u8], line: &[u8], out: &mut [u8], put: u
 }
 
 // The end line into `out` at `put`; the place behind it.
-fn end(cache: &[u8], book: &[u8], out: &mut [u8], put: usize) -> usize
+fn end(book: &[u8], out: &mut [u8], put: usize) -> usize
     requires { ⌜ put + textMax ≤ length (now out) ⌝ }
-    ensures { λ r. ⌜ Printed (endLine (worldOf (now (cache .entry)) (now (book .entry)))) (now (out .entry)) put (now (out .exit)) r ⌝ }
+    ensures { λ r. ⌜ Printed (endLine (now (book .entry))) (now (out .entry)) put (now (out .exit)) r ⌝ }
 {
     let until = put + TEXT_MAX;
     let n = rehearsal::end(book, &mut out[put..until]);
@@ -108,8 +108,8 @@ pub fn finish(cache: &mut [u8], book: &mut [u8], line: &[u8], held: usize, out: 
     ensures { λ r. ⌜ Says (ended (worldOf (now (cache .entry)) (now (book .entry))) (take held (now (line .entry)))) (worldOf (now (cache .exit)) (now (book .exit))) (now (out .entry)) 0 (now (out .exit)) r ⌝ }
 {
     if held == 0 {
-        return end(cache, book, out, 0);
+        return end(book, out, 0);
     }
     let put = answer(cache, book, &line[..held], out, 0);
-    end(cache, book, out, put)
+    end(book, out, put)
 }

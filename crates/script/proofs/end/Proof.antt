@@ -22,13 +22,13 @@ end-requires : tie.Need-end-requires
 end-requires c κs = search needs
 
 add-result : tie.Need-add-result
-add-result c = let p = end-said (c .before .before .before .before .before .before .before .args .cache .now) _ _ _ (c .before .before .before .before .before .before .before .pre) _ _ (search needs) (c .before .before .end .ensures) in omega (arith, c .before .before .before .before .before .before .before .pre, p .1)
+add-result c = let p = end-said _ _ _ (c .before .before .before .before .before .before .pre) _ _ (search needs) (c .before .before .end .ensures) in omega (arith, c .before .before .before .before .before .before .pre, p .1)
 
 same-length : tie.Need-same-length
 same-length c = search needs
 
 returns : tie.Need-returns
-returns c = end-said _ _ _ _ (c .before .before .before .before .before .before .before .pre) _ _ (search needs) (c .before .before .end .ensures) .0
+returns c = end-said _ _ _ (c .before .before .before .before .before .before .pre) _ _ (search needs) (c .before .before .end .ensures) .0
 
 pub end-spec : {M : Type 1} → statement M
 end-spec =

@@ -18,11 +18,8 @@ same-length c = search needs
 same-length-2 : tie.Need-same-length-2
 same-length-2 c = search needs
 
-same-length-3 : tie.Need-same-length-3
-same-length-3 c = search needs
-
 returns : tie.Need-returns
-returns c = finish-none _ _ _ _ _ (c .before .before .before .before .before .before .before .before .before .before .before .pre .1) _ _ (c .before .before .before .before .before .before .if1 .taken) (c .before .before .end .ensures)
+returns c = finish-none _ _ _ _ _ (c .before .before .before .before .before .before .before .before .before .before .pre .1) _ _ (c .before .before .before .before .before .if1 .taken) (c .before .before .end .ensures)
 
 slice-aggregate-answer : tie.Need-slice-aggregate-answer
 slice-aggregate-answer c = sym (length-take-le _ _ (omega (arith, c .before .before .before .before .before .before .before .before .pre .1 .size, c .before .before .before .before .before .before .before .before .pre .1 .most)))
@@ -31,7 +28,10 @@ answer-requires : tie.Need-answer-requires
 answer-requires c κs = search needs
 
 end-requires-2 : tie.Need-end-requires-2
-end-requires-2 c κs = let l = printed-length (c .before .before .before .before .before .before .before .before .before .answer .ensures .0 .printed) in omega (arith, c .before .before .before .before .before .before .before .before .before .answer .ensures .1)
+end-requires-2 c κs = let l = printed-length (c .before .before .before .before .before .before .before .before .answer .ensures .0 .printed) in omega (arith, c .before .before .before .before .before .before .before .before .answer .ensures .1)
+
+same-length-3 : tie.Need-same-length-3
+same-length-3 c = search needs
 
 same-length-4 : tie.Need-same-length-4
 same-length-4 c = search needs
@@ -39,11 +39,8 @@ same-length-4 c = search needs
 same-length-5 : tie.Need-same-length-5
 same-length-5 c = search needs
 
-same-length-6 : tie.Need-same-length-6
-same-length-6 c = search needs
-
 returns-2 : tie.Need-returns-2
-returns-2 c = finish-line _ _ _ _ _ (c .before .before .before .before .before .before .before .before .before .before .before .before .before .before .before .before .before .before .before .before .before .before .pre .1) _ _ _ _ _ _ (c .before .before .before .before .before .before .before .before .before .before .before .before .before .before .before .before .before .if1 .left) (c .before .before .before .before .before .before .before .before .before .before .before .before .answer .ensures .0) (c .before .before .end2 .ensures)
+returns-2 c = finish-line _ _ _ _ _ (c .before .before .before .before .before .before .before .before .before .before .before .before .before .before .before .before .before .before .before .before .before .pre .1) _ _ _ _ _ _ (c .before .before .before .before .before .before .before .before .before .before .before .before .before .before .before .before .if1 .left) (c .before .before .before .before .before .before .before .before .before .before .before .answer .ensures .0) (c .before .before .end2 .ensures)
 
 pub finish-spec : {M : Type 1} → statement M
 finish-spec =
@@ -52,12 +49,11 @@ finish-spec =
     end-requires
     same-length
     same-length-2
-    same-length-3
     returns
     slice-aggregate-answer
     answer-requires
     end-requires-2
+    same-length-3
     same-length-4
     same-length-5
-    same-length-6
     returns-2)
