@@ -105,7 +105,7 @@ pub fn store_value(s: &mut [u8], at: usize, v: &[u8])
     requires { ⌜ (length (now v) ≤ valueMax) × (at + valueMax ≤ length (now s)) ⌝ }
     ensures { λ _. ⌜ now (s .exit) ≡ splice (now (s .entry)) at (padded (now (v .entry))) ⌝ }
 {
-    lent::copy_in(s, at, v);
+    stretches::copy_in(s, at, v);
     let n = v.len();
-    lent::clear(s, at + n, VALUE_MAX - n);
+    stretches::clear(s, at + n, VALUE_MAX - n);
 }

@@ -5,11 +5,11 @@ use mathlib.Core.Path.{_≡_, refl, sym}
 use native.Mathlib.Omega.{arith}
 use lib.ListN.{length, length-set}
 use borrow.Author.Needs.{needs}
 use Rattle.lent.specs.Bytes.{splice, win}
 use Rattle.lent.proofs.Splice.{splice-none}
 use Rattle.lent.proofs.Stores.{copy-down-turn}
-use Rattle.lent.proofs.copy_down.Statement.{statement}
-use Rattle.lent.proofs.copy_down.Tie as tie
+use Rattle.stretches.proofs.copy_down.Statement.{statement}
+use Rattle.stretches.proofs.copy_down.Tie as tie
 
 abbrev Inv-loop : tie.InvT-loop
 Inv-loop s₀ from to n i₀ s i = (i ≤ n) × ((length s ≡ length s₀) × (s ≡ splice s₀ to (win s₀ from i)))

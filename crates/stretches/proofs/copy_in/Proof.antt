@@ -6,11 +6,11 @@ use native.Mathlib.Nat.{zero-add}
 use native.Mathlib.Omega.{arith}
 use lib.ListN.{length, length-set}
 use borrow.Author.Needs.{needs}
 use Rattle.lent.specs.Bytes.{splice, win}
 use Rattle.lent.proofs.Splice.{splice-none, win-whole}
 use Rattle.lent.proofs.Stores.{copy-turn}
-use Rattle.lent.proofs.copy_in.Statement.{statement}
-use Rattle.lent.proofs.copy_in.Tie as tie
+use Rattle.stretches.proofs.copy_in.Statement.{statement}
+use Rattle.stretches.proofs.copy_in.Tie as tie
 
 abbrev Inv-loop : tie.InvT-loop
 Inv-loop s₀ at v n i₀ s i = (i ≤ n) × ((length s ≡ length s₀) × (s ≡ splice s₀ at (win v 0 i)))
