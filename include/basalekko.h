@@ -16,7 +16,7 @@
  *  - The state lies where the host likes and lives as long as the host likes. It is plain bytes: it may be copied, moved, saved and
  *    loaded; the place that a HIT tells counts from its first byte and holds until the next command.
  *  - 80 KiB of stack for basalekko_run, 16 KiB for the others (tools/linked prints what they need at most), and the C library's
- *    memcpy and memset. Nothing else is called: no allocation, no system call, no floating point.
+ *    memcpy and memset (libbasalekko-alone.a has them). Nothing else is called: no allocation, no system call, no floating point.
  */
 #ifndef BASALEKKO_H
 #define BASALEKKO_H
