@@ -149,7 +149,7 @@ pub fn delta(
     if layout::KEY_COUNT as u64 <= key {
         return Answer::Refused(3);
     }
-    if !machine::is_operation(operation) {
+    if !decisions::is_operation(operation) {
         return Answer::Refused(3);
     }
     if stages::STEP_MAX <= step {

@@ -57,7 +57,7 @@ pub fn is_blocked(s: &[u8], k: usize) -> bool
     requires { ⌜ (length (now s) ≡ stateSize) × (k < keyCount) ⌝ }
     ensures { λ r. ⌜ ((σ : State) → Holds (now (s .entry)) σ → sound σ ≡ true → r ≡ blocked σ k) ⌝ }
 {
-    refuses(machine::decide(held(s, k), 0))
+    refuses(decisions::decide(held(s, k), 0))
 }
 
 // Sealed if one of two lives is; else open until the later deadline.

@@ -13,7 +13,6 @@ use Rattle.machine.specs.Decision.{decisions, decision, grants}
 use Rattle.machine.specs.declared.Verdict.{Verdict}
 use Rattle.machine.specs.declared.Verdict.the-variants.{Grant, Void, BackOff, Abort}
 use Rattle.machine.proofs.Views.{caseOf, clash, and-true₁, and-true₂}
-use Rattle.machine.proofs.Decided.{getD-any}
 use mathlib.Core.Logic.{_⊎_, inl, inr}
 
 -- nothing held: granted; an I lease asked where anything is held: back off; a Q where an I lease is held: granted and the I lease voided;
@@ -49,6 +48,12 @@ rowBy held = map (verdictBy held) (from 0 4)
 
 computed : decisions ≡ map rowBy (from 0 5)
 computed = refl
+
+-- within a list the default does not matter
+pub getD-any : {A : Type 0} (l : List A) (i : ℕ) (d e : A) → i < length l → getD l i d ≡ getD l i e
+getD-any [] i d e h = absurd (omega arith)
+getD-any (x ∷ l) zero d e h = refl
+getD-any (x ∷ l) (suc i) d e h = getD-any l i d e (omega arith)
 
 at-map : {A B : Type 0} (f : A → B) (l : List A) (i : ℕ) (d : A) (e : B) → i < length l → getD (map f l) i e ≡ f (getD l i d)
 at-map f l i d e h = getD-any (map f l) i e (f d) (rw (length-map l f) h) ∙ List·getD-map f l i d

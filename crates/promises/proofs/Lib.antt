@@ -4,3 +4,4 @@ pub mod OneAnswer
 pub mod HitShown
 pub mod ExamplesRun
 pub mod Linked
+pub mod Witness

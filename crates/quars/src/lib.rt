@@ -83,7 +83,7 @@ fn ask(s: &mut [u8], n: u32, place: usize, k: u8, kind: u8) -> Answer
     ensures { λ r. ⌜ ((σ : State) → Holds (now (s .entry)) σ → sound σ ≡ true → numbered n (sessionAt σ place) ≡ true → Gives (ask σ n k kind) r (now (s .exit))) ⌝ }
 {
     let held = held(s, k as usize);
-    match machine::decide(held, kind as usize) {
+    match decisions::decide(held, kind as usize) {
         Verdict::Grant => grant(s, n, k, kind),
         Verdict::Void => grant(s, n, k, kind),
         Verdict::BackOff => abort(s, n, place),
@@ -109,7 +109,7 @@ pub fn quar(s: &mut [u8], session: u64, key: u64, kind: u64) -> Answer
     if layout::KEY_COUNT as u64 <= key {
         return Answer::Refused(3);
     }
-    if !machine::is_kind(kind) {
+    if !decisions::is_kind(kind) {
         return Answer::Refused(3);
     }
     match askers::find(s, session) {

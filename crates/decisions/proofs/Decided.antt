@@ -6,9 +6,10 @@ use native.Mathlib.Omega.{arith}
 use lib.Dec.{eqb}
 use lib.ListN.{length, getD, getD-replicate, List·getD-map}
 use Rattle.lent.specs.Tables.{if_then_else_}
 use Rattle.machine.specs.Decision.{decisions, decision}
 use Rattle.machine.specs.declared.Verdict.{Verdict}
 use Rattle.machine.specs.declared.Verdict.the-variants.{Grant, Void, BackOff, Abort}
+use Rattle.machine.proofs.Table.{getD-any}
 
 abbrev pub numbers : List (List ℕ)
 numbers =
@@ -21,12 +22,6 @@ numbers =
 
 abbrev pub verdictOf : ℕ → Verdict
 verdictOf n = if eqb n 0 then Grant else if eqb n 1 then Void else if eqb n 2 then BackOff else Abort
-
--- within a list the default does not matter
-pub getD-any : {A : Type 0} (l : List A) (i : ℕ) (d e : A) → i < length l → getD l i d ≡ getD l i e
-getD-any [] i d e h = absurd (omega arith)
-getD-any (x ∷ l) zero d e h = refl
-getD-any (x ∷ l) (suc i) d e h = getD-any l i d e (omega arith)
 
 four : (held : ℕ) → held < 5 → length (getD numbers held []) ≡ 4
 four held h = sym (List·getD-map (λ (l : List ℕ). length l) numbers held []) ∙ getD-replicate 5 held 4 0 h

@@ -3,9 +3,9 @@ use borrow.Author.Needs.{needs}
 use borrow.Author.Tests.{ne-eqb}
 use native.Mathlib.Omega.{arith}
 use mathlib.Core.Path.{_≡_, sym, ap, _∙_}
-use Rattle.machine.proofs.Decided.{verdictOf, entry-decides}
-use Rattle.machine.proofs.decide.Statement.{statement}
-use Rattle.machine.proofs.decide.Tie as tie
+use Rattle.decisions.proofs.Decided.{verdictOf, entry-decides}
+use Rattle.decisions.proofs.decide.Statement.{statement}
+use Rattle.decisions.proofs.decide.Tie as tie
 
 mul-entry : tie.Need-mul-entry
 mul-entry c = search needs
