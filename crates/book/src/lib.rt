@@ -92,7 +92,7 @@ fn note_is(b: &[u8], i: usize, v: &[u8]) -> bool
     let n = note_length(b, i);
     let at = NOTES_FROM + i * NOTE_WIDTH + 1;
     let end = at + n;
-    stretches::same(v, &b[at..end])
+    blocks::same(v, &b[at..end])
 }
 
 fn put_note(b: &mut [u8], i: usize, v: &[u8])
@@ -102,7 +102,7 @@ fn put_note(b: &mut [u8], i: usize, v: &[u8])
     let at = NOTES_FROM + i * NOTE_WIDTH;
     let n = v.len();
     lent::store_u8(b, at, n as u8);
-    stretches::copy_in(b, at + 1, v);
+    blocks::copy_in(b, at + 1, v);
 }
 
 // Note i also as note j, behind it.
@@ -114,7 +114,7 @@ fn copy_note(b: &mut [u8], i: usize, j: usize)
     let from = NOTES_FROM + i * NOTE_WIDTH + 1;
     let to = NOTES_FROM + j * NOTE_WIDTH;
     lent::store_u8(b, to, n as u8);
-    stretches::copy_within(b, from, to + 1, n);
+    blocks::copy_within(b, from, to + 1, n);
 }
 
 // Whether the value is the one that the register holds for the key; what is no key has none, which is empty.

@@ -64,13 +64,13 @@ fn lapsing(s: &mut [u8], time: u64, command: Command, value: &[u8]) -> Answer
     ensures { λ r. ⌜ Does (now (s .entry)) (λ σ. step σ time command (now (value .entry))) r (now (s .exit)) ⌝ }
 {
     let mut copy: [u8; 65536] = [0; 65536];
-    stretches::copy_in(&mut copy, 0, s);
+    blocks::copy_in(&mut copy, 0, s);
     sweep::sweep(&mut copy, time);
     let answer = still(&mut copy, time, command, value);
     if outcome::is_refused(answer) {
         return answer;
     }
-    stretches::copy_in(s, 0, &copy);
+    blocks::copy_in(s, 0, &copy);
     answer
 }
 

@@ -52,8 +52,8 @@ fn join(a: &[u8], b: &[u8], out: &mut [u8]) -> Changed
     if layout::VALUE_MAX - n < m {
         return Changed::Drop;
     }
-    stretches::copy_in(out, 0, a);
-    stretches::copy_in(out, n, b);
+    blocks::copy_in(out, 0, a);
+    blocks::copy_in(out, n, b);
     Changed::To(n + m)
 }
 

@@ -79,5 +79,5 @@ pub fn fill(s: &mut [u8], k: usize, v: &[u8])
 {
     put_value(s, k, v);
     let at = layout::KEYS_FROM + k * layout::KEY_WIDTH;
-    stretches::clear(s, at + layout::KEY_TOKEN, LEASE_WIDTH);
+    blocks::clear(s, at + layout::KEY_TOKEN, LEASE_WIDTH);
 }

@@ -105,7 +105,7 @@ pub fn store_value(s: &mut [u8], at: usize, v: &[u8])
     requires { ⌜ (length (now v) ≤ valueMax) × (at + valueMax ≤ length (now s)) ⌝ }
     ensures { λ _. ⌜ now (s .exit) ≡ splice (now (s .entry)) at (padded (now (v .entry))) ⌝ }
 {
-    stretches::copy_in(s, at, v);
+    blocks::copy_in(s, at, v);
     let n = v.len();
-    stretches::clear(s, at + n, VALUE_MAX - n);
+    blocks::clear(s, at + n, VALUE_MAX - n);
 }

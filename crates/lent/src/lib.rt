@@ -1,4 +1,4 @@
-// Bytes of a lent buffer: numbers at a place, and the bits of a word. Stretches are cleared, copied and compared by the crate `stretches`.
+// Bytes of a lent buffer: numbers at a place, and the bits of a word. Stretches are cleared, copied and compared by the crate `blocks`.
 ghost use mathlib.Core.Path.{_≡_};
 ghost use mathlib.Core.List.{[], _∷_};
 ghost use Prim.Native.Nat.{_+_, _≤_, _<_};

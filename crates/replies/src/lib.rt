@@ -106,7 +106,7 @@ fn text(out: &mut [u8], at: usize, v: &[u8], after: u8) -> usize
     ensures { λ r. ⌜ Put (now (out .entry)) at (field (now (v .entry)) after) r (now (out .exit)) ⌝ }
 {
     let last = at + v.len();
-    stretches::copy_in(out, at, v);
+    blocks::copy_in(out, at, v);
     byte(out, last, after)
 }
 

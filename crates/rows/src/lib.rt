@@ -128,7 +128,7 @@ pub fn put(s: &mut [u8], i: usize, session: u32, key: u8, kind: u8)
     let at = layout::ROWS_FROM + i * layout::ROW_WIDTH;
     lent::store_u32(s, at, session);
     layout::store_pair(s, at + layout::ROW_KEY, key, kind);
-    stretches::clear(
+    blocks::clear(
         s,
         at + layout::ROW_STAGED,
         layout::ROW_WIDTH - layout::ROW_STAGED,
@@ -153,5 +153,5 @@ pub fn stage_drop(s: &mut [u8], i: usize)
 {
     let at = layout::ROWS_FROM + i * layout::ROW_WIDTH;
     layout::store_pair(s, at + layout::ROW_STAGED, 2, 0);
-    stretches::clear(s, at + layout::ROW_VALUE, layout::VALUE_MAX);
+    blocks::clear(s, at + layout::ROW_VALUE, layout::VALUE_MAX);
 }

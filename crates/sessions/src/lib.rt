@@ -93,7 +93,7 @@ pub fn free(s: &mut [u8], i: usize)
     requires { ⌜ (length (now s) ≡ stateSize) × (i < sessionCount) ⌝ }
     ensures { λ _. ⌜ ((σ : State) → Holds (now (s .entry)) σ → Holds (now (s .exit)) (withSessions σ (set (σ .sessions) i noSession))) ⌝ }
 {
-    stretches::clear(
+    blocks::clear(
         s,
         layout::SESSIONS_FROM + i * layout::SESSION_WIDTH,
         layout::SESSION_WIDTH,

@@ -28,7 +28,7 @@ fn write_fresh(s: &mut [u8], read: u32, write: u32)
     requires { ⌜ length (now s) ≡ stateSize ⌝ }
     ensures { λ _. ⌜ now (s .exit) ≡ encode (fresh read write) ⌝ }
 {
-    stretches::clear(s, 0, layout::STATE_SIZE);
+    blocks::clear(s, 0, layout::STATE_SIZE);
     lent::store_u32(s, layout::READ_LIFE, read);
     lent::store_u32(s, layout::WRITE_LIFE, write);
     lent::store_u32(s, layout::NEXT_SESSION, 1);

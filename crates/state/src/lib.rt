@@ -60,7 +60,7 @@ fn head_formed(s: &[u8]) -> bool
     if lent::load_u32(s, layout::NEXT_TOKEN) < 1 {
         return false;
     }
-    stretches::is_zero(s, HEAD_USED, HEAD_UNUSED)
+    blocks::is_zero(s, HEAD_USED, HEAD_UNUSED)
 }
 
 // Whether the n bytes at a and the n bytes at b are all 0.
@@ -99,7 +99,7 @@ fn is_bare(s: &[u8], from: usize, n: usize) -> bool
         }
         return lent::load_u32(s, from + (n - 4)) == 0;
     }
-    stretches::is_zero(s, from, n)
+    blocks::is_zero(s, from, n)
 }
 
 // A value of n bytes in the 64 at `at`, zero behind it.
@@ -118,7 +118,7 @@ fn value_formed(r: &[u8]) -> bool
     ensures { λ b. ⌜ b ≡ valueFormed (now (r .entry)) ⌝ }
 {
     if lent::load_u32(r, 0) == 0 {
-        return stretches::is_zero(r, layout::KEY_VALUE, layout::VALUE_MAX);
+        return blocks::is_zero(r, layout::KEY_VALUE, layout::VALUE_MAX);
     }
     if r[0] != 1 {
         return false;
@@ -162,7 +162,7 @@ fn is_plain(r: &[u8]) -> bool
     if r[layout::ROW_LENGTH] != 0 {
         return false;
     }
-    stretches::is_zero(r, layout::ROW_VALUE, layout::VALUE_MAX)
+    blocks::is_zero(r, layout::ROW_VALUE, layout::VALUE_MAX)
 }
 
 // Whether a row of this kind may have the mark of a row without a value: nothing, or DROP.
@@ -197,7 +197,7 @@ fn row_formed(r: &[u8]) -> bool
     ensures { λ b. ⌜ b ≡ rowFormed (now (r .entry)) ⌝ }
 {
     if lent::load_u32(r, 0) == 0 {
-        return stretches::is_zero(r, 0, layout::ROW_WIDTH);
+        return blocks::is_zero(r, 0, layout::ROW_WIDTH);
     }
     let kind = r[layout::ROW_KIND];
     if kind < 1 {
@@ -310,7 +310,7 @@ fn tables_formed(s: &[u8]) -> bool
     if !sessions_formed(s) {
         return false;
     }
-    stretches::is_zero(s, REST_FROM, REST_SIZE)
+    blocks::is_zero(s, REST_FROM, REST_SIZE)
 }
 
 fn records_join(s: &[u8]) -> bool

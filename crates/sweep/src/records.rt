@@ -42,7 +42,7 @@ pub fn free_row(s: &mut [u8], i: usize)
     requires { ⌜ (length (now s) ≡ stateSize) × (i < rowCount) ⌝ }
     ensures { λ _. ⌜ ((σ : State) → Holds (now (s .entry)) σ → Holds (now (s .exit)) (withRows σ (set (σ .rows) i noRow))) ⌝ }
 {
-    stretches::clear(
+    blocks::clear(
         s,
         layout::ROWS_FROM + i * layout::ROW_WIDTH,
         layout::ROW_WIDTH,
@@ -53,7 +53,7 @@ pub fn drop_lease(s: &mut [u8], k: usize)
     requires { ⌜ (length (now s) ≡ stateSize) × (k < keyCount) ⌝ }
     ensures { λ _. ⌜ ((σ : State) → Holds (now (s .entry)) σ → Holds (now (s .exit)) (withKeys σ (setLease (σ .keys) k none))) ⌝ }
 {
-    stretches::clear(
+    blocks::clear(
         s,
         layout::KEYS_FROM + k * layout::KEY_WIDTH + layout::KEY_TOKEN,
         LEASE_WIDTH,
@@ -66,8 +66,8 @@ pub fn drop_value(s: &mut [u8], k: usize)
     ensures { λ _. ⌜ ((σ : State) → Holds (now (s .entry)) σ → Holds (now (s .exit)) (withKeys σ (setValue (σ .keys) k none))) ⌝ }
 {
     let at = layout::KEYS_FROM + k * layout::KEY_WIDTH;
-    stretches::clear(s, at, MARK_WIDTH);
-    stretches::clear(s, at + layout::KEY_VALUE, layout::VALUE_MAX);
+    blocks::clear(s, at, MARK_WIDTH);
+    blocks::clear(s, at + layout::KEY_VALUE, layout::VALUE_MAX);
 }
 
 // What row i has staged becomes the value of key k: mark and length stand side by side in both, and the 64 bytes are the same.
@@ -81,8 +81,8 @@ pub fn cache_staged(s: &mut [u8], k: usize, i: usize)
     }
     let from = layout::ROWS_FROM + i * layout::ROW_WIDTH;
     let at = layout::KEYS_FROM + k * layout::KEY_WIDTH;
-    stretches::copy_within(s, from + layout::ROW_STAGED, at, MARK_WIDTH);
-    stretches::copy_within(
+    blocks::copy_within(s, from + layout::ROW_STAGED, at, MARK_WIDTH);
+    blocks::copy_within(
         s,
         from + layout::ROW_VALUE,
         at + layout::KEY_VALUE,

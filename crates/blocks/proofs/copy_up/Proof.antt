@@ -9,8 +9,8 @@ use borrow.Author.Needs.{needs}
 use Rattle.lent.specs.Bytes.{splice, win}
 use Rattle.lent.proofs.Splice.{splice-none, win-none}
 use Rattle.lent.proofs.Stores.{copy-up-turn}
-use Rattle.stretches.proofs.copy_up.Statement.{statement}
-use Rattle.stretches.proofs.copy_up.Tie as tie
+use Rattle.blocks.proofs.copy_up.Statement.{statement}
+use Rattle.blocks.proofs.copy_up.Tie as tie
 
 abbrev Inv-loop : tie.InvT-loop
 Inv-loop s₀ from to n i₀ s i = (i ≤ n) × ((length s ≡ length s₀) × (s ≡ splice s₀ (to + i) (win s₀ (from + i) (n - i))))

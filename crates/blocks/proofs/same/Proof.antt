@@ -9,8 +9,8 @@ use lib.Seq.{take-length}
 use borrow.Author.Needs.{needs}
 use Rattle.lent.specs.Tables.{same}
 use Rattle.lent.proofs.Equal.{same-lengths, same-turn}
-use Rattle.stretches.proofs.same.Statement.{statement}
-use Rattle.stretches.proofs.same.Tie as tie
+use Rattle.blocks.proofs.same.Statement.{statement}
+use Rattle.blocks.proofs.same.Tie as tie
 
 abbrev Inv-loop : tie.InvT-loop
 Inv-loop a b n seen₀ i₀ seen i = (i ≤ n) × (eqb seen 0 ≡ same (take i a) (take i b))

@@ -9,8 +9,8 @@ use borrow.Author.Needs.{needs}
 use Rattle.lent.specs.Bytes.{splice, win}
 use Rattle.lent.proofs.Splice.{splice-none, win-whole}
 use Rattle.lent.proofs.Stores.{copy-turn}
-use Rattle.stretches.proofs.copy_in.Statement.{statement}
-use Rattle.stretches.proofs.copy_in.Tie as tie
+use Rattle.blocks.proofs.copy_in.Statement.{statement}
+use Rattle.blocks.proofs.copy_in.Tie as tie
 
 abbrev Inv-loop : tie.InvT-loop
 Inv-loop s₀ at v n i₀ s i = (i ≤ n) × ((length s ≡ length s₀) × (s ≡ splice s₀ at (win v 0 i)))

@@ -1,4 +1,4 @@
-// Stretches of a lent buffer, cleared, copied and compared.
+// Blocks of bytes of a lent buffer, cleared, copied and compared.
 ghost use mathlib.Core.Path.{_≡_};
 ghost use Prim.Native.Nat.{_+_, _≤_};
 ghost use lib.ListN.{length};

@@ -8,8 +8,8 @@ use borrow.Author.Needs.{needs}
 use Rattle.lent.specs.Bytes.{win}
 use Rattle.lent.specs.Tables.{allZero}
 use Rattle.lent.proofs.Zeros.{or-turn}
-use Rattle.stretches.proofs.is_zero.Statement.{statement}
-use Rattle.stretches.proofs.is_zero.Tie as tie
+use Rattle.blocks.proofs.is_zero.Statement.{statement}
+use Rattle.blocks.proofs.is_zero.Tie as tie
 
 abbrev Inv-loop : tie.InvT-loop
 Inv-loop s from n seen₀ i₀ seen i = (i ≤ n) × (eqb seen 0 ≡ allZero (win s from i))

@@ -8,8 +8,8 @@ use borrow.Author.Needs.{needs}
 use Rattle.lent.specs.Bytes.{splice, zeros}
 use Rattle.lent.proofs.Splice.{splice-none}
 use Rattle.lent.proofs.Stores.{clear-turn}
-use Rattle.stretches.proofs.clear.Statement.{statement}
-use Rattle.stretches.proofs.clear.Tie as tie
+use Rattle.blocks.proofs.clear.Statement.{statement}
+use Rattle.blocks.proofs.clear.Tie as tie
 
 abbrev Inv-loop : tie.InvT-loop
 Inv-loop s₀ at n i₀ s i = (i ≤ n) × ((length s ≡ length s₀) × (s ≡ splice s₀ at (zeros i)))
