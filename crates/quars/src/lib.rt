@@ -65,7 +65,7 @@ fn grant(s: &mut [u8], n: u32, k: u8, kind: u8) -> Answer
         return Answer::Refused(12);
     };
     rows::put(s, i, n, k, kind);
-    sweep::records::drop_lease(s, k as usize);
+    drops::drop_lease(s, k as usize);
     Answer::Granted
 }
 
@@ -73,7 +73,7 @@ fn abort(s: &mut [u8], n: u32, place: usize) -> Answer
     requires { ⌜ (length (now s) ≡ stateSize) × (place < sessionCount) ⌝ }
     ensures { λ r. ⌜ ((σ : State) → Holds (now (s .entry)) σ → sound σ ≡ true → numbered n (sessionAt σ place) ≡ true → Gives (abort σ n) r (now (s .exit))) ⌝ }
 {
-    sweep::leave(s, n, place);
+    endings::leave(s, n, place);
     Answer::Aborted
 }
 
