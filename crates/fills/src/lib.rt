@@ -43,6 +43,6 @@ pub fn evict(s: &mut [u8], key: u64) -> Answer
     if !keys::has_value(s, k) {
         return Answer::Empty;
     }
-    sweep::records::drop_value(s, k);
+    drops::drop_value(s, k);
     Answer::Evicted
 }

@@ -1,7 +1,7 @@
 -- What GET comes to, case by case: each test of its list of refusals decided, in its order, then what the asker sees. A holder of a row
 -- meets no test beyond the session's; anyone else meets the test of the numbers only where a lease would be given.
 -- Assumes nothing.
-use mathlib.Core.Path.{_≡_, refl, sym, ap}
+use mathlib.Core.Path.{_≡_, refl, ap}
 use mathlib.Core.Bool.{Bool, true, false, not, _&&_}
 use mathlib.Core.List.{List, [], _∷_}
 use mathlib.Core.Option.{Option, none, some}
@@ -10,54 +10,21 @@ use native.Mathlib.Numerals.{add-one}
 use native.Mathlib.Omega.{arith}
 use lib.Dec.{eqb, leb}
 use lib.ListN.{length}
-use borrow.Author.Tests.{eq-eqb, ne-eqb, le-leb, lt-leb}
+use borrow.Author.Tests.{le-leb, lt-leb}
 use Rattle.lent.specs.Tables.{if_then_else_}
-use Rattle.machine.specs.Sizes.{keyCount, sessionCount, rowCount, numberMax}
+use Rattle.machine.specs.Sizes.{keyCount, numberMax}
 use Rattle.machine.specs.Tables.{first}
-use Rattle.machine.specs.State.{Slot, noSession, session, Row, noRow, row, State, free, freeRow, numbered, ofOn, sessionPlace, sessionAt, rowPlace, rowOf, rowAt, cached}
+use Rattle.machine.specs.State.{noRow, State, freeRow, rowOf, cached}
 use Rattle.machine.specs.Expiry.{withKeys, withNumbers, setLease}
 use Rattle.machine.specs.Refusals.{Sight as Seen, blocked, cachedSight, sight, wouldLease, notLive, refusals}
 use Rattle.machine.specs.Effects.{Outcome, told, wait, leased, missed, looked as lookedAt, effect}
 use Rattle.machine.specs.declared.Answer.{Answer}
 use Rattle.machine.specs.declared.Command.the-variants.{Get}
 use Rattle.layout.specs.Holds.{Holds}
-use Rattle.layout.specs.Search.{found}
-use Rattle.layout.specs.declared.Found.{Found}
-use Rattle.layout.proofs.Search.{found-entry, found-passes, nothing-entry}
 use Rattle.outcome.specs.Outcome.{unless, tried, Gives}
-use Rattle.gets.specs.Sights.{placed}
+use Rattle.sights.specs.Sights.{placed}
 use Rattle.gets.specs.Got.{asked, absent, looked, others}
-use Rattle.gets.specs.declared.Sight.{Sight}
-
--- ---- a session that is not live, other than 0
-
-numbered-live : (n : ℕ) (e : Slot) → numbered n e ≡ true → free e ≡ false
-numbered-live n noSession p = sym p
-numbered-live n (session x) p = refl
-
-module _ (s : State) (n : ℕ) where
-  pub known-zero : n ≡ 0 → (not (eqb n 0) && notLive s n) ≡ false
-  known-zero e = rw (eq-eqb n 0 e)
-
-  module _ (z : n ≡ 0 → ⊥) (l : length (s .sessions) ≡ sessionCount) where
-    pub known-live : (i : ℕ) → found sessionCount (sessionPlace s n) ≡ Found.At i → (not (eqb n 0) && notLive s n) ≡ false
-    known-live i f =
-        rw (ne-eqb n 0 z, found-entry (numbered n) noSession (s .sessions) sessionCount i f)
-        (numbered-live n (sessionAt s i) (found-passes (numbered n) noSession (s .sessions) sessionCount i l f))
-
-    pub unknown-missing : found sessionCount (sessionPlace s n) ≡ Found.Nothing → (not (eqb n 0) && notLive s n) ≡ true
-    unknown-missing f = rw (ne-eqb n 0 z, nothing-entry (numbered n) noSession (s .sessions) sessionCount l f)
-
--- ---- a row of one's own
-
-on-taken : (n k : ℕ) (r : Row) → ofOn n k r ≡ true → freeRow r ≡ false
-on-taken n k noRow e = sym e
-on-taken n k (row m j d u) e = refl
-
-pub row-taken : (s : State) (n k i : ℕ) → length (s .rows) ≡ rowCount → found rowCount (rowPlace s n k) ≡ Found.At i → freeRow (rowOf s n k) ≡ false
-row-taken s n k i l f =
-    rw (found-entry (ofOn n k) noRow (s .rows) rowCount i f)
-    (on-taken n k (rowAt s i) (found-passes (ofOn n k) noRow (s .rows) rowCount i l f))
+use Rattle.sights.specs.declared.Sight.{Sight}
 
 -- ---- an absent key, anyone else
 

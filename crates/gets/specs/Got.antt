@@ -9,7 +9,7 @@ use Rattle.machine.specs.State.{State, cached}
 use Rattle.machine.specs.Refusals.{Sight as Seen, blocked, cachedSight}
 use Rattle.machine.specs.Effects.{Outcome, told, wait, leased}
 use Rattle.machine.specs.declared.Answer.{Answer}
-use Rattle.gets.specs.declared.Sight.{Sight}
+use Rattle.sights.specs.declared.Sight.{Sight}
 
 -- a holder: HIT, or ASK
 abbrev pub asked : Sight → Answer

@@ -10,7 +10,7 @@ use Rattle.machine.specs.declared.Answer.{Answer}
 use Rattle.machine.specs.declared.Command.{Command}
 use Rattle.layout.specs.WellFormed.{wellFormed}
 use Rattle.startup.specs.Start.{Reply, startOf}
-use Rattle.gets.specs.Stretch.{Stretch}
+use Rattle.stretches.specs.Stretch.{Stretch}
 use Rattle.show.specs.Show.{showOf}
 use Rattle.cache.specs.Run.{ran, ranBy}
 use Rattle.cache.specs.declared.Numbered.{Numbered}

@@ -5,17 +5,13 @@ use mathlib.Core.List.{[], _∷_}
 use mathlib.Core.Option.{none}
 use lib.Dec.{eqb}
 use Rattle.lent.specs.Tables.{if_then_else_}
-use Rattle.machine.specs.Tables.{isNone, putAt}
+use Rattle.machine.specs.Tables.{putAt}
 use Rattle.machine.specs.Decision.{grants}
-use Rattle.machine.specs.State.{State, row, nothing, freeRow, kindOf, rowOf, leaseOn}
+use Rattle.machine.specs.State.{State, row, nothing, freeRow, kindOf, rowOf}
 use Rattle.machine.specs.Expiry.{withKeys, withRows, setLease, leave}
 use Rattle.machine.specs.Refusals.{decide, rowsFull}
 use Rattle.machine.specs.Effects.{Outcome, told}
 use Rattle.machine.specs.declared.Answer.{Answer}
-
--- held where no row is on key k
-abbrev pub leaseHeld : State → ℕ → ℕ
-leaseHeld s k = if isNone (leaseOn s k) then 0 else 1
 
 abbrev pub granted : State → ℕ → ℕ → ℕ → Outcome
 granted s n k kind = told Answer.Granted (withKeys (withRows s (putAt freeRow (row n k kind nothing) (s .rows))) (setLease (s .keys) k none))

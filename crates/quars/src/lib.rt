@@ -5,14 +5,13 @@ ghost use mathlib.Core.List.{[]};
 ghost use Prim.Native.Nat.{_≤_, _<_};
 ghost use lib.Dec.{eqb};
 ghost use lib.ListN.{length};
-ghost use Rattle.machine.specs.Sizes.{stateSize, keyCount, sessionCount};
+ghost use Rattle.machine.specs.Sizes.{stateSize, sessionCount};
 ghost use Rattle.machine.specs.State.{State, kindOf, rowOf, numbered, sessionAt};
-ghost use Rattle.machine.specs.Refusals.{heldOn};
 ghost use Rattle.machine.specs.Sound.{sound};
 ghost use Rattle.machine.specs.declared.Command.the-variants.{Quar};
 ghost use Rattle.layout.specs.Holds.{Holds};
 ghost use Rattle.outcome.specs.Outcome.{tried, Gives, Does};
-ghost use Rattle.quars.specs.Asking.{leaseHeld, grant, abort, ask, hold};
+ghost use Rattle.quars.specs.Asking.{grant, abort, ask, hold};
 use askers::Asker;
 use layout::Found;
 use machine::Answer;
@@ -29,33 +28,6 @@ fn holds(s: &[u8], n: u32, k: u8, kind: u8) -> bool
     rows::kind(s, i) == kind
 }
 
-// 1 if an I lease is on key k, else 0.
-fn lease_held(s: &[u8], k: usize) -> usize
-    requires { ⌜ (length (now s) ≡ stateSize) × (k < keyCount) ⌝ }
-    ensures { λ r. ⌜ ((σ : State) → Holds (now (s .entry)) σ → r ≡ leaseHeld σ k) × (r < 5) ⌝ }
-{
-    if keys::lease_token(s, k) == 0 {
-        return 0;
-    }
-    1
-}
-
-// What is held on key k, by its place in the decision table. A row's kind is 1 to 3.
-fn held(s: &[u8], k: usize) -> usize
-    requires { ⌜ (length (now s) ≡ stateSize) × (k < keyCount) ⌝ }
-    ensures { λ r. ⌜ ((σ : State) → Holds (now (s .entry)) σ → sound σ ≡ true → r ≡ heldOn σ k) × (r < 5) ⌝ }
-{
-    let Found::At(i) = rows::first_on(s, k) else {
-        return lease_held(s, k);
-    };
-    let kind = rows::kind(s, i);
-    match kind {
-        1 => 2,
-        2 => 3,
-        _ => 4,
-    }
-}
-
 // The lowest free row is taken and the I lease voided; where there is none, the refusal is ROOM.
 fn grant(s: &mut [u8], n: u32, k: u8, kind: u8) -> Answer
     requires { ⌜ length (now s) ≡ stateSize ⌝ }
@@ -65,7 +37,7 @@ fn grant(s: &mut [u8], n: u32, k: u8, kind: u8) -> Answer
         return Answer::Refused(12);
     };
     rows::put(s, i, n, k, kind);
-    sweep::records::drop_lease(s, k as usize);
+    drops::drop_lease(s, k as usize);
     Answer::Granted
 }
 
@@ -73,7 +45,7 @@ fn abort(s: &mut [u8], n: u32, place: usize) -> Answer
     requires { ⌜ (length (now s) ≡ stateSize) × (place < sessionCount) ⌝ }
     ensures { λ r. ⌜ ((σ : State) → Holds (now (s .entry)) σ → sound σ ≡ true → numbered n (sessionAt σ place) ≡ true → Gives (abort σ n) r (now (s .exit))) ⌝ }
 {
-    sweep::leave(s, n, place);
+    endings::leave(s, n, place);
     Answer::Aborted
 }
 
@@ -82,7 +54,7 @@ fn ask(s: &mut [u8], n: u32, place: usize, k: u8, kind: u8) -> Answer
     requires { ⌜ (length (now s) ≡ stateSize) × ((place < sessionCount) × (kind < 4)) ⌝ }
     ensures { λ r. ⌜ ((σ : State) → Holds (now (s .entry)) σ → sound σ ≡ true → numbered n (sessionAt σ place) ≡ true → Gives (ask σ n k kind) r (now (s .exit))) ⌝ }
 {
-    let held = held(s, k as usize);
+    let held = holdings::held(s, k as usize);
     match decisions::decide(held, kind as usize) {
         Verdict::Grant => grant(s, n, k, kind),
         Verdict::Void => grant(s, n, k, kind),

@@ -24,8 +24,7 @@ use Rattle.layout.specs.declared.Found.{Found}
 use Rattle.layout.proofs.Formed.{formed, holds-decoded}
 use Rattle.layout.proofs.Search.{found-at, found-nothing}
 use Rattle.turns.proofs.Cases.{located, unlocated}
-use Rattle.gets.proofs.Sights.{row-missing}
-use Rattle.gets.proofs.Got.{row-taken}
+use Rattle.sights.proofs.Sights.{row-missing, row-taken}
 use Rattle.book.specs.Book.{mark, withMark}
 use Rattle.rules.specs.Rules.{mayWrite, marked}
 use Rattle.rules.specs.Tests.{Writes}

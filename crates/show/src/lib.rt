@@ -1,9 +1,9 @@
 // SHOW, in two calls on the same state: one answers, the other gives the stretch alone.
 ghost use mathlib.Core.Path.{_≡_};
-ghost use Rattle.gets.specs.Stretch.{spanOf, Stretch};
+ghost use Rattle.stretches.specs.Stretch.{spanOf, Stretch};
 ghost use Rattle.show.specs.Show.{showOf};
-use gets::Span;
 use machine::Answer;
+use stretches::Span;
 
 // VALUE with the length, NONE, or the refusal.
 pub fn show(s: &[u8], session: u64, key: u64) -> Answer
@@ -12,7 +12,7 @@ pub fn show(s: &[u8], session: u64, key: u64) -> Answer
     if !state::well_formed(s) {
         return Answer::Refused(1);
     }
-    gets::show(s, session, key)
+    stretches::show(s, session, key)
 }
 
 // The part of the lent state that holds the value; for NONE and on a refusal the empty one at its first byte.
@@ -22,7 +22,7 @@ pub fn stretch(s: &[u8], session: u64, key: u64) -> &[u8]
     if !state::well_formed(s) {
         return &s[..0];
     }
-    gets::stretch(s, session, key)
+    stretches::stretch(s, session, key)
 }
 
 // That part by its place and its length.
@@ -32,5 +32,5 @@ pub fn part(s: &[u8], session: u64, key: u64) -> Span
     if !state::well_formed(s) {
         return Span { at: 0, length: 0 };
     }
-    gets::part(s, session, key)
+    stretches::part(s, session, key)
 }

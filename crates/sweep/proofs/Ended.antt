@@ -1,5 +1,5 @@
--- The three loops over a state: each is a pass over one table, and the pass over the rows hands the keys along. The rows and keys
--- after the last are those of `finish` and of `leave`, which settle the keys along the rows in the same order.
+-- The loops over the keys and over the sessions: each is a pass over one table, and a session that the loop has not come to stands as before,
+-- so the numbers noted are those of the sessions that were due.
 -- Assumes nothing.
 use mathlib.Core.Path.{_≡_, refl, sym, ap, _∙_}
 use mathlib.Core.Bool.{Bool, true, false}
@@ -7,55 +7,15 @@ use mathlib.Core.List.{List, [], _∷_, _++_, map}
 use Prim.Native.Nat.{ℕ, _+_, _<_}
 use native.Mathlib.Numerals.{add-one}
 use native.Mathlib.Omega.{arith}
-use lib.ListN.{length, getD, set, take}
+use lib.ListN.{length, take}
 use lib.Seq.{take-suc}
 use Rattle.lent.specs.Tables.{if_then_else_, iter}
-use Rattle.machine.specs.Sizes.{keyCount, sessionCount, rowCount}
-use Rattle.machine.specs.Tables.{mem}
+use Rattle.machine.specs.Sizes.{keyCount, sessionCount}
 use Rattle.machine.specs.Session.{isDue}
-use Rattle.machine.specs.State.{Key, blank, Slot, noSession, session, Staged, Row, noRow, row, State, keyOf, sessionAt, rowAt}
-use Rattle.machine.specs.Expiry.{withKeys, withSessions, withRows, setValue, freeIfOf, freeSession, leave, settle, finish, lapsedLease, lapsedValue, those}
-use Rattle.machine.specs.Effects.{toCache}
-use Rattle.sweep.specs.Ends.{settled, settles, rowSettles, endRow, endRows}
+use Rattle.machine.specs.State.{blank, Slot, noSession, session, State, sessionAt}
+use Rattle.machine.specs.Expiry.{withKeys, withSessions, lapsedLease, those}
+use Rattle.endings.proofs.Passes.{next-old, pass-part, pass-whole}
 use Rattle.sweep.specs.Lapsing.{lapseKey, freeDue, noted, endDue}
-use Rattle.sweep.specs.declared.Ending.{Ending}
-use Rattle.sweep.proofs.Passes.{along, next-old, pass-part, pass-whole}
-
-if-same : {A : Type 0} (t : Bool) (a : A) → (if t then a else a) ≡ a
-if-same true a = refl
-if-same false a = refl
-
-module _ (e : Ending) (ns : List ℕ) where
-  -- one row more in front
-  settled-cons : (r : Row) (rs : List Row) (ks : List Key) → settled e ns rs (rowSettles e ns r ks) ≡ settled e ns (r ∷ rs) ks
-  settled-cons r rs ks = go e r
-    where
-      go : (e : Ending) (r : Row) → settled e ns rs (rowSettles e ns r ks) ≡ settled e ns (r ∷ rs) ks
-      go Ending.Leaves noRow = refl
-      go Ending.Leaves (row n k d u) = if-same (mem n ns) ks
-      go Ending.Lapses noRow = refl
-      go Ending.Lapses (row n k d u) = refl
-      go Ending.Caches noRow = refl
-      go Ending.Caches (row n k d u) = refl
-
-  settled-none : (ks : List Key) → settled e ns [] ks ≡ ks
-  settled-none ks = go e
-    where
-      go : (e : Ending) → settled e ns [] ks ≡ ks
-      go Ending.Leaves = refl
-      go Ending.Lapses = refl
-      go Ending.Caches = refl
-
-  -- the keys handed along the rows
-  along-settled : (rs : List Row) (ks : List Key) → along (rowSettles e ns) rs ks ≡ settled e ns rs ks
-  along-settled [] ks = sym (settled-none ks)
-  along-settled (r ∷ rs) ks = along-settled rs (rowSettles e ns r ks) ∙ settled-cons r rs ks
-
-  pub rows-ended : (s : State) → length (s .rows) ≡ rowCount → iter (endRow e ns) rowCount s ≡ endRows e ns s
-  unfolding endRow endRows
-  rows-ended s h =
-      pass-whole (freeIfOf ns) (rowSettles e ns) noRow (λ rs ks. withRows (withKeys s ks) rs) (endRow e ns) (λ i rs ks. refl) (s .rows) (s .keys) rowCount h
-      ∙ rw (along-settled (s .rows) (s .keys))
 
 pub keys-lapsed : (now : ℕ) (s : State) → length (s .keys) ≡ keyCount → iter (lapseKey now) keyCount s ≡ withKeys s (map (lapsedLease now) (s .keys))
 unfolding lapseKey

@@ -1,22 +1,20 @@
 -- Where nothing lapses, expiry changes nothing: no lease goes, no session is due, and the rows of no sessions end.
 -- Assumes nothing.
-use mathlib.Core.Path.{_≡_, refl, sym, ap, ap₂, _∙_}
-use mathlib.Core.Bool.{Bool, true, false, _||_}
+use mathlib.Core.Path.{_≡_, refl, ap, ap₂}
+use mathlib.Core.Bool.{Bool, false}
 use mathlib.Core.Option.{Option, none, some}
 use mathlib.Core.List.{List, [], _∷_, map}
-use Prim.Native.Nat.{ℕ, zero, suc}
-use lib.ListN.{length, getD}
-use Rattle.lent.specs.Tables.{if_then_else_, some as someAt}
+use Prim.Native.Nat.{ℕ}
 use Rattle.lent.proofs.Choices.{or-no}
-use Rattle.machine.specs.Tables.{any, mem}
+use Rattle.machine.specs.Tables.{any}
 use Rattle.machine.specs.Session.{isDue}
 use Rattle.machine.specs.State.{Value, Lease, Key, Slot, noSession, session, Staged, Row, noRow, row, State}
-use Rattle.machine.specs.Expiry.{withKeys, freeSession, freeIfOf, settle, leave, finish, lapsedValue, unlapsed, lapsedLease, those, expire}
+use Rattle.machine.specs.Expiry.{freeSession, freeIfOf, settle, leave, finish, lapsedValue, unlapsed, lapsedLease, those, expire}
 use Rattle.machine.specs.Effects.{toCache}
-use Rattle.machine.specs.declared.Session.{Session}
-use Rattle.sweep.specs.declared.Ending.{Ending}
-use Rattle.sweep.specs.Ends.{settled, endRows}
-use Rattle.sweep.specs.Lapsing.{lapsed, lapsedOn, dueSlot, lapsing}
+use Rattle.endings.specs.declared.Ending.{Ending}
+use Rattle.endings.specs.Ends.{settled, endRows}
+use Rattle.deadlines.specs.Deadlines.{lapsed, lapsedOn, dueSlot}
+use Rattle.sweep.specs.Lapsing.{lapsing}
 
 -- a map that changes only what passes a test that nothing passes
 unmapped : {A : Type 0} (p : A → Bool) (f : A → A) → ((x : A) → p x ≡ false → f x ≡ x) → (l : List A) → any p l ≡ false → map f l ≡ l

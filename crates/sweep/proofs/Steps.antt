@@ -1,54 +1,18 @@
--- One step of each loop: what it does where the row, the session or the lease goes, and that it does nothing where it stays.
+-- One step of each loop: what it does where the lease or the session goes, and that it does nothing where it stays.
 -- Assumes nothing.
-use mathlib.Core.Path.{_≡_, refl, sym, ap, _∙_}
-use mathlib.Core.Bool.{Bool, true, false}
-use mathlib.Core.List.{List, [], _∷_}
+use mathlib.Core.Path.{_≡_, refl}
+use mathlib.Core.Bool.{true, false}
+use mathlib.Core.List.{[], _∷_}
 use mathlib.Core.Option.{Option, none, some}
-use Prim.Native.Nat.{ℕ, _≤_}
-use native.Mathlib.Omega.{arith}
-use lib.ListN.{getD, set}
+use Prim.Native.Nat.{ℕ}
+use lib.ListN.{set}
 use lib.Seq.{set-getD}
-use Rattle.lent.specs.Tables.{if_then_else_}
 use Rattle.lent.proofs.Choices.{clash}
-use Rattle.machine.specs.Tables.{mem}
-use Rattle.machine.specs.State.{Lease, Key, blank, Slot, noSession, session, Row, noRow, row, State, keyOf, sessionAt, rowAt, stagedIn}
+use Rattle.machine.specs.State.{Lease, blank, Slot, noSession, session, State, keyOf, sessionAt}
 use Rattle.machine.specs.Sound.{numberIn}
-use Rattle.machine.specs.Expiry.{withKeys, withSessions, withRows, setLease, freeIfOf, unlapsed, lapsedLease}
-use Rattle.layout.specs.Fields.{rowSession, rowKey}
-use Rattle.layout.specs.Holds.{RowFits}
-use Rattle.sweep.specs.Ends.{settles, rowSettles, endRow}
-use Rattle.sweep.specs.Lapsing.{lapsed, lapsedOn, lapseKey, dueSlot, freeDue, noted, endDue}
-use Rattle.sweep.specs.declared.Ending.{Ending}
-
--- a row
-module _ (e : Ending) (ns : List ℕ) (i : ℕ) (s : State) where
-  -- one that stays as it is, keys and all
-  row-same : rowSettles e ns (rowAt s i) (s .keys) ≡ s .keys → freeIfOf ns (rowAt s i) ≡ rowAt s i → endRow e ns i s ≡ s
-  unfolding endRow
-  row-same p q = rw (p, q, set-getD (s .rows) i noRow)
-
-  pub row-free : RowFits (rowAt s i) → rowSession (rowAt s i) ≡ 0 → endRow e ns i s ≡ s
-  row-free f z = go (rowAt s i) refl f z
-    where
-      go : (r : Row) → rowAt s i ≡ r → RowFits r → rowSession r ≡ 0 → endRow e ns i s ≡ s
-      go noRow q f z = row-same (rw q) (rw q)
-      go (row n k d u) q f z = absurd (omega (arith, f .given))
-
-  pub row-stays : mem (rowSession (rowAt s i)) ns ≡ false → endRow e ns i s ≡ s
-  row-stays m = go (rowAt s i) refl m
-    where
-      go : (r : Row) → rowAt s i ≡ r → mem (rowSession r) ns ≡ false → endRow e ns i s ≡ s
-      go noRow q m = row-same (rw q) (rw q)
-      go (row n k d u) q m = row-same (rw (q, m)) (rw (q, m))
-
-  pub row-ends : (rowSession (rowAt s i) ≡ 0 → ⊥) → mem (rowSession (rowAt s i)) ns ≡ true
-      → endRow e ns i s ≡ withRows (withKeys s (settles e (rowKey (rowAt s i)) (stagedIn (rowAt s i)) (s .keys))) (set (s .rows) i noRow)
-  unfolding endRow
-  row-ends z m = go (rowAt s i) z m
-    where
-      go : (r : Row) → (rowSession r ≡ 0 → ⊥) → mem (rowSession r) ns ≡ true → withRows (withKeys s (rowSettles e ns r (s .keys))) (set (s .rows) i (freeIfOf ns r)) ≡ withRows (withKeys s (settles e (rowKey r) (stagedIn r) (s .keys))) (set (s .rows) i noRow)
-      go noRow z m = absurd (z refl)
-      go (row n k d u) z m = rw m
+use Rattle.machine.specs.Expiry.{withKeys, withSessions, setLease, unlapsed}
+use Rattle.deadlines.specs.Deadlines.{lapsed, lapsedOn, dueSlot}
+use Rattle.sweep.specs.Lapsing.{lapseKey, noted, endDue}
 
 -- a lease
 module _ (now k : ℕ) (s : State) where

@@ -1,29 +1,14 @@
 -- 01, "Expiry comes first": whether anything expires, and what expiry does to one key and to one session.
 use Prim.Native.Nat.{ℕ}
-use mathlib.Core.Bool.{Bool, true, false, _||_}
+use mathlib.Core.Bool.{Bool, _||_}
 use mathlib.Core.List.{List, [], _∷_}
-use mathlib.Core.Option.{Option, none, some}
-use lib.Dec.{leb}
 use lib.ListN.{set}
 use Rattle.lent.specs.Tables.{if_then_else_}
 use Rattle.machine.specs.Tables.{any}
 use Rattle.machine.specs.Session.{isDue}
-use Rattle.machine.specs.State.{Lease, Key, Slot, noSession, session, State, keyOf, sessionAt}
+use Rattle.machine.specs.State.{Slot, noSession, session, State, keyOf, sessionAt}
 use Rattle.machine.specs.Expiry.{withKeys, withSessions, lapsedLease}
-use Rattle.machine.specs.declared.Session.{Session}
-
--- an I lease with its deadline at or before now
-abbrev pub lapsed : ℕ → Option Lease → Bool
-lapsed now none = false
-lapsed now (some l) = leb (l .until) now
-
-abbrev pub lapsedOn : ℕ → Key → Bool
-lapsedOn now e = lapsed now (e .lease)
-
--- an open session with its deadline at or before now
-abbrev pub dueSlot : ℕ → Slot → Bool
-dueSlot now noSession = false
-dueSlot now (session x) = isDue now x
+use Rattle.deadlines.specs.Deadlines.{lapsedOn, dueSlot}
 
 -- some I lease or some session expires
 unfoldable pub lapsing : ℕ → State → Bool

@@ -1,103 +1,19 @@
-// How sessions end on the lent state, and what expiry does. Whoever calls has checked the state: it is sound, and of 65,536 bytes.
-pub mod records;
-
+// Expiry on the lent state. Whoever calls has checked the state: it is sound, and of 65,536 bytes.
 ghost use mathlib.Core.Path.{_≡_};
 ghost use mathlib.Core.Bool.{true};
-ghost use mathlib.Core.List.{List, [], _∷_, _++_, map};
+ghost use mathlib.Core.List.{_++_, map};
 ghost use Prim.Native.Nat.{_+_, _≤_, _<_};
 ghost use lib.ListN.{length, take};
-ghost use Rattle.machine.specs.Sizes.{stateSize, keyCount, sessionCount, rowCount};
-ghost use Rattle.machine.specs.Tables.{any, mem};
+ghost use Rattle.machine.specs.Sizes.{stateSize, keyCount, sessionCount};
+ghost use Rattle.machine.specs.Tables.{any};
 ghost use Rattle.machine.specs.Session.{isDue};
-ghost use Rattle.machine.specs.State.{State, numbered, stagedIn, sessionAt, rowAt};
-ghost use Rattle.machine.specs.Expiry.{withKeys, withSessions, lapsedLease, those, leave, finish, expire};
-ghost use Rattle.machine.specs.Effects.{toCache};
+ghost use Rattle.machine.specs.State.{State, sessionAt};
+ghost use Rattle.machine.specs.Expiry.{withKeys, withSessions, lapsedLease, those, expire};
 ghost use Rattle.machine.specs.Sound.{sound};
 ghost use Rattle.layout.specs.Holds.{Holds};
-ghost use Rattle.sweep.specs.Ends.{settles, endRow, endRows};
-ghost use Rattle.sweep.specs.Lapsing.{lapsedOn, dueSlot, lapsing, lapseKey, freeDue, noted, endDue};
-
-// What becomes of the value of a row's key when the row's session ends: it stays, it is dropped, or what is staged is cached.
-pub enum Ending {
-    Leaves,
-    Lapses,
-    Caches,
-}
-
-// Whether n is one of the numbers.
-fn among(ns: &[u32], n: u32) -> bool
-    ensures { λ r. ⌜ r ≡ mem n (now (ns .entry)) ⌝ }
-{
-    let count = ns.len();
-    for j in 0..count {
-        if ns[j] == n {
-            return true;
-        }
-    }
-    false
-}
-
-// The value of key k as row i ends.
-fn settle(s: &mut [u8], k: usize, i: usize, ending: Ending)
-    requires { ⌜ (length (now s) ≡ stateSize) × ((k < keyCount) × (i < rowCount)) ⌝ }
-    ensures { λ _. ⌜ ((σ : State) → Holds (now (s .entry)) σ → Holds (now (s .exit)) (withKeys σ (settles ending k (stagedIn (rowAt σ i)) (σ .keys)))) ⌝ }
-{
-    match ending {
-        Ending::Leaves => {}
-        Ending::Lapses => {
-            records::drop_value(s, k);
-        }
-        Ending::Caches => {
-            records::cache_staged(s, k, i);
-        }
-    }
-}
-
-// Row i ends if it is of one of the sessions ns, each found by its number.
-fn end_row(s: &mut [u8], i: usize, ns: &[u32], ending: Ending)
-    requires { ⌜ (length (now s) ≡ stateSize) × (i < rowCount) ⌝ }
-    ensures { λ _. ⌜ ((σ : State) → Holds (now (s .entry)) σ → Holds (now (s .exit)) (endRow ending (now (ns .entry)) i σ)) ⌝ }
-{
-    let n = rows::session(s, i);
-    if n == 0 {
-        return;
-    }
-    if !among(ns, n) {
-        return;
-    }
-    let k = rows::key(s, i);
-    settle(s, k, i, ending);
-    records::free_row(s, i);
-}
-
-fn end_rows(s: &mut [u8], ns: &[u32], ending: Ending)
-    requires { ⌜ length (now s) ≡ stateSize ⌝ }
-    ensures { λ _. ⌜ ((σ : State) → Holds (now (s .entry)) σ → Holds (now (s .exit)) (endRows ending (now (ns .entry)) σ)) ⌝ }
-{
-    for i in 0..layout::ROW_COUNT {
-        end_row(s, i, ns, ending);
-    }
-}
-
-// The session of number n, which stands at this place, ends with its rows. The cached values stay.
-pub fn leave(s: &mut [u8], n: u32, place: usize)
-    requires { ⌜ (length (now s) ≡ stateSize) × (place < sessionCount) ⌝ }
-    ensures { λ _. ⌜ ((σ : State) → Holds (now (s .entry)) σ → sound σ ≡ true → numbered n (sessionAt σ place) ≡ true → Holds (now (s .exit)) (leave (n ∷ []) σ)) ⌝ }
-{
-    let ns = [n; 1];
-    end_rows(s, &ns, Ending::Leaves);
-    sessions::free(s, place);
-}
-
-// It ends and what its rows have staged is cached.
-pub fn finish(s: &mut [u8], n: u32, place: usize)
-    requires { ⌜ (length (now s) ≡ stateSize) × (place < sessionCount) ⌝ }
-    ensures { λ _. ⌜ ((σ : State) → Holds (now (s .entry)) σ → sound σ ≡ true → numbered n (sessionAt σ place) ≡ true → Holds (now (s .exit)) (finish (n ∷ []) toCache σ)) ⌝ }
-{
-    let ns = [n; 1];
-    end_rows(s, &ns, Ending::Caches);
-    sessions::free(s, place);
-}
+ghost use Rattle.deadlines.specs.Deadlines.{lapsedOn, dueSlot};
+ghost use Rattle.sweep.specs.Lapsing.{lapsing, lapseKey, freeDue, noted, endDue};
+use endings::Ending;
 
 // Whether some I lease has lapsed.
 fn leases_lapse(s: &[u8], time: u64) -> bool
@@ -105,7 +21,7 @@ fn leases_lapse(s: &[u8], time: u64) -> bool
     ensures { λ r. ⌜ ((σ : State) → Holds (now (s .entry)) σ → r ≡ any (lapsedOn time) (σ .keys)) ⌝ }
 {
     for k in 0..layout::KEY_COUNT {
-        if records::lease_lapsed(s, k, time) {
+        if deadlines::lease_lapsed(s, k, time) {
             return true;
         }
     }
@@ -118,7 +34,7 @@ fn sessions_lapse(s: &[u8], time: u64) -> bool
     ensures { λ r. ⌜ ((σ : State) → Holds (now (s .entry)) σ → r ≡ any (dueSlot time) (σ .sessions)) ⌝ }
 {
     for place in 0..layout::SESSION_COUNT {
-        if records::session_due(s, place, time) {
+        if deadlines::session_due(s, place, time) {
             return true;
         }
     }
@@ -140,8 +56,8 @@ fn lapse_key(s: &mut [u8], k: usize, time: u64)
     requires { ⌜ (length (now s) ≡ stateSize) × (k < keyCount) ⌝ }
     ensures { λ _. ⌜ ((σ : State) → Holds (now (s .entry)) σ → Holds (now (s .exit)) (lapseKey time k σ)) ⌝ }
 {
-    if records::lease_lapsed(s, k, time) {
-        records::drop_lease(s, k);
+    if deadlines::lease_lapsed(s, k, time) {
+        drops::drop_lease(s, k);
     }
 }
 
@@ -160,7 +76,7 @@ fn end_due(s: &mut [u8], i: usize, time: u64, ns: &mut [u32], count: usize) -> u
     requires { ⌜ (length (now s) ≡ stateSize) × ((length (now ns) ≡ sessionCount) × ((i < sessionCount) × (count ≤ i))) ⌝ }
     ensures { λ r. ⌜ (r ≤ i + 1) × ((σ : State) → Holds (now (s .entry)) σ → Holds (now (s .exit)) (endDue time i σ) × (take r (now (ns .exit)) ≡ take count (now (ns .entry)) ++ noted time (sessionAt σ i))) ⌝ }
 {
-    if !records::session_due(s, i, time) {
+    if !deadlines::session_due(s, i, time) {
         return count;
     }
     ns[count] = sessions::number(s, i);
@@ -191,5 +107,5 @@ pub fn sweep(s: &mut [u8], time: u64)
     if count == 0 {
         return;
     }
-    end_rows(s, &ns[..count], Ending::Lapses);
+    endings::end_rows(s, &ns[..count], Ending::Lapses);
 }

@@ -61,7 +61,7 @@ fn validate_at(s: &mut [u8], session: u64, n: u64, i: usize) -> Answer
             Answer::Validated
         }
         Validation::Loses => {
-            sweep::leave(s, x.number, i);
+            endings::leave(s, x.number, i);
             Answer::Lost
         }
         Validation::Clashes => Answer::Refused(6),
@@ -90,7 +90,7 @@ fn done_at(s: &mut [u8], session: u64, i: usize) -> Answer
     if !x.is_sealed() {
         return Answer::Refused(7);
     }
-    sweep::finish(s, x.number, i);
+    endings::finish(s, x.number, i);
     Answer::Done
 }
 
@@ -110,7 +110,7 @@ fn undo_at(s: &mut [u8], session: u64, i: usize) -> Answer
     ensures { λ r. ⌜ ((σ : State) → Holds (now (s .entry)) σ → sound σ ≡ true → sessionPlace σ session ≡ i → Gives (tried σ 0 (Undo session) []) r (now (s .exit))) ⌝ }
 {
     let n = sessions::number(s, i);
-    sweep::leave(s, n, i);
+    endings::leave(s, n, i);
     Answer::Undone
 }
 

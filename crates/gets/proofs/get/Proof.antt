@@ -3,10 +3,10 @@ use Rattle.machine.specs.Sizes.{rowCount}
 use mathlib.Core.Path.{refl, sym, ap, _∙_}
 use native.Mathlib.Omega.{arith}
 use Prim.Native.Nat.{_<_}
-use Rattle.gets.specs.Sights.{placed}
+use Rattle.sights.specs.Sights.{placed}
 use Rattle.gets.specs.Got.{asked}
-use Rattle.gets.proofs.Sights.{row-missing, sight-row, sight-cached}
-use Rattle.gets.proofs.Got.{row-taken, got-key, got-unknown, got-held, got-others}
+use Rattle.sights.proofs.Sights.{row-missing, row-taken, sight-row, sight-cached}
+use Rattle.gets.proofs.Got.{got-key, got-unknown, got-held, got-others}
 use borrow.Author.Needs.{needs}
 use Rattle.gets.proofs.get.Statement.{statement}
 use Rattle.gets.proofs.get.Tie as tie

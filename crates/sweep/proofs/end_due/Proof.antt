@@ -9,7 +9,7 @@ use lib.Seq.{take-suc-set}
 use borrow.Author.Tests.{not-true, not-false}
 use borrow.Author.Needs.{needs}
 use Rattle.machine.specs.State.{sessionAt}
-use Rattle.sweep.specs.Lapsing.{dueSlot}
+use Rattle.deadlines.specs.Deadlines.{dueSlot}
 use Rattle.sweep.proofs.Steps.{session-stays, session-ends, noted-not, noted-is}
 use Rattle.sweep.proofs.end_due.Statement.{statement}
 use Rattle.sweep.proofs.end_due.Tie as tie

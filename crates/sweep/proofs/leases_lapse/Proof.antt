@@ -9,8 +9,8 @@ use borrow.Author.Count.{below-more}
 use Rattle.machine.specs.Sizes.{keyCount}
 use Rattle.machine.specs.State.{State, blank, keyOf}
 use Rattle.layout.specs.Holds.{Holds}
-use Rattle.sweep.specs.Lapsing.{lapsedOn}
-use Rattle.sweep.proofs.Searches.{NoneBelow, any-hit, none-any}
+use Rattle.deadlines.specs.Deadlines.{lapsedOn}
+use Rattle.endings.proofs.Searches.{NoneBelow, any-hit, none-any}
 use Rattle.sweep.proofs.leases_lapse.Statement.{statement}
 use Rattle.sweep.proofs.leases_lapse.Tie as tie
 

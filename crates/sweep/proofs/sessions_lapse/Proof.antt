@@ -9,8 +9,8 @@ use borrow.Author.Count.{below-more}
 use Rattle.machine.specs.Sizes.{sessionCount}
 use Rattle.machine.specs.State.{State, noSession, sessionAt}
 use Rattle.layout.specs.Holds.{Holds}
-use Rattle.sweep.specs.Lapsing.{dueSlot}
-use Rattle.sweep.proofs.Searches.{NoneBelow, any-hit, none-any}
+use Rattle.deadlines.specs.Deadlines.{dueSlot}
+use Rattle.endings.proofs.Searches.{NoneBelow, any-hit, none-any}
 use Rattle.sweep.proofs.sessions_lapse.Statement.{statement}
 use Rattle.sweep.proofs.sessions_lapse.Tie as tie
 

@@ -1,0 +1,6 @@
+pub mod Searches
+pub mod Steps
+pub mod Passes
+pub mod Ended
+pub mod Numbers
+pub mod Whole

@@ -1,0 +1,24 @@
+-- A search of a list, entry by entry: one that passes is a hit for the whole, and where none did the whole has none.
+-- Assumes nothing.
+use mathlib.Core.Path.{_≡_, refl}
+use mathlib.Core.Bool.{Bool, true, false, or-true}
+use mathlib.Core.List.{List, [], _∷_}
+use Prim.Native.Nat.{ℕ, zero, suc, _<_}
+use native.Mathlib.Nat.{le-of-suc-le-suc, not-suc-le-zero}
+use native.Mathlib.Omega.{arith}
+use lib.ListN.{length, getD}
+use Rattle.machine.specs.Tables.{any}
+
+module _ {A : Type 0} (p : A → Bool) (d : A) where
+  pub any-hit : (l : List A) (i : ℕ) → i < length l → p (getD l i d) ≡ true → any p l ≡ true
+  any-hit [] i h e = absurd (not-suc-le-zero h)
+  any-hit (x ∷ l) zero h e = rw e
+  any-hit (x ∷ l) (suc i) h e = rw (any-hit l i (le-of-suc-le-suc h) e) (or-true (p x))
+
+  -- no entry before place i passes
+  abbrev pub NoneBelow : List A → ℕ → Type 0
+  NoneBelow l i = (j : ℕ) → j < i → p (getD l j d) ≡ false
+
+  pub none-any : (l : List A) → NoneBelow l (length l) → any p l ≡ false
+  none-any [] f = refl
+  none-any (x ∷ l) f = rw (f 0 (omega arith)) (none-any l (λ j h. f (suc j) (omega arith)))

@@ -1,0 +1,28 @@
+-- 0 is nobody's number; any other is live where a place has it.
+use mathlib.Core.Path.{sym, _∙_}
+use Rattle.sights.proofs.Known.{known-zero, known-live, unknown-missing}
+use borrow.Author.Needs.{needs}
+use Rattle.sights.proofs.is_unknown.Statement.{statement}
+use Rattle.sights.proofs.is_unknown.Tie as tie
+
+returns : tie.Need-returns
+returns c = λ σ h. sym (known-zero σ (c .before .before .args .session) (c .if1 .taken))
+
+find-requires : tie.Need-find-requires
+find-requires c κs = search needs
+
+enum-told : tie.Need-enum-told
+enum-told c = search needs
+
+enum-told-2 : tie.Need-enum-told-2
+enum-told-2 c = search needs
+
+returns-2 : tie.Need-returns-2
+returns-2 c = λ σ h. sym (known-live σ (c .before .before .before .before .before .args .session) (c .before .before .before .if1 .left) (h .fits .sessions) _ (sym (c .before .before .find .ensures .0 σ h) ∙ c .enum-told .given .1))
+
+returns-3 : tie.Need-returns-3
+returns-3 c = λ σ h. sym (unknown-missing σ (c .before .before .before .before .before .args .session) (c .before .before .before .if1 .left) (h .fits .sessions) (sym (c .before .before .find .ensures .0 σ h) ∙ c .enum-told2 .given .1))
+
+pub is-unknown-spec : {M : Type 1} → statement M
+is-unknown-spec =
+    tie.close (tie.spec returns find-requires enum-told enum-told-2 returns-2 returns-3)

@@ -1,0 +1,117 @@
+-- What SHOW comes to, case by case, and that the value which is seen stands at its place in the bytes: a cached value in its key's record, a
+-- staged one in its row's.
+-- Assumes nothing.
+use mathlib.Core.Path.{_≡_, refl, ap, _∙_, subst}
+use mathlib.Core.Bool.{Bool, true, false, not, _&&_}
+use mathlib.Core.List.{List, []}
+use mathlib.Core.Option.{Option, none, some}
+use Prim.Native.Nat.{ℕ, _≤_, _<_}
+use native.Mathlib.Omega.{arith}
+use lib.Dec.{eqb, leb}
+use lib.ListN.{length, take, drop}
+use borrow.Author.Tests.{le-leb, lt-leb, leb-true, leb-false}
+use Rattle.lent.specs.Bytes.{win}
+use Rattle.lent.specs.Tables.{if_then_else_}
+use Rattle.machine.specs.Sizes.{keyCount, valueAt, stagedAt}
+use Rattle.machine.specs.State.{Value, nothing, staged, DROP, Row, noRow, row, State, stagedIn, rowPlace, rowOf, rowAt, cached}
+use Rattle.machine.specs.Refusals.{Sight as Seen, cachedSight, rowSight, sight, notLive}
+use Rattle.machine.specs.Step.{Shown, seen, show}
+use Rattle.machine.specs.declared.Answer.{Answer}
+use Rattle.machine.proofs.Views.{no-some, some-eq}
+use Rattle.machine.proofs.SoundMeans.{row-inside}
+use Rattle.layout.specs.Holds.{Holds}
+use Rattle.layout.proofs.Held.{value-stands, staged-stands}
+use Rattle.sights.specs.Sights.{placed}
+use Rattle.sights.specs.declared.Sight.{Sight}
+
+-- ---- where the value stands
+
+module _ {b : List ℕ} {s : State} (h : Holds b s) (k : ℕ) (l : k < keyCount) where
+  -- what is seen stands at its place
+  Stands : Seen → Type 0
+  Stands x = win b (x .at) (length (x .value)) ≡ x .value
+
+  stands-is : (x y : Seen) → Stands x → some x ≡ some y → Stands y
+  stands-is x y p e = subst Stands (some-eq x y e) p
+
+  cached-stands : (o : Option Value) → cached s k ≡ o → (x : Seen) → cachedSight k o ≡ some x → Stands x
+  unfolding Stands
+  cached-stands none q x e = no-some x e
+  cached-stands (some v) q x e = stands-is (record { at = valueAt k; value = v }) x (value-stands h k l v q) e
+
+  row-stands : (i : ℕ) (r : Row) → rowAt s i ≡ r → (x : Seen) → rowSight i k r (cached s k) ≡ some x → Stands x
+  unfolding Stands
+  row-stands i noRow q x e = cached-stands (cached s k) refl x e
+  row-stands i (row n j d nothing) q x e = go (eqb d 1) e
+    where
+      go : (t : Bool) → (if t then none else cachedSight k (cached s k)) ≡ some x → win b (x .at) (length (x .value)) ≡ x .value
+      go true f = no-some x f
+      go false f = cached-stands (cached s k) refl x f
+  row-stands i (row n j d (staged v)) q x e =
+      stands-is (record { at = stagedAt i; value = v }) x (staged-stands h i (row-inside s i n j d (staged v) (h .fits .rows) q) v (ap stagedIn q)) e
+  row-stands i (row n j d DROP) q x e = no-some x e
+
+  pub sight-stands : (n : ℕ) (x : Seen) → sight s n k ≡ some x → win b (x .at) (length (x .value)) ≡ x .value
+  unfolding sight Stands
+  sight-stands n x e = row-stands (rowPlace s n k) (rowOf s n k) refl x e
+
+-- ---- SHOW
+
+-- nothing is handed back: the empty stretch at the first byte
+abbrev pub bare : Answer → Shown
+bare a = record { answer = a; at = 0; value = [] }
+
+-- a value is shown: its length and its place
+pub record Shows (x : Shown) (at n : ℕ) : Type 0 where
+  pub answer : x .answer ≡ Answer.Value n
+  pub place : x .at ≡ at
+  pub size : length (x .value) ≡ n
+
+module _ (s : State) (n k : ℕ) where
+  pub shown-key : keyCount ≤ k → show s n k ≡ bare (Answer.Refused 3)
+  unfolding show
+  shown-key h = rw (le-leb keyCount k h)
+
+  module _ (l : k < keyCount) where
+    pub shown-unknown : (not (eqb n 0) && notLive s n) ≡ true → show s n k ≡ bare (Answer.Refused 5)
+    unfolding show
+    shown-unknown e = rw (lt-leb keyCount k l, e)
+
+    module _ (e : (not (eqb n 0) && notLive s n) ≡ false) where
+      shown-seen : show s n k ≡ seen (sight s n k)
+      unfolding show
+      shown-seen = rw (lt-leb keyCount k l, e)
+
+      pub shown-none : placed (sight s n k) ≡ Sight.Nothing → show s n k ≡ bare Answer.None
+      shown-none p = shown-seen ∙ go (sight s n k) p
+        where
+          go : (o : Option Seen) → placed o ≡ Sight.Nothing → seen o ≡ bare Answer.None
+          go none p = refl
+          go (some x) p = absurd (let z : _≡_ {A = ℕ} 0 1 = cc in omega arith)
+
+      pub shown-at : (at m : ℕ) → placed (sight s n k) ≡ Sight.At at m → Shows (show s n k) at m
+      shown-at at m p = rw shown-seen (go (sight s n k) p)
+        where
+          go : (o : Option Seen) → placed o ≡ Sight.At at m → Shows (seen o) at m
+          go none p = absurd (let z : _≡_ {A = ℕ} 0 1 = cc in omega arith)
+          go (some x) p = let z : length (x .value) ≡ m = cc in record { answer = ap Answer.Value z; place = cc; size = z }
+
+  -- what is handed back stands in the lent bytes, at its place
+  pub shown-stands : {b : List ℕ} → Holds b s → win b (show s n k .at) (length (show s n k .value)) ≡ show s n k .value
+  unfolding win
+  shown-stands {b} h = key (leb keyCount k) refl
+    where
+      Shown-there : Shown → Type 0
+      Shown-there x = take (length (x .value)) (drop (x .at) b) ≡ x .value
+
+      sees : k < keyCount → (o : Option Seen) → sight s n k ≡ o → Shown-there (seen o)
+      sees l none q = refl
+      sees l (some x) q = sight-stands h k l n x q
+
+      knows : k < keyCount → (t : Bool) → (not (eqb n 0) && notLive s n) ≡ t → Shown-there (show s n k)
+      knows l true e = rw (shown-unknown l e)
+      knows l false e = rw (shown-seen l e) (sees l (sight s n k) refl)
+
+      key : (t : Bool) → leb keyCount k ≡ t → Shown-there (show s n k)
+      key true e = rw (shown-key (leb-true keyCount k e))
+      key false e = knows (leb-false keyCount k e) (not (eqb n 0) && notLive s n) refl

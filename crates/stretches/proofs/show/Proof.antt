@@ -1,0 +1,44 @@
+-- Each test that refuses, in its order; then what the session sees.
+use mathlib.Core.Path.{sym, _∙_}
+use Rattle.stretches.proofs.Shown.{shown-key, shown-unknown, shown-none, shown-at}
+use borrow.Author.Needs.{needs}
+use Rattle.stretches.proofs.show.Statement.{statement}
+use Rattle.stretches.proofs.show.Tie as tie
+
+returns : tie.Need-returns
+returns c = λ σ h. let a = c .before .before .args in rw (shown-key σ (a .session) (a .key) (c .if1 .taken))
+
+is-unknown-requires : tie.Need-is-unknown-requires
+is-unknown-requires c κs = search needs
+
+returns-2 : tie.Need-returns-2
+returns-2 c = λ σ h. let a = c .before .before .before .before .args in rw (shown-unknown σ (a .session) (a .key) (c .before .before .if1 .left) (sym (c .before .is-unknown .ensures σ h) ∙ c .if2 .taken))
+
+look-requires : tie.Need-look-requires
+look-requires c κs = search needs
+
+enum-known-sight : tie.Need-enum-known-sight
+enum-known-sight c = search needs
+
+enum-told : tie.Need-enum-told
+enum-told c = search needs
+
+returns-3 : tie.Need-returns-3
+returns-3 c = λ σ h. let a = c .before .before .before .before .before .before .before .before .args in
+    sym (shown-at σ (a .session) (a .key) (c .before .before .before .before .before .before .if1 .left) (sym (c .before .before .before .before .before .is-unknown .ensures σ h) ∙ c .before .before .before .before .if2 .left) _ _ (sym (c .before .before .before .look .ensures .0 σ h) ∙ c .before .sight .given .1) .answer)
+
+returns-4 : tie.Need-returns-4
+returns-4 c = λ σ h. let a = c .before .before .before .before .before .before .before .args in rw (shown-none σ (a .session) (a .key) (c .before .before .before .before .before .if1 .left) (sym (c .before .before .before .before .is-unknown .ensures σ h) ∙ c .before .before .before .if2 .left) (sym (c .before .before .look .ensures .0 σ h) ∙ c .enum-told .given .1))
+
+pub show-spec : {M : Type 1} → statement M
+show-spec =
+    tie.close
+    (tie.spec
+    returns
+    is-unknown-requires
+    returns-2
+    look-requires
+    enum-known-sight
+    enum-told
+    returns-3
+    returns-4)

@@ -1,0 +1,69 @@
+-- Each return is one case of what a row adds.
+use mathlib.Core.Path.{sym, ap, _∙_}
+use native.Mathlib.Omega.{arith}
+use Prim.Native.Nat.{_<_}
+use Rattle.machine.specs.Sizes.{sessionCount}
+use Rattle.machine.specs.State.{rowAt}
+use Rattle.machine.specs.Effects.{lifeEnd}
+use Rattle.layout.proofs.Held.{row-fits}
+use Rattle.waits.proofs.Waits.{end-found, end-missing, row-end-free, row-end-other, row-end-on}
+use Rattle.machine.specs.declared.Session.{Session}
+use borrow.Author.Needs.{needs}
+use Rattle.waits.proofs.row_life.Statement.{statement}
+use Rattle.waits.proofs.row_life.Tie as tie
+
+session-requires : tie.Need-session-requires
+session-requires c κs = search needs
+
+returns : tie.Need-returns
+returns c = λ σ h. let a = c .before .before .before .args in
+    sym (row-end-free σ (a .k) (rowAt σ (a .i)) (row-fits h (a .i) (omega arith)) (sym (c .before .session .ensures σ h) ∙ c .if1 .taken))
+
+key-requires : tie.Need-key-requires
+key-requires c κs = search needs
+
+returns-2 : tie.Need-returns-2
+returns-2 c = λ σ h. let a = c .before .before .before .before .before .args in
+    sym (row-end-other σ (a .k) (rowAt σ (a .i)) (λ q. c .if2 .taken (c .before .key .ensures .0 σ h ∙ q)))
+
+cast-find : tie.Need-cast-find
+cast-find c = search needs
+
+find-requires : tie.Need-find-requires
+find-requires c κs = search needs
+
+enum-known-place : tie.Need-enum-known-place
+enum-known-place c = search needs
+
+enum-told : tie.Need-enum-told
+enum-told c = search needs
+
+returns-3 : tie.Need-returns-3
+returns-3 c = λ σ h. let a = c .before .before .before .before .before .before .before .before .args in
+    sym (row-end-on σ (a .k) (rowAt σ (a .i)) (λ q. c .before .before .before .before .before .if1 .left (c .before .before .before .before .before .before .session .ensures σ h ∙ q)) (sym (c .before .before .before .before .key .ensures .0 σ h) ∙ c .before .before .before .if2 .left)
+    ∙ rw (← c .before .before .before .before .before .before .session .ensures σ h) (end-missing σ (c .before .before .before .before .before .before .session .result) (h .fits .sessions) (sym (c .before .before .find .ensures .0 σ h) ∙ c .enum-told .given .1)))
+
+load-requires : tie.Need-load-requires
+load-requires c κs = let l : c .before .place .given .0 .0 < sessionCount = rw (c .before .place .given .1) at (c .before .before .before .find .ensures .1) in omega arith
+
+returns-4 : tie.Need-returns-4
+returns-4 c = λ σ h. let a = c .before .before .before .before .before .before .before .before .before .before .args in
+    ap (λ (x : Session). lifeEnd (x .life)) (c .load .ensures σ h)
+    ∙ sym (row-end-on σ (a .k) (rowAt σ (a .i)) (λ q. c .before .before .before .before .before .before .before .if1 .left (c .before .before .before .before .before .before .before .before .session .ensures σ h ∙ q)) (sym (c .before .before .before .before .before .before .key .ensures .0 σ h) ∙ c .before .before .before .before .before .if2 .left)
+    ∙ rw (← c .before .before .before .before .before .before .before .before .session .ensures σ h) (end-found σ (c .before .before .before .before .before .before .before .before .session .result) (h .fits .sessions) (c .before .before .place .given .0 .0) (sym (c .before .before .before .before .find .ensures .0 σ h) ∙ c .before .before .place .given .1)))
+
+pub row-life-spec : {M : Type 1} → statement M
+row-life-spec =
+    tie.close
+    (tie.spec
+    session-requires
+    returns
+    key-requires
+    returns-2
+    cast-find
+    find-requires
+    enum-known-place
+    enum-told
+    returns-3
+    load-requires
+    returns-4)
