@@ -21,8 +21,6 @@ use Rattle.machine.specs.declared.Command.{Command}
 use Rattle.layout.specs.Holds.{LeaseFits, Holds}
 use Rattle.outcome.specs.Outcome.{tried, Gives}
 
--- an outcome that is known, and bytes that hold its state
-
 -- ---- the token
 
 module _ (t : ℕ) where

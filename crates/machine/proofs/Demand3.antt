@@ -87,7 +87,7 @@ consistent w g = record {
   shown = λ n k size e q f. g .older k _ (show-value (w .state) n k size e f) (quarantining (w .state .rows) k q);
 }
 
--- THE THEOREM
+-- The theorem
 
 -- of a whole run
 pub demand-3-whole : (readLife writeLife : ℕ) (es : List Event) → AllKept (begun readLife writeLife) es → Consistent (run (begun readLife writeLife) es)

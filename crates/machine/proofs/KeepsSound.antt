@@ -1,4 +1,4 @@
--- Theorem 3: every command on a sound state leaves a sound state, refused or not, and START makes one. A refused command changes nothing;
+-- Every command on a sound state leaves a sound state, refused or not, and START makes one. A refused command changes nothing;
 -- for an accepted one, expiry keeps what is well formed, the tests that it passed say what its effect needs, and the clock moves last.
 use mathlib.Core.Path.{_≡_, refl, sym, ap, _∙_}
 use mathlib.Core.Bool.{true, false, not, _||_}

@@ -1,4 +1,4 @@
--- The decision table, once over all of it: the twenty entries are those of a rule in words (`verdictBy`), which antt computes
+-- The decision table, once over all of it: the twenty entries are those of a rule in words (`verdictBy`), which is computed
 -- over the whole table, and what the rule says of sharing, of the I lease on a quarantined key, and of voiding follows from it.
 use mathlib.Core.Path.{_≡_, refl, sym, ap, _∙_}
 use mathlib.Core.Bool.{Bool, true, false, _&&_}

@@ -1,4 +1,4 @@
--- Theorem 7: the wait of a BACKOFF is the one that 01 names. In the state after expiry no lease and no open session ends at or before now,
+-- The wait of a BACKOFF is the one that 01 names. In the state after expiry no lease and no open session ends at or before now,
 -- so what blocks ends later, by its lifetime at the most; and the latest deadline over the rows on the key is a deadline of one of them.
 use mathlib.Core.Path.{_≡_, refl, sym, ap, _∙_, subst}
 use mathlib.Core.Bool.{true, false}

@@ -20,7 +20,7 @@ pub record Told : Type 0 where
   pub answer : Answer
   pub handed : Value
 
--- a command without a value, one with a value; an answer without a value, a HIT
+-- a command without a value, one with a value; an answer without a value
 abbrev pub bare : ℕ → Command → Line
 bare t c = record { at = t; command = c; value = [] }
 

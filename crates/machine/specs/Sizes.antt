@@ -1,4 +1,4 @@
--- The sizes, limits and places of document 01 and of the layout, each named here and nowhere else.
+-- The sizes and limits of document 01, and where the tables of the layout stand.
 use Prim.Native.Nat.{ℕ, _+_, _*_}
 
 -- 01, "The state and its numbers"

@@ -1,4 +1,4 @@
--- THE THEOREM: the rehearsal's rule column is what the machine's rules say, with rule 1 in its two-value form. The cache's bytes are well formed and say the
+-- The rehearsal's rule column is what the machine's rules say, with rule 1 in its two-value form. The cache's bytes are well formed and say the
 -- machine's state, and the book records what the rules speak of; so each line prints the rule that its event breaks, and keeps this.
 -- A column of zeros is a run that keeps the rules, and such a run has demand 3 at each moment.
 use mathlib.Core.Path.{_≡_, refl, sym, ap, _∙_}

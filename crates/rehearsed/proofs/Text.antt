@@ -1,4 +1,4 @@
--- THE THEOREM OVER TEXT: until an A line answers READY the cache's bytes stand and the book is new but for its counts; from then on each line is an event
+-- The column over lines of text: until an A line answers READY the cache's bytes stand and the book is new but for its counts; from then on each line is an event
 -- of the machine or only counted, so both buffers stay tied to the world of the events told. The column is the machine's verdicts of them.
 -- What is read of any line is in range, so nothing is asked of the lines.
 use mathlib.Core.Path.{_≡_, refl, sym, ap, subst, _∙_}
@@ -300,7 +300,7 @@ lines-follow x b new e (t ∷ ts) =
     let rest : Follows (textThrough q ts) (textColumn q ts) (runOf x ts) = lines-follow x (counted b 0) (new-counted b 0 new) (Laws.started-counted b (new .size) 0 ∙ e) ts in
     follows-text p t s said ts (runOf x (t ∷ ts)) (follows-line x b new ts (readLine t .line) (runOf x ts) (follows-zero (textThrough q ts) (textColumn q ts) (runOf x ts) rest))
 
--- THE THEOREMS, from a cache's buffer of any length and content and a new book
+-- The theorems, from a cache's buffer of any length and content and a new book
 
 -- the rule printed of the line behind any others
 rule-beside : (p : Pair) (col : List ℕ) (o : Option Run) → Follows p col o → (t : Text) → textRule p t ≡ ruleIn o (eventOf t)

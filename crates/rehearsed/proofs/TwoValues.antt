@@ -196,7 +196,7 @@ steady-two w g (command now Tick v) = refl
 steady-two w g (write n k v) = refl
 
 module _ (readLife writeLife : ℕ) where
-  -- THE THEOREM: after a run from START in which rule 2 was kept, the two-value form is rule 1
+  -- the theorem: after a run from START in which rule 2 was kept, the two-value form is rule 1
   pub two-values-rule-1 : (es : List Event) → WritesKept (begun readLife writeLife) es → (e : Event) → brokenTwo (run (begun readLife writeLife) es) e ≡ broken (run (begun readLife writeLife) es) e
   two-values-rule-1 es rules = steady-two (run (begun readLife writeLife) es) (run-steady (begun readLife writeLife) es (begun-steady readLife writeLife) rules)
 

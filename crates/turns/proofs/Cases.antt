@@ -31,8 +31,6 @@ use Rattle.layout.specs.declared.Found.{Found}
 use Rattle.layout.proofs.Search.{found-at, found-nothing, found-full, found-room, nothing-entry, place-passes}
 use Rattle.outcome.specs.Outcome.{tried, Gives}
 
--- an outcome told, held by the bytes
-
 -- ---- the session that was found
 
 pub record Located (s : State) (n i : ℕ) : Type 0 where

@@ -1,4 +1,4 @@
--- What the search found decides the case; the case is a law of `Cases`.
+-- A full table is refused (`begin-full`); else the session opens in the place that the search found.
 use mathlib.Core.Path.{_≡_, sym, ap, _∙_}
 use Rattle.outcome.proofs.Told.{gives}
 use Rattle.machine.specs.Sizes.{sessionCount}

@@ -1,4 +1,4 @@
--- What the search found decides the case; the case is a law of `Cases`.
+-- An open session is refused (`done-open`); a sealed one finishes, the session at the place being that of the number (`number-here`).
 use Rattle.outcome.proofs.Told.{gives}
 use Rattle.machine.specs.State.{sessionAt}
 use Rattle.turns.proofs.Cases.{located, done-open, done-is, number-here, finished-is, live-is, number-in}

@@ -1,4 +1,4 @@
--- What the search found decides the case; the case is a law of `Cases`.
+-- Where no number is left nothing changes (`begin-spent`); else the record and the next number are stored one after the other (`begin-gives`).
 use native.Mathlib.Omega.{arith}
 use Rattle.outcome.proofs.Told.{gives}
 use Rattle.machine.proofs.SoundFacts as facts

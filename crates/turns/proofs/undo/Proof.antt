@@ -1,4 +1,4 @@
--- What the search found decides the case; the case is a law of `Cases`.
+-- The search finds the session or nothing (`undo-none`).
 use mathlib.Core.Path.{_≡_, sym, ap, _∙_}
 use Rattle.outcome.proofs.Told.{gives}
 use Rattle.machine.specs.Sizes.{sessionCount}

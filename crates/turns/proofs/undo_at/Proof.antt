@@ -1,4 +1,4 @@
--- What the search found decides the case; the case is a law of `Cases`.
+-- The session leaves, open or sealed, the one at the place being that of the number (`number-here`).
 use mathlib.Core.Path.{_≡_, sym, ap, _∙_}
 use Rattle.outcome.proofs.Told.{gives}
 use Rattle.machine.specs.declared.Answer.{Answer}

@@ -1,4 +1,4 @@
--- What the search found decides the case; the case is a law of `Cases`.
+-- An n over 1,000 is refused (`validate-far`); then the search finds the session or nothing (`validate-none`).
 use mathlib.Core.Path.{_≡_, sym, ap, _∙_}
 use Rattle.outcome.proofs.Told.{gives}
 use Rattle.machine.specs.Sizes.{sessionCount}

@@ -1,4 +1,4 @@
--- What the search found decides the case; the case is a law of `Cases`.
+-- What the record says of n decides: it is sealed in its place, it leaves, or it is refused; each is a law of `Cases`.
 use Rattle.outcome.proofs.Told.{gives}
 use Rattle.machine.specs.State.{sessionAt}
 use Rattle.turns.proofs.Cases.{located, live-is, number-in, number-here, left-is, live-number, live-count, sealed-held, told-seals, told-loses, told-clashes, validate-seals, validate-loses, validate-clashes}
