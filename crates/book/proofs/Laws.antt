@@ -102,23 +102,12 @@ module _ (b : List ℕ) (e : length b ≡ bookSize) where
   unfolding started withStarted
   started-started = rw (getD-splice-in b startedAt (1 ∷ []) 0 (omega arith) (omega arith))
 
-  pub lines-started : linesIn (withStarted b) ≡ linesIn b
-  unfolding withStarted
-  lines-started = lines-apart b startedAt (1 ∷ []) (omega arith) (inr (omega arith))
-
-  pub broken-started : brokenIn (withStarted b) ≡ brokenIn b
-  unfolding withStarted
-  broken-started = broken-apart b startedAt (1 ∷ []) (omega arith) (inr (omega arith))
-
   note-started : (i : ℕ) → note (withStarted b) i ≡ note b i
   unfolding withStarted
   note-started i = note-apart b startedAt (1 ∷ []) (omega arith) i (inr (omega arith))
 
   pub registered-started : (k : ℕ) → registered (withStarted b) k ≡ registered b k
   registered-started k = registered-is b (withStarted b) k (λ h. note-started k)
-
-  pub granted-started : (k : ℕ) → granted (withStarted b) k ≡ granted b k
-  granted-started k = granted-is b (withStarted b) k (λ h. note-started (keyCount + k))
 
   pub mark-started : (i : ℕ) → mark (withStarted b) i ≡ mark b i
   unfolding withStarted
@@ -184,12 +173,6 @@ module _ (b : List ℕ) (e : length b ≡ bookSize) (k : ℕ) (v : Value) (l : l
   pub started-registered : started (withRegistered b k v) ≡ started b
   started-registered = at-registered (λ x. started x ≡ started b) (λ h. started-note b e k (omega arith) v l) refl
 
-  pub lines-registered : linesIn (withRegistered b k v) ≡ linesIn b
-  lines-registered = at-registered (λ x. linesIn x ≡ linesIn b) (λ h. lines-note b e k (omega arith) v l) refl
-
-  pub broken-registered : brokenIn (withRegistered b k v) ≡ brokenIn b
-  broken-registered = at-registered (λ x. brokenIn x ≡ brokenIn b) (λ h. broken-note b e k (omega arith) v l) refl
-
   pub registered-same : k < keyCount → registered (withRegistered b k v) k ≡ v
   unfolding registered withRegistered
   registered-same h = rw (lt-ltb k keyCount h) (note-same b e k (omega arith) v l)
@@ -212,12 +195,6 @@ module _ (b : List ℕ) (e : length b ≡ bookSize) (k : ℕ) (v : Value) (l : l
 
   pub started-granted : started (withGranted b k v) ≡ started b
   started-granted = at-granted (λ x. started x ≡ started b) (λ h. started-note b e (keyCount + k) (omega arith) v l) refl
-
-  pub lines-granted : linesIn (withGranted b k v) ≡ linesIn b
-  lines-granted = at-granted (λ x. linesIn x ≡ linesIn b) (λ h. lines-note b e (keyCount + k) (omega arith) v l) refl
-
-  pub broken-granted : brokenIn (withGranted b k v) ≡ brokenIn b
-  broken-granted = at-granted (λ x. brokenIn x ≡ brokenIn b) (λ h. broken-note b e (keyCount + k) (omega arith) v l) refl
 
   pub granted-same : k < keyCount → granted (withGranted b k v) k ≡ v
   unfolding granted withGranted
@@ -244,14 +221,6 @@ module _ (b : List ℕ) (e : length b ≡ bookSize) (i : ℕ) (h : i < sessionCo
   pub started-marked : started (withMark b i n) ≡ started b
   unfolding withMark
   started-marked = started-apart b (marksFrom + i * markWidth) (bytes32 n) (omega arith) (omega arith)
-
-  pub lines-marked : linesIn (withMark b i n) ≡ linesIn b
-  unfolding withMark
-  lines-marked = lines-apart b (marksFrom + i * markWidth) (bytes32 n) (omega arith) (inl (omega arith))
-
-  pub broken-marked : brokenIn (withMark b i n) ≡ brokenIn b
-  unfolding withMark
-  broken-marked = broken-apart b (marksFrom + i * markWidth) (bytes32 n) (omega arith) (inl (omega arith))
 
   note-marked : (j : ℕ) → j < keyCount + keyCount → note (withMark b i n) j ≡ note b j
   unfolding withMark
@@ -324,20 +293,6 @@ module _ (b : List ℕ) (e : length b ≡ bookSize) (rule : ℕ) where
   unfolding linesIn
   lines-more = le64-same b linesAt ((linesIn b + 1) % 2 ^ 64) (omega arith) (omega arith)
 
-  pub lines-counted : linesIn (counted b rule) ≡ (linesIn b + 1) % 2 ^ 64
-  unfolding counted
-  lines-counted =
-      let one : linesIn more ≡ (linesIn b + 1) % 2 ^ 64 = lines-more in
-      if-ind (λ x. linesIn x ≡ (linesIn b + 1) % 2 ^ 64) (eqb rule 0) (λ q. one)
-      (λ q. lines-apart more brokenAt (bytes64 ((brokenIn more + 1) % 2 ^ 64)) (omega (arith, length-more)) (inl (omega arith)) ∙ one)
-
-  pub broken-counted : brokenIn (counted b rule) ≡ (if eqb rule 0 then brokenIn b else (brokenIn b + 1) % 2 ^ 64)
-  unfolding counted brokenIn
-  broken-counted = go (eqb rule 0)
-    where
-      one : brokenIn more ≡ brokenIn b
-      one = broken-apart b linesAt (bytes64 ((linesIn b + 1) % 2 ^ 64)) (omega arith) (inr (omega arith))
-
       go : (t : Bool) → brokenIn (if t then more else splice more brokenAt (bytes64 ((brokenIn more + 1) % 2 ^ 64))) ≡ (if t then brokenIn b else (brokenIn b + 1) % 2 ^ 64)
       go true = one
       go false = le64-same more brokenAt ((brokenIn more + 1) % 2 ^ 64) (omega (arith, length-more)) (omega arith) ∙ rw one
@@ -354,10 +309,6 @@ pub registered-short : (b : List ℕ) (k : ℕ) → length (registered b k) ≤ 
 unfolding registered
 registered-short b k = if-ind (λ (x : Value). length x ≤ valueMax) (ltb k keyCount) (λ q. note-short b k) (λ q. omega arith)
 
-pub granted-short : (b : List ℕ) (k : ℕ) → length (granted b k) ≤ valueMax
-unfolding granted
-granted-short b k = if-ind (λ (x : Value). length x ≤ valueMax) (ltb k keyCount) (λ q. note-short b (keyCount + k)) (λ q. omega arith)
-
 -- ---- a new book
 
 getD-zeros : (n k : ℕ) → getD (zeros n) k 0 ≡ 0
@@ -370,14 +321,6 @@ module _ (n : ℕ) where
   unfolding started
   started-new = rw (getD-zeros n startedAt)
 
-  pub lines-new : linesIn (zeros n) ≡ 0
-  unfolding linesIn
-  lines-new = simp getD-zeros
-
-  pub broken-new : brokenIn (zeros n) ≡ 0
-  unfolding brokenIn
-  broken-new = simp getD-zeros
-
   note-new : (i : ℕ) → note (zeros n) i ≡ []
   unfolding note win
   note-new i = rw (getD-zeros n (noteAt i))
@@ -385,10 +328,6 @@ module _ (n : ℕ) where
   pub registered-new : (k : ℕ) → registered (zeros n) k ≡ []
   unfolding registered
   registered-new k = if-ind (λ (x : Value). x ≡ []) (ltb k keyCount) (λ q. note-new k) (λ q. refl)
-
-  pub granted-new : (k : ℕ) → granted (zeros n) k ≡ []
-  unfolding granted
-  granted-new k = if-ind (λ (x : Value). x ≡ []) (ltb k keyCount) (λ q. note-new (keyCount + k)) (λ q. refl)
 
   pub mark-new : (i : ℕ) → mark (zeros n) i ≡ 0
   unfolding mark

@@ -131,21 +131,7 @@ module _ (n : ℕ) where
   pub decimal-digits : allDigits (decimal n) ≡ true
   decimal-digits = ap allDigits decimal-low ∙ all-low (decimalLength n) n
 
-  pub decimal-digit : (i : ℕ) → i < length (decimal n) → (48 ≤ getD (decimal n) i 0) × (getD (decimal n) i 0 ≤ 57)
-  decimal-digit i h = digit-at (decimal n) i decimal-digits h
-
-  -- also past the end, where `getD` gives 0
-  pub decimal-byte : (i : ℕ) → getD (decimal n) i 0 < 256
-  decimal-byte i = byte-at (decimal n) i decimal-digits
-
   -- what a count's digits say is the count
   pub decimal-numeral : n ≤ countMax → numeral 0 (decimal n) ≡ n
   decimal-numeral h =
       ap (numeral 0) decimal-low ∙ numeral-low (decimalLength n) n (rw decimal-width (width-enough digitsMax n (omega arith)))
-
-  -- none is a leading zero, but the one digit of 0
-  pub decimal-lead : 0 < n → n ≤ countMax → 48 < getD (decimal n) 0 0
-  decimal-lead p h = first-digit digitsMax n [] p (omega arith)
-
-pub decimal-zero : decimal 0 ≡ 48 ∷ []
-decimal-zero = refl

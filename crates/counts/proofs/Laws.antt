@@ -34,19 +34,6 @@ module _ (v : List ℕ) (n : ℕ) (e : readCount v ≡ Is n) where
   unfolding readCount
   read-numeral = sym (by-test (isCount v) (numeral 0 v) n e .1)
 
-  pub read-most : n ≤ countMax
-  unfolding readCount
-  read-most =
-      let t : isCount v ≡ true = by-test (isCount v) (numeral 0 v) n e .0 in
-      rw read-numeral (leb-true (numeral 0 v) countMax (and-eq-true-iff (leb 1 (length v) && leb (length v) digitsMax && allDigits v) (leb (numeral 0 v) countMax) .0 t .1))
-
-module _ (a b : ℕ) where
-  pub raised-most : raised a b ≤ countMax
-  raised-most = omega arith
-
-  pub lowered-most : a ≤ countMax → lowered a b ≤ countMax
-  lowered-most h = omega arith
-
 length-splice : (s x : List ℕ) → length x ≤ length s → length (splice s 0 x) ≡ length s
 unfolding splice
 length-splice s x h = simp (length-append, length-drop) (omega arith)
@@ -60,12 +47,3 @@ module _ (n : ℕ) (s : List ℕ) where
   pub written-front : digitsMax ≤ length s → take (written n s .number) (written n s .bytes) ≡ decimal n
   unfolding splice
   written-front h = rw (written-room h) (take-append-seam (decimal n) _)
-
-  pub length-written : length (written n s .bytes) ≡ length s
-  length-written = by (leb (decimalLength n) (length s)) refl
-    where
-      by : (t : Bool) → leb (decimalLength n) (length s) ≡ t → length (written n s .bytes) ≡ length s
-      by true e =
-          let h : decimalLength n ≤ length s = leb-true (decimalLength n) (length s) e in
-          rw (written-fits n s h) (length-splice s (decimal n) (omega (arith, decimal-length n)))
-      by false e = rw (written-short n s (leb-false (decimalLength n) (length s) e))

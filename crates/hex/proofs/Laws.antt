@@ -40,8 +40,5 @@ module _ (t : List ℕ) where
   held-bytes = by-text (λ o. Bytes (held o)) t (λ i. omega arith) (λ i. omega arith) (λ e. bytes-of t (hex-digits t e))
 
 module _ (t v : List ℕ) (e : readHex t ≡ some v) where
-  pub read-short : length v ≤ length t / 2
-  read-short = rw e at (held-short t)
-
   pub read-bytes : Bytes v
   read-bytes = rw e at (held-bytes t)

@@ -40,19 +40,3 @@ if-same true x = refl
 if-same false x = refl
 
 -- ---- a choice that is a test
-
-pub if-and : (t u : Bool) → (if t then u else false) ≡ t && u
-if-and true u = refl
-if-and false u = refl
-
-pub if-not-and : (t u : Bool) → (if t then false else u) ≡ not t && u
-if-not-and true u = refl
-if-not-and false u = refl
-
-pub if-yes : (t u : Bool) → (if t then u else false) ≡ true → (t ≡ true) × (u ≡ true)
-if-yes true u e = (refl, e)
-if-yes false u e = clash false e refl
-
-pub if-no : (t u : Bool) → (if t then false else u) ≡ true → (t ≡ false) × (u ≡ true)
-if-no true u e = clash false e refl
-if-no false u e = (refl, e)

@@ -163,9 +163,3 @@ pub iter-both : {A B : Type 0} (R : A → B → Type 0) (f : ℕ → A → A) (g
 unfolding iter
 iter-both R f g zero a b k r = r
 iter-both R f g (suc n) a b k r = k n _ _ (omega arith) (iter-both R f g n a b (λ i x y h. k i x y (omega arith)) r)
-
-pub iter-keeps : {A : Type 0} (P : A → Type 0) (f : ℕ → A → A) (n : ℕ) (a : A) → ((i : ℕ) (x : A) → i < n → P x → P (f i x)) → P a → P (iter f n a)
-iter-keeps P f n a k p = iter-both (λ x y. P x) f f n a a (λ i x y h q. k i x h q) p
-
-pub iter-cong : {A : Type 0} (f g : ℕ → A → A) (n : ℕ) (a : A) → ((i : ℕ) (x : A) → i < n → f i x ≡ g i x) → iter f n a ≡ iter g n a
-iter-cong f g n a k = iter-both (λ x y. x ≡ y) f g n a a (λ i x y h q. rw q (k i y h)) refl

@@ -21,24 +21,6 @@ zero-append (x ∷ p) q = rw (zero-append p q) (sym (and-assoc (eqb x 0) (allZer
 
 -- ---- zeros
 
-pub zero-zeros : (n : ℕ) → allZero (zeros n) ≡ true
-unfolding allZero
-zero-zeros zero = refl
-zero-zeros (suc n) = zero-zeros n
-
-pub zero-is : (l : List ℕ) (n : ℕ) → length l ≡ n → allZero l ≡ true → l ≡ zeros n
-unfolding allZero
-zero-is [] n h e = rw (← h)
-zero-is (x ∷ l) n h e =
-    let b = and-yes (eqb x 0) (allZero l) e in
-    rw (← h, eqb-true x 0 (b .0), ← zero-is l (length l) refl (b .1))
-
-pub zero-at : (l : List ℕ) (i : ℕ) → allZero l ≡ true → getD l i 0 ≡ 0
-unfolding allZero
-zero-at [] i e = refl
-zero-at (x ∷ l) zero e = eqb-true x 0 (and-yes (eqb x 0) (allZero l) e .0)
-zero-at (x ∷ l) (suc i) e = zero-at l i (and-yes (eqb x 0) (allZero l) e .1)
-
 -- ---- a loop that joins the bytes by `|`
 
 -- a test of two bytes at once

@@ -168,10 +168,6 @@ started-sound s readLife writeLife none p a =
     let x : (not (lifetime readLife) || not (lifetime writeLife)) ≡ false = Views.first-none (startRefusals readLife writeLife) p 0 in
     fresh-sound readLife writeLife (Views.not-false′ _ (Views.or-false₁ (not (lifetime readLife)) (not (lifetime writeLife)) x)) (Views.not-false′ _ (Views.or-false₂ (not (lifetime readLife)) (not (lifetime writeLife)) x))
 
-pub start-sound : (s : State) (readLife writeLife : ℕ) → start s readLife writeLife .answer ≡ Answer.Ready → sound (start s readLife writeLife .after) ≡ true
-unfolding start
-start-sound s readLife writeLife a = started-sound s readLife writeLife (first (startRefusals readLife writeLife)) refl a
-
 -- and a START that is refused keeps one
 pub start-keeps-sound : (s : State) (readLife writeLife : ℕ) → sound s ≡ true → sound (start s readLife writeLife .after) ≡ true
 unfolding start

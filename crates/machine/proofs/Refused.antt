@@ -178,3 +178,12 @@ show-refused s n k e p = go (first (showRefusals s n k)) (sight s n k) refl p
     go none none q h = absurd (let z : _≡_ {A = ℕ} 0 1 = cc in omega arith)
     go none (some x) q h = absurd (let z : _≡_ {A = ℕ} 0 1 = cc in omega arith)
     go (some d) x q h = let y : d ≡ e = cc in first-is (showRefusals s n k) e (q ∙ ap (λ (z : ℕ). some z) y)
+
+-- and the first that holds is given
+pub first-start : (s : State) (r w e : ℕ) → First (startRefusals r w) e → start s r w .answer ≡ Answer.Refused e
+unfolding start
+first-start s r w e f = rw (is-first (startRefusals r w) e f)
+
+pub first-show : (s : State) (n k e : ℕ) → First (showRefusals s n k) e → show s n k .answer ≡ Answer.Refused e
+unfolding show
+first-show s n k e f = rw (is-first (showRefusals s n k) e f)

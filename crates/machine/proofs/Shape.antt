@@ -72,7 +72,3 @@ pub orderly-next : (w : World) (e : Event) → Orderly (w .state) → Orderly (n
 unfolding commanded written
 orderly-next w (command now c v) h = orderly-step (w .state) now c v h
 orderly-next w (write n k v) h = h
-
-pub orderly-run : (w : World) (es : List Event) → Orderly (w .state) → Orderly (run w es .state)
-orderly-run w [] h = h
-orderly-run w (e ∷ es) h = orderly-run (next w e) es (orderly-next w e h)

@@ -53,13 +53,6 @@ pub fn number(s: &[u8], i: usize) -> u32
     lent::load_u32(s, layout::SESSIONS_FROM + i * layout::SESSION_WIDTH)
 }
 
-pub fn is_free(s: &[u8], i: usize) -> bool
-    requires { ⌜ (length (now s) ≡ stateSize) × (i < sessionCount) ⌝ }
-    ensures { λ r. ⌜ ((σ : State) → Holds (now (s .entry)) σ → r ≡ free (sessionAt σ i)) ⌝ }
-{
-    number(s, i) == 0
-}
-
 // The session in place i, all zero if it is free.
 pub fn load(s: &[u8], i: usize) -> Session
     requires { ⌜ (length (now s) ≡ stateSize) × (i < sessionCount) ⌝ }
