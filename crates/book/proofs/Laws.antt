@@ -55,14 +55,6 @@ module _ (b : List ℕ) (a : ℕ) (x : List ℕ) (f : a + length x ≤ length b)
   unfolding started
   started-apart h = rw (getD-apart b a x f startedAt 1 (inl h) startedAt (omega arith) (omega arith))
 
-  lines-apart : Apart linesAt 8 a (length x) → linesIn (splice b a x) ≡ linesIn b
-  unfolding linesIn
-  lines-apart d = le64-apart b a x f linesAt 8 d (omega arith)
-
-  broken-apart : Apart brokenAt 8 a (length x) → brokenIn (splice b a x) ≡ brokenIn b
-  unfolding brokenIn
-  broken-apart d = le64-apart b a x f brokenAt 8 d (omega arith)
-
   note-apart : (i : ℕ) → Apart (noteAt i) noteWidth a (length x) → note (splice b a x) i ≡ note b i
   unfolding note
   note-apart i d =
@@ -127,14 +119,6 @@ module _ (b : List ℕ) (e : length b ≡ bookSize) (i : ℕ) (h : i < keyCount 
   started-note : started (withNote b i v) ≡ started b
   unfolding withNote
   started-note = started-apart b (noteAt i) (length v ∷ v) (omega arith) (omega arith)
-
-  lines-note : linesIn (withNote b i v) ≡ linesIn b
-  unfolding withNote
-  lines-note = lines-apart b (noteAt i) (length v ∷ v) (omega arith) (inl (omega arith))
-
-  broken-note : brokenIn (withNote b i v) ≡ brokenIn b
-  unfolding withNote
-  broken-note = broken-apart b (noteAt i) (length v ∷ v) (omega arith) (inl (omega arith))
 
   note-same : note (withNote b i v) i ≡ v
   unfolding note withNote
@@ -288,14 +272,6 @@ module _ (b : List ℕ) (e : length b ≡ bookSize) (rule : ℕ) where
 
   pub mark-counted : (i : ℕ) → mark (counted b rule) i ≡ mark b i
   mark-counted i = kept-counted (λ x. mark x i) (λ s a x q g h. mark-apart s a x (omega arith) i (inr (omega arith)))
-
-  lines-more : linesIn more ≡ (linesIn b + 1) % 2 ^ 64
-  unfolding linesIn
-  lines-more = le64-same b linesAt ((linesIn b + 1) % 2 ^ 64) (omega arith) (omega arith)
-
-      go : (t : Bool) → brokenIn (if t then more else splice more brokenAt (bytes64 ((brokenIn more + 1) % 2 ^ 64))) ≡ (if t then brokenIn b else (brokenIn b + 1) % 2 ^ 64)
-      go true = one
-      go false = le64-same more brokenAt ((brokenIn more + 1) % 2 ^ 64) (omega (arith, length-more)) (omega arith) ∙ rw one
 
 -- ---- a value in the book is one of at most 64 bytes
 

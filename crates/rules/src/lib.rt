@@ -126,7 +126,7 @@ pub fn write(cache: &[u8], book: &mut [u8], session: u64, key: u64, value: &[u8]
     ensures { λ r. ⌜ Says (writes (now (cache .entry)) (now (book .entry)) session key (now (value .entry))) 0 r (now (cache .entry)) (now (book .exit)) ⌝ }
 {
     let rule = note_write(cache, book, session, key);
-    book::write(book, key, value);
+    notes::write(book, key, value);
     Said {
         word: WRITTEN,
         detail: 0,
@@ -140,10 +140,10 @@ fn fill_risk(book: &[u8], key: u64, value: &[u8]) -> u64
     requires { ⌜ length (now book) ≡ bookSize ⌝ }
     ensures { λ r. ⌜ r ≡ fillRisk (now (book .entry)) key (now (value .entry)) ⌝ }
 {
-    if book::is_registered(book, key, value) {
+    if notes::is_registered(book, key, value) {
         return KEPT;
     }
-    if book::is_granted(book, key, value) {
+    if notes::is_granted(book, key, value) {
         return KEPT;
     }
     FILL_RULE
@@ -175,7 +175,7 @@ fn is_stale(cache: &[u8], book: &[u8], session: u64, i: usize) -> bool
     let key = rows::key(cache, i) as u64;
     let at = layout::ROWS_FROM + i * layout::ROW_WIDTH + layout::ROW_VALUE;
     let end = at + rows::staged_length(cache, i);
-    !book::is_registered(book, key, &cache[at..end])
+    !notes::is_registered(book, key, &cache[at..end])
 }
 
 fn stale_for(cache: &[u8], book: &[u8], session: u64) -> bool
@@ -327,7 +327,7 @@ fn note_grant(book: &mut [u8], command: Command, word: u64)
     if word != LEASE {
         return;
     }
-    book::grant(book, asks_for(command));
+    notes::grant(book, asks_for(command));
 }
 
 fn rule_of(command: Command, word: u64, risk: u64) -> u64

@@ -1,9 +1,9 @@
 -- The length is written, and behind it the bytes of a note that lies before it.
 -- Assumes nothing.
-use Rattle.book.proofs.Notes.{note-copied}
+use Rattle.notes.proofs.Notes.{note-copied}
 use borrow.Author.Needs.{needs}
-use Rattle.book.proofs.copy_note.Statement.{statement}
-use Rattle.book.proofs.copy_note.Tie as tie
+use Rattle.notes.proofs.copy_note.Statement.{statement}
+use Rattle.notes.proofs.copy_note.Tie as tie
 
 note-length-requires : tie.Need-note-length-requires
 note-length-requires c κs = search needs

@@ -1,11 +1,11 @@
 -- What is no key is left alone; a key's note is written.
 -- Assumes nothing.
 use Rattle.book.specs.Book.{withRegistered}
 use borrow.Author.Tests.{le-ltb, lt-ltb}
 use Rattle.machine.specs.Sizes.{keyCount}
 use borrow.Author.Needs.{needs}
-use Rattle.book.proofs.write.Statement.{statement}
-use Rattle.book.proofs.write.Tie as tie
+use Rattle.notes.proofs.write.Statement.{statement}
+use Rattle.notes.proofs.write.Tie as tie
 
 returns : tie.Need-returns
 unfolding withRegistered

@@ -1,11 +1,11 @@
 -- The note is the part of the book that is lent, and the two are compared.
 -- Assumes nothing.
 use Rattle.book.specs.Book.{note}
 use mathlib.Core.Path.{_∙_}
 use Rattle.lent.proofs.Splice.{part-win}
 use borrow.Author.Needs.{needs}
-use Rattle.book.proofs.note_is.Statement.{statement}
-use Rattle.book.proofs.note_is.Tie as tie
+use Rattle.notes.proofs.note_is.Statement.{statement}
+use Rattle.notes.proofs.note_is.Tie as tie
 
 note-length-requires : tie.Need-note-length-requires
 note-length-requires c κs = search needs

@@ -1,24 +1,27 @@
 -- What is no key has the empty value; a key has its note.
 -- Assumes nothing.
-use Rattle.book.specs.Book.{registered}
+use Rattle.book.specs.Book.{granted}
 use mathlib.Core.Path.{sym}
 use borrow.Author.Tests.{le-ltb, lt-ltb}
 use Rattle.machine.specs.Sizes.{keyCount}
-use Rattle.book.proofs.Notes.{same-empty}
+use Rattle.notes.proofs.Notes.{same-empty}
 use borrow.Author.Needs.{needs}
-use Rattle.book.proofs.is_registered.Statement.{statement}
-use Rattle.book.proofs.is_registered.Tie as tie
+use Rattle.notes.proofs.is_granted.Statement.{statement}
+use Rattle.notes.proofs.is_granted.Tie as tie
 
 returns : tie.Need-returns
-unfolding registered
+unfolding granted
 returns c = rw (le-ltb _ keyCount (c .if1 .taken)) (sym (same-empty _))
+
+add-note-is : tie.Need-add-note-is
+add-note-is c = search needs
 
 note-is-requires : tie.Need-note-is-requires
 note-is-requires c κs = search needs
 
 returns-2 : tie.Need-returns-2
-unfolding registered
+unfolding granted
 returns-2 c = rw (lt-ltb _ keyCount (c .before .if1 .left)) (c .note-is .ensures)
 
-pub is-registered-spec : {M : Type 1} → statement M
-is-registered-spec = tie.close (tie.spec returns note-is-requires returns-2)
+pub is-granted-spec : {M : Type 1} → statement M
+is-granted-spec = tie.close (tie.spec returns add-note-is note-is-requires returns-2)

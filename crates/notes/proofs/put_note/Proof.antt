@@ -1,13 +1,13 @@
 -- The length and the bytes of the value are written one behind the other.
 -- Assumes nothing.
 use Rattle.book.specs.Book.{withNote}
 use mathlib.Core.Path.{refl}
 use mathlib.Core.List.{[], _∷_}
 use lib.ListN.{length}
 use Rattle.lent.proofs.Splice.{splice-then}
 use borrow.Author.Needs.{needs}
-use Rattle.book.proofs.put_note.Statement.{statement}
-use Rattle.book.proofs.put_note.Tie as tie
+use Rattle.notes.proofs.put_note.Statement.{statement}
+use Rattle.notes.proofs.put_note.Tie as tie
 
 mul-at : tie.Need-mul-at
 mul-at c = search needs

@@ -1,11 +1,11 @@
 -- What is no key is left alone; a key's first note is copied to its second.
 -- Assumes nothing.
 use Rattle.book.specs.Book.{registered, withGranted}
 use borrow.Author.Tests.{le-ltb, lt-ltb}
 use Rattle.machine.specs.Sizes.{keyCount}
 use borrow.Author.Needs.{needs}
-use Rattle.book.proofs.grant.Statement.{statement}
-use Rattle.book.proofs.grant.Tie as tie
+use Rattle.notes.proofs.grant.Statement.{statement}
+use Rattle.notes.proofs.grant.Tie as tie
 
 returns : tie.Need-returns
 unfolding withGranted registered
