@@ -124,11 +124,11 @@ fn change(s: &mut [u8], row: usize, k: usize, operation: u64, operand: &[u8]) ->
     let mut out = [0u8; 64];
     match work(s, row, k, operation, operand, &mut out) {
         Changed::To(n) => {
-            rows::stage(s, row, &out[..n]);
+            stagings::stage(s, row, &out[..n]);
             Answer::Staged
         }
         Changed::Drop => {
-            rows::stage_drop(s, row);
+            stagings::stage_drop(s, row);
             Answer::Dropped
         }
     }

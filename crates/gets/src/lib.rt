@@ -79,7 +79,7 @@ pub fn get(s: &mut [u8], time: u64, session: u64, key: u64) -> Answer
         return Answer::Refused(5);
     }
     let k = key as usize;
-    let row = rows::find(s, session, k);
+    let row = lookups::find(s, session, k);
     match row {
         Found::At(i) => asked(sights::row_sight(s, i, k)),
         Found::Nothing => others(s, time, k),

@@ -28,7 +28,7 @@ pub fn held(s: &[u8], k: usize) -> usize
     requires { ⌜ (length (now s) ≡ stateSize) × (k < keyCount) ⌝ }
     ensures { λ r. ⌜ ((σ : State) → Holds (now (s .entry)) σ → sound σ ≡ true → r ≡ heldOn σ k) × (r < 5) ⌝ }
 {
-    let row = rows::first_on(s, k);
+    let row = lookups::first_on(s, k);
     if let Found::At(i) = row {
         return line_of(rows::kind(s, i));
     }

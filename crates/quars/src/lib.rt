@@ -22,7 +22,7 @@ fn holds(s: &[u8], n: u32, k: u8, kind: u8) -> bool
     requires { ⌜ (length (now s) ≡ stateSize) × (1 ≤ kind) ⌝ }
     ensures { λ r. ⌜ ((σ : State) → Holds (now (s .entry)) σ → r ≡ eqb (kindOf (rowOf σ n k)) kind) ⌝ }
 {
-    let Found::At(i) = rows::find(s, n as u64, k as usize) else {
+    let Found::At(i) = lookups::find(s, n as u64, k as usize) else {
         return false;
     };
     rows::kind(s, i) == kind
@@ -33,10 +33,10 @@ fn grant(s: &mut [u8], n: u32, k: u8, kind: u8) -> Answer
     requires { ⌜ length (now s) ≡ stateSize ⌝ }
     ensures { λ r. ⌜ ((σ : State) → Holds (now (s .entry)) σ → 1 ≤ n → Gives (grant σ n k kind) r (now (s .exit))) ⌝ }
 {
-    let Found::At(i) = rows::free_place(s) else {
+    let Found::At(i) = lookups::free_place(s) else {
         return Answer::Refused(12);
     };
-    rows::put(s, i, n, k, kind);
+    stagings::put(s, i, n, k, kind);
     drops::drop_lease(s, k as usize);
     Answer::Granted
 }

@@ -99,7 +99,7 @@ fn mark_write(cache: &[u8], book: &mut [u8], i: usize, key: u64) -> u64
     if !session.is_sealed() {
         return WRITE_RULE;
     }
-    let row = rows::find(cache, number as u64, key as usize);
+    let row = lookups::find(cache, number as u64, key as usize);
     match row {
         Found::At(_) => KEPT,
         Found::Nothing => WRITE_RULE,

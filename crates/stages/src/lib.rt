@@ -38,7 +38,7 @@ fn steps(s: &[u8], place: usize, session: Session, step: u64, k: usize, kind: u8
     requires { ⌜ (length (now s) ≡ stateSize) × ((place < sessionCount) × (step < stepMax)) ⌝ }
     ensures { λ r. ⌜ ((σ : State) → Holds (now (s .entry)) σ → askerOf σ (session .number) ≡ Asked.Open place session → r ≡ stagingOf σ (session .number) step k kind) × Placed r ⌝ }
 {
-    let Found::At(row) = rows::find(s, session.number as u64, k) else {
+    let Found::At(row) = lookups::find(s, session.number as u64, k) else {
         return Staging::Refused(8);
     };
     if rows::kind(s, row) != kind {
@@ -85,7 +85,7 @@ pub fn stage(s: &mut [u8], session: u64, step: u64, key: u64, value: &[u8]) -> A
         Staging::Repeated => Answer::Repeated,
         Staging::At { place, row, next } => {
             sessions::store(s, place, next);
-            rows::stage(s, row, value);
+            stagings::stage(s, row, value);
             Answer::Staged
         }
     }

@@ -24,7 +24,7 @@ fn look(s: &[u8], session: u64, k: usize) -> Sight
     requires { ⌜ (length (now s) ≡ stateSize) × (k < keyCount) ⌝ }
     ensures { λ r. ⌜ ((σ : State) → Holds (now (s .entry)) σ → r ≡ placed (sight σ session k)) × Inside r ⌝ }
 {
-    let row = rows::find(s, session, k);
+    let row = lookups::find(s, session, k);
     match row {
         Found::At(i) => sights::row_sight(s, i, k),
         Found::Nothing => sights::cached_sight(s, k),

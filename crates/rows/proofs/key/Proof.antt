@@ -1,6 +1,6 @@
 -- The byte behind the session is the key.
 use Rattle.layout.proofs.Held.{target-held}
-use mathlib.Core.Path.{_≡_, sym, ap, _∙_}
+use mathlib.Core.Path.{_∙_}
 use borrow.Author.Needs.{needs}
 use Rattle.rows.proofs.key.Statement.{statement}
 use Rattle.rows.proofs.key.Tie as tie

@@ -1,6 +1,6 @@
 -- The four bytes at the row are its session.
 use Rattle.layout.proofs.Held.{owner-held}
-use mathlib.Core.Path.{_≡_, sym, ap, _∙_}
+use mathlib.Core.Path.{_∙_}
 use borrow.Author.Needs.{needs}
 use Rattle.rows.proofs.session.Statement.{statement}
 use Rattle.rows.proofs.session.Tie as tie

@@ -1,6 +1,6 @@
 -- The byte behind the mark is the length.
 use Rattle.layout.proofs.Held.{staged-long}
-use mathlib.Core.Path.{_≡_, sym, ap, _∙_}
+use mathlib.Core.Path.{_∙_}
 use borrow.Author.Needs.{needs}
 use Rattle.rows.proofs.staged_length.Statement.{statement}
 use Rattle.rows.proofs.staged_length.Tie as tie

@@ -1,9 +1,9 @@
 -- A free row is one whose session is 0.
-use Rattle.rows.proofs.Tests.{free-search}
-use mathlib.Core.Path.{_≡_, sym, ap, _∙_}
+use Rattle.lookups.proofs.Tests.{free-search}
+use mathlib.Core.Path.{_∙_}
 use borrow.Author.Needs.{needs}
-use Rattle.rows.proofs.free_place.Statement.{statement}
-use Rattle.rows.proofs.free_place.Tie as tie
+use Rattle.lookups.proofs.free_place.Statement.{statement}
+use Rattle.lookups.proofs.free_place.Tie as tie
 
 find-number-requires : tie.Need-find-number-requires
 find-number-requires c κs = search needs

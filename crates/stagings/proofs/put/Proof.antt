@@ -1,10 +1,8 @@
 -- The three pieces make up the row.
-use Rattle.rows.proofs.Tests.{row-put}
-use mathlib.Core.Path.{_≡_, sym, ap, _∙_}
--- The three pieces make up the row.
+use Rattle.stagings.proofs.Written.{row-put}
 use borrow.Author.Needs.{needs}
-use Rattle.rows.proofs.put.Statement.{statement}
-use Rattle.rows.proofs.put.Tie as tie
+use Rattle.stagings.proofs.put.Statement.{statement}
+use Rattle.stagings.proofs.put.Tie as tie
 
 mul-at : tie.Need-mul-at
 mul-at c = search needs

@@ -1,11 +1,8 @@
 -- The two pieces make up what is staged.
-use Rattle.rows.proofs.Tests.{value-staged}
-use mathlib.Core.Path.{_≡_, sym, ap, _∙_}
--- The two pieces make up what is staged.
--- The two pieces make up what is staged.
+use Rattle.stagings.proofs.Written.{value-staged}
 use borrow.Author.Needs.{needs}
-use Rattle.rows.proofs.stage.Statement.{statement}
-use Rattle.rows.proofs.stage.Tie as tie
+use Rattle.stagings.proofs.stage.Statement.{statement}
+use Rattle.stagings.proofs.stage.Tie as tie
 
 mul-at : tie.Need-mul-at
 mul-at c = search needs

@@ -7,9 +7,9 @@ use Rattle.lent.specs.Tables.{first}
 use Rattle.lent.proofs.Walks.{first-hit, first-miss, first-end}
 use Rattle.machine.specs.Sizes.{rowCount}
 use Rattle.layout.specs.declared.Found.{Found}
-use Rattle.rows.specs.Test.{rowTest}
-use Rattle.rows.proofs.search.Statement.{statement}
-use Rattle.rows.proofs.search.Tie as tie
+use Rattle.lookups.specs.Test.{rowTest}
+use Rattle.lookups.proofs.search.Statement.{statement}
+use Rattle.lookups.proofs.search.Tie as tie
 
 abbrev Inv-loop : tie.InvT-loop
 Inv-loop s n k i₀ i = (i ≤ rowCount) × (first (rowTest s n k) Found.At Found.Nothing 0 rowCount ≡ first (rowTest s n k) Found.At Found.Nothing i (rowCount - i))

@@ -1,9 +1,9 @@
 -- Session 0 has no row, and a search for any other is one of the table.
-use Rattle.rows.proofs.Tests.{of-search, none-zero}
-use mathlib.Core.Path.{_≡_, sym, ap, _∙_}
+use Rattle.lookups.proofs.Tests.{of-search, none-zero}
+use mathlib.Core.Path.{sym, _∙_}
 use borrow.Author.Needs.{needs}
-use Rattle.rows.proofs.find.Statement.{statement}
-use Rattle.rows.proofs.find.Tie as tie
+use Rattle.lookups.proofs.find.Statement.{statement}
+use Rattle.lookups.proofs.find.Tie as tie
 
 returns : tie.Need-returns
 returns c = (λ σ h. rw (c .if1 .taken) (sym (none-zero h _)), tt)

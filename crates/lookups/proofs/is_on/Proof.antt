@@ -1,10 +1,9 @@
 -- Each test of the code is one of the definition.
-use Rattle.rows.specs.Test.{rowTest}
+use Rattle.lookups.specs.Test.{rowTest}
 use borrow.Author.Tests.{eq-eqb, ne-eqb}
-use mathlib.Core.Path.{_≡_, sym, ap, _∙_}
 use borrow.Author.Needs.{needs}
-use Rattle.rows.proofs.is_on.Statement.{statement}
-use Rattle.rows.proofs.is_on.Tie as tie
+use Rattle.lookups.proofs.is_on.Statement.{statement}
+use Rattle.lookups.proofs.is_on.Tie as tie
 
 mul-at : tie.Need-mul-at
 mul-at c = search needs

@@ -1,9 +1,9 @@
 -- A search for any session is one for a row on the key.
-use Rattle.rows.proofs.Tests.{on-search}
-use mathlib.Core.Path.{_≡_, sym, ap, _∙_}
+use Rattle.lookups.proofs.Tests.{on-search}
+use mathlib.Core.Path.{_∙_}
 use borrow.Author.Needs.{needs}
-use Rattle.rows.proofs.first_on.Statement.{statement}
-use Rattle.rows.proofs.first_on.Tie as tie
+use Rattle.lookups.proofs.first_on.Statement.{statement}
+use Rattle.lookups.proofs.first_on.Tie as tie
 
 search-requires : tie.Need-search-requires
 search-requires c κs = search needs

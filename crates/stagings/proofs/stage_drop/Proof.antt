@@ -1,9 +1,8 @@
 -- The two pieces make up what is staged.
-use Rattle.rows.proofs.Tests.{drop-staged}
--- The two pieces make up what is staged.
+use Rattle.stagings.proofs.Written.{drop-staged}
 use borrow.Author.Needs.{needs}
-use Rattle.rows.proofs.stage_drop.Statement.{statement}
-use Rattle.rows.proofs.stage_drop.Tie as tie
+use Rattle.stagings.proofs.stage_drop.Statement.{statement}
+use Rattle.stagings.proofs.stage_drop.Tie as tie
 
 mul-at : tie.Need-mul-at
 mul-at c = search needs
