@@ -3,3 +3,4 @@ pub mod Seats
 pub mod Lookup
 pub mod Pairs
 pub mod Joins
+pub mod Entered

@@ -116,6 +116,12 @@ pub record Seated (nums : List ℕ) (i : ℕ) (seats : List ℕ) : Type 0 where
   pub small : Small i seats
   pub held : (j : ℕ) → j < i → (item nums j ≡ 0 → ⊥) → (u : ℕ) → u < tries → item seats (seatOf (item nums j) u) ≡ 0 → (t : ℕ) × (t < u) × (item seats (seatOf (item nums j) t) ≡ j + 1)
 
+-- the first i of the numbers f stand side by side, each that is not 0 once and with its seat
+pub record Entered (f : ℕ → ℕ) (i : ℕ) (nums seats : List ℕ) : Type 0 where
+  pub gathered : Gathered f i nums
+  pub once : distinct f i ≡ true
+  pub seated : Seated nums i seats
+
 -- One pass over the rows
 
 -- the mark of key k and session place q: bit q of the key's word in `near`, or bit q - 64 of that in `far`

@@ -15,7 +15,6 @@ use Rattle.machine.specs.State.{Staged, Row, noRow, row, State, rowAt}
 use Rattle.machine.specs.Sound.{newAt, distinct, numberAt, tokenAt, numbersDistinct, tokensDistinct, liveRow, rowsLive, once, rowsOnce, shares, rowsAlone, leaseless, rowsLeaseless, joined}
 use Rattle.layout.specs.Layout.{decStaged, decode}
 use Rattle.joins.specs.Joins.{numbers, rowSession, rowKey, rowKind, isLive, pairOk, joinOk}
-use Rattle.state.specs.Forms.{recordsJoin}
 use Rattle.state.proofs.Fields.{rowBytes, number-at, token-at, rowOr, row-is}
 
 distinct-cong : (f g : ℕ → ℕ) (n : ℕ) → ((i : ℕ) → i < n → f i ≡ g i) → distinct f n ≡ distinct g n
@@ -101,6 +100,6 @@ module _ (s : List ℕ) where
         rw (every-both (λ i. every (λ j. shares (rowAt σ j) (rowAt σ i)) i) (λ i. leaseless σ (rowAt σ i)) rowCount, every-both (λ i. every (λ j. once (rowAt σ j) (rowAt σ i)) i) (λ i. every (λ j. shares (rowAt σ j) (rowAt σ i)) i && leaseless σ (rowAt σ i)) rowCount, every-both (λ i. liveRow σ (rowAt σ i)) (λ i. every (λ j. once (rowAt σ j) (rowAt σ i)) i && (every (λ j. shares (rowAt σ j) (rowAt σ i)) i && leaseless σ (rowAt σ i))) rowCount)
         (every-cong (λ i. agrees i (rowAt σ i)) (joinOk s) rowCount row-law)
 
-    pub joined-law : joined σ ≡ recordsJoin s
-    unfolding joined recordsJoin
+    pub joined-law : joined σ ≡ distinct (numbers s sessionsFrom sessionWidth) sessionCount && (distinct (numbers s (keysFrom + 4) keyWidth) keyCount && every (joinOk s) rowCount)
+    unfolding joined
     joined-law = rw (numbers-law, tokens-law, rows-law)

@@ -19,10 +19,11 @@ use Rattle.lent.proofs.Tables.{length-read, same-tab-at}
 use Rattle.lent.proofs.Walks.{every-both, every-cong}
 use Rattle.machine.specs.Sizes.{stateSize, headSize, keyCount, keysFrom, keyWidth, rowCount, rowsFrom, rowWidth, sessionCount, sessionsFrom, sessionWidth, restFrom, restSize}
 use Rattle.machine.specs.State.{Head, State, keyOf, rowAt, sessionAt}
-use Rattle.machine.specs.Sound.{headSound, keySound, rowSound, sessionSound, joined, sized, sound}
+use Rattle.machine.specs.Sound.{headSound, keySound, rowSound, sessionSound, distinct, joined, sized, sound}
 use Rattle.layout.specs.Layout.{encHead, decHead, encKey, decKey, encRow, decRow, encSession, decSession, encode, decode}
 use Rattle.layout.specs.WellFormed.{wellFormed}
-use Rattle.state.specs.Forms.{headFormed, keysFormed, rowsFormed, sessionsFormed, tablesFormed, recordsJoin, stateFormed}
+use Rattle.joins.specs.Joins.{numbers, joinOk}
+use Rattle.state.specs.Forms.{headFormed, keysFormed, rowsFormed, sessionsFormed, keysFit, sessionsFit, rowsFit, tablesFit, stateFormed}
 use Rattle.state.proofs.Widths.{key-wide, row-wide, session-wide}
 use Rattle.state.proofs.Records.{head-law, key-law, row-law, session-law}
 use Rattle.state.proofs.Fields.{keyBytes, rowBytes, sessionBytes, key-at, row-at, session-at}
@@ -106,12 +107,20 @@ module _ (s : List ℕ) (h : length s ≡ stateSize) (f : Bytes s) where
       every-both _ _ sessionCount
       ∙ every-cong _ _ sessionCount (λ j l. session-law (sessionBytes s j) (bytes-win s (sessionsFrom + j * sessionWidth) sessionWidth (omega arith) f) (length-win s (sessionsFrom + j * sessionWidth) sessionWidth (omega arith)) hd)
 
+  -- each table's records with what joins them
+  line : (h k r q z n t j : Bool) → h && (k && (r && (q && (z && (n && (t && j)))))) ≡ h && (z && ((k && t) && ((q && n) && (r && j))))
+  line h k r q z n t j =
+      rw (ahead q z (n && (t && j)), ahead r z (q && (n && (t && j))), ahead k z (r && (q && (n && (t && j)))), ahead n t j, ahead q t (n && j), ahead r t (q && (n && j)), ahead r q (n && j), ahead r n j, and-assoc k t ((q && n) && (r && j)), and-assoc q n (r && j))
+    where
+      ahead : (a b c : Bool) → a && (b && c) ≡ b && (a && c)
+      ahead true true c = refl
+      ahead true false c = refl
+      ahead false true c = refl
+      ahead false false c = refl
+
   pub whole : stateFormed s ≡ wellFormed s
-  unfolding stateFormed tablesFormed wellFormed
+  unfolding stateFormed tablesFit keysFit sessionsFit rowsFit wellFormed
   whole =
       sym
       (rw (eq-eqb (length s) stateSize h, bytes-law, sound-law, and-swap, head-law s f h, and-swap, keys-law, and-swap, rows-law, and-swap, sessions-law, joined-law s f)
-      (line (keysFormed s) (rowsFormed s) (sessionsFormed s) (allZero (win s restFrom restSize)) (recordsJoin s)))
-    where
-      line : (k r q z j : Bool) → headFormed s && (k && (r && (q && (z && j)))) ≡ headFormed s && ((k && (r && (q && z))) && j)
-      line k r q z j = rw (and-assoc k (r && (q && z)) j, and-assoc r (q && z) j, and-assoc q z j)
+      (line (headFormed s) (keysFormed s) (rowsFormed s) (sessionsFormed s) (allZero (win s restFrom restSize)) (distinct (numbers s sessionsFrom sessionWidth) sessionCount) (distinct (numbers s (keysFrom + 4) keyWidth) keyCount) (every (joinOk s) rowCount)))

@@ -1,58 +1,47 @@
--- Stretches that are all 0: two in step, one byte of each at a turn; and one that two shorter ones cover, whose common bytes count once.
+-- Stretches that are all 0: the bytes behind a value, which a mask keeps while it hides those of the value; and two side by side.
 -- Assumes nothing.
-use Prim.Native.Nat.{ℕ, suc, _+_, _-_, _≤_, _<_}
-use mathlib.Core.Path.{_≡_, sym, ap, _∙_}
-use mathlib.Core.Bool.{Bool, true, false, _&&_, and-true, and-false}
+use Prim.Native.Nat.{ℕ, suc, _+_, _-_, _%_, _≤_, _<_}
+use mathlib.Core.Path.{_≡_, refl, sym, ap, _∙_}
+use mathlib.Core.Bool.{Bool, true, false, _&&_}
 use mathlib.Core.List.{List}
 use native.Mathlib.Omega.{arith}
-use lib.Bits.{bitOr}
-use lib.Dec.{eqb}
+use lib.Bits.{bitAnd, bitOr, and-zero-r, or-zero-r, and-mask}
+use lib.Dec.{eqb, ltb}
 use lib.ListN.{getD, length}
-use Rattle.lent.specs.Bytes.{le32, le64, win}
+use borrow.Author.Tests.{ltb-true, ltb-false}
+use Rattle.lent.specs.Bytes.{le64, win}
 use Rattle.lent.specs.Tables.{allZero}
-use Rattle.lent.proofs.Choices.{and-swap}
-use Rattle.lent.proofs.Numbers.{zero-le32, zero-le64}
-use Rattle.lent.proofs.Splice.{win-add, win-cons, win-more, win-whole}
-use Rattle.lent.proofs.Zeros.{zero-append, eqb-or}
+use Rattle.lent.proofs.Numbers.{zero-le64}
+use Rattle.lent.proofs.Splice.{win-add, win-cons, win-whole}
+use Rattle.lent.proofs.Zeros.{zero-append, or-turn}
 use Rattle.machine.specs.Sizes.{sessionWidth}
 
-zero-more : (s : List ℕ) (a i : ℕ) → a + i < length s → allZero (win s a (i + 1)) ≡ allZero (win s a i) && eqb (getD s (a + i) 0) 0
-unfolding allZero
-zero-more s a i h = rw (win-more s a i h, zero-append) (ap (λ (t : Bool). allZero (win s a i) && t) (and-true _))
+small-mod : (x : ℕ) → x < 256 → x % 256 ≡ x
+small-mod x h = omega arith
 
-pub pair-turn : (s : List ℕ) (a b i m : ℕ) → a + i < length s → b + i < length s → eqb m 0 ≡ allZero (win s a i) && allZero (win s b i)
-    → eqb (bitOr m (bitOr (getD s (a + i) 0) (getD s (b + i) 0))) 0 ≡ allZero (win s a (i + 1)) && allZero (win s b (i + 1))
-pair-turn s a b i m h k e =
-    rw (eqb-or m (bitOr (getD s (a + i) 0) (getD s (b + i) 0)), eqb-or (getD s (a + i) 0) (getD s (b + i) 0), e, zero-more s a i h, zero-more s b i k)
-    (and-swap (allZero (win s a i)) (allZero (win s b i)) (eqb (getD s (a + i) 0) 0) (eqb (getD s (b + i) 0) 0))
-
--- the first w of n and the last w are all, if w is at least half of n
-pub zero-ends : (s : List ℕ) (a n w : ℕ) → w ≤ n → n ≤ w + w → allZero (win s a w) && allZero (win s (a + (n - w)) w) ≡ allZero (win s a n)
-zero-ends s a n w h k = go (n - w) (w + w - n) (omega arith) (omega arith)
+-- a turn of a loop over the bytes at `at`, of which a mask w keeps those from n on
+pub mask-turn : (s : List ℕ) (at n i m w : ℕ) → at + i < length s → getD s (at + i) 0 < 256 → (i < n → w ≡ 0) → (n ≤ i → w ≡ 255)
+    → eqb m 0 ≡ allZero (win s (at + n) (i - n)) → eqb (bitOr m (bitAnd (getD s (at + i) 0) w)) 0 ≡ allZero (win s (at + n) (i + 1 - n))
+mask-turn s at n i m w l byte low high e = go (ltb i n) refl
   where
-    mix : (p q r : Bool) → (p && q) && (q && r) ≡ p && (q && r)
-    mix p true r = rw (and-true p)
-    mix p false r = rw (and-false p)
-
-    go : (m j : ℕ) → m + j ≡ w → m + (j + m) ≡ n → allZero (win s a w) && allZero (win s (a + m) w) ≡ allZero (win s a n)
-    go m j e f =
-        let front : allZero (win s a w) ≡ allZero (win s a m) && allZero (win s (a + m) j) = rw (← e, win-add s a m j) (zero-append (win s a m) (win s (a + m) j)) in
-        let back : allZero (win s (a + m) w) ≡ allZero (win s (a + m) j) && allZero (win s (a + m + j) m) =
-        (let e′ : w ≡ j + m = omega arith in rw (e′, win-add s (a + m) j m) (zero-append (win s (a + m) j) (win s (a + m + j) m))) in
-        let all : allZero (win s a n) ≡ allZero (win s a m) && (allZero (win s (a + m) j) && allZero (win s (a + m + j) m)) =
-        rw (← f, win-add s a m (j + m), zero-append (win s a m) (win s (a + m) (j + m)), win-add s (a + m) j m, zero-append (win s (a + m) j) (win s (a + m + j) m)) in
-        rw (front, back, all) (mix (allZero (win s a m)) (allZero (win s (a + m) j)) (allZero (win s (a + m + j) m)))
-
--- the same where a stretch is read as one number
-pub zero-ends64 : (s : List ℕ) (a n : ℕ) → 8 ≤ n → n ≤ 16 → a + n ≤ length s → eqb (le64 s a) 0 && eqb (le64 s (a + (n - 8))) 0 ≡ allZero (win s a n)
-zero-ends64 s a n h k l = rw (← zero-le64 s a (omega arith), ← zero-le64 s (a + (n - 8)) (omega arith)) (zero-ends s a n 8 h k)
-
-pub zero-ends32 : (s : List ℕ) (a n : ℕ) → 4 ≤ n → n ≤ 8 → a + n ≤ length s → eqb (le32 s a) 0 && eqb (le32 s (a + (n - 4))) 0 ≡ allZero (win s a n)
-zero-ends32 s a n h k l = rw (← zero-le32 s a (omega arith), ← zero-le32 s (a + (n - 4)) (omega arith)) (zero-ends s a n 4 h k)
+    go : (t : Bool) → ltb i n ≡ t → eqb (bitOr m (bitAnd (getD s (at + i) 0) w)) 0 ≡ allZero (win s (at + n) (i + 1 - n))
+    go true q =
+        let h : i < n = ltb-true i n q in
+        let none : bitAnd (getD s (at + i) 0) w ≡ 0 = ap (bitAnd (getD s (at + i) 0)) (low h) ∙ and-zero-r (getD s (at + i) 0) in
+        let still : i - n ≡ i + 1 - n = omega arith in
+        ap (λ (x : ℕ). eqb (bitOr m x) 0) none ∙ (ap (λ (x : ℕ). eqb x 0) (or-zero-r m) ∙ (e ∙ ap (λ (x : ℕ). allZero (win s (at + n) x)) still))
+    go false q =
+        let h : n ≤ i = ltb-false i n q in
+        let at-is : at + i ≡ at + n + (i - n) = omega arith in
+        let kept : bitAnd (getD s (at + i) 0) w ≡ getD s (at + n + (i - n)) 0 = ap (bitAnd (getD s (at + i) 0)) (high h) ∙ (and-mask (getD s (at + i) 0) 8 ∙ (small-mod (getD s (at + i) 0) byte ∙ ap (λ (x : ℕ). getD s x 0) at-is)) in
+        let more : i - n + 1 ≡ i + 1 - n = omega arith in
+        ap (λ (x : ℕ). eqb (bitOr m x) 0) kept ∙ (or-turn s (at + n) (i - n) m (omega arith) e ∙ ap (λ (x : ℕ). allZero (win s (at + n) x)) more)
 
 -- the 16 bytes of a session
 pub session-free : (x : List ℕ) → length x ≡ sessionWidth → allZero x ≡ eqb (le64 x 0) 0 && eqb (le64 x 8) 0
-session-free x h = ap allZero (sym (win-whole x sessionWidth h)) ∙ sym (zero-ends64 x 0 sessionWidth (omega arith) (omega arith) (omega arith))
+session-free x h =
+    ap allZero (sym (win-whole x sessionWidth h) ∙ win-add x 0 8 8)
+    ∙ rw (zero-append (win x 0 8) (win x 8 8), zero-le64 x 0 (omega arith), zero-le64 x 8 (omega arith))
 
 -- the first of some bytes, and the rest
 pub zero-first : (s : List ℕ) (a n : ℕ) → a < length s → allZero (win s a (suc n)) ≡ eqb (getD s a 0) 0 && allZero (win s (a + 1) n)

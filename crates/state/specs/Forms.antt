@@ -1,6 +1,8 @@
--- What the check tests of the bytes, part by part in its order. A part is formed if it is the encoding of what it decodes to and that is sound.
+-- What the check tests of the bytes, part by part in its order. A part is formed if it is the encoding of what it decodes to and that is sound;
+-- a table fits if its records are formed and agree with those before them and with the tables before.
 -- x is a record's bytes, s the whole state's; `limit` is the clock plus a lifetime, and `next` the next number to give.
-use Prim.Native.Nat.{ℕ, _+_, _-_, _*_}
+use Prim.Native.Nat.{ℕ, _+_, _-_, _*_, _≤_, _<_}
+use mathlib.Core.Path.{_≡_}
 use mathlib.Core.Bool.{Bool, _&&_}
 use mathlib.Core.List.{List}
 use lib.ListN.{getD}
@@ -71,15 +73,27 @@ rowsFormed s = every (λ i. rowFormed (win s (rowsFrom + i * rowWidth) rowWidth)
 unfoldable pub sessionsFormed : List ℕ → Bool
 sessionsFormed s = every (λ j. sessionFormed (writeLimit (decHead s)) (decHead s .nextSession) (win s (sessionsFrom + j * sessionWidth) sessionWidth)) sessionCount
 
-unfoldable pub tablesFormed : List ℕ → Bool
-tablesFormed s = keysFormed s && (rowsFormed s && (sessionsFormed s && allZero (win s restFrom restSize)))
+-- tokens are distinct
+unfoldable pub keysFit : List ℕ → Bool
+keysFit s = keysFormed s && distinct (numbers s (keysFrom + 4) keyWidth) keyCount
 
--- What joins records: session numbers and tokens are distinct, and each row agrees with the sessions, the keys and the rows before it
-unfoldable pub recordsJoin : List ℕ → Bool
-recordsJoin s =
-    distinct (numbers s sessionsFrom sessionWidth) sessionCount
-    && (distinct (numbers s (keysFrom + 4) keyWidth) keyCount
-    && every (joinOk s) rowCount)
+-- session numbers are distinct
+unfoldable pub sessionsFit : List ℕ → Bool
+sessionsFit s = sessionsFormed s && distinct (numbers s sessionsFrom sessionWidth) sessionCount
+
+-- each row agrees with the sessions, its key and the rows before it
+unfoldable pub rowsFit : List ℕ → Bool
+rowsFit s = rowsFormed s && every (joinOk s) rowCount
+
+unfoldable pub tablesFit : List ℕ → Bool
+tablesFit s = allZero (win s restFrom restSize) && (keysFit s && (sessionsFit s && rowsFit s))
 
 unfoldable pub stateFormed : List ℕ → Bool
-stateFormed s = headFormed s && (tablesFormed s && recordsJoin s)
+stateFormed s = headFormed s && tablesFit s
+
+-- The bytes behind a value
+
+-- 64 bytes 0 and 64 of ones: those from 64 - n on keep, of the 64 at a value of n bytes, what stands behind it
+pub record Masks (masks : List ℕ) : Type 0 where
+  pub zeros : (j : ℕ) → j < valueMax → getD masks j 0 ≡ 0
+  pub ones : (j : ℕ) → valueMax ≤ j → j < valueMax + valueMax → getD masks j 0 ≡ 255

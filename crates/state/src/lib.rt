@@ -1,15 +1,16 @@
 // Whether a lent buffer holds a well-formed state: the header, each record by itself, then what joins records.
 ghost use mathlib.Core.Path.{_≡_};
-ghost use mathlib.Core.Bool.{_&&_};
-ghost use Prim.Native.Nat.{_+_, _≤_};
-ghost use lib.ListN.{length};
+ghost use mathlib.Core.Bool.{true};
+ghost use Prim.Native.Nat.{_+_, _-_, _≤_};
+ghost use lib.ListN.{length, replicate};
 ghost use lib.Dec.{eqb};
 ghost use Rattle.lent.specs.Bytes.{le64, le32, win};
 ghost use Rattle.lent.specs.Tables.{if_then_else_, allZero};
-ghost use Rattle.machine.specs.Sizes.{stateSize, keyWidth, rowWidth, sessionWidth, valueMax, timeMax};
+ghost use Rattle.machine.specs.Sizes.{stateSize, keyWidth, rowWidth, sessionCount, sessionsFrom, sessionWidth, valueMax, timeMax};
 ghost use Rattle.machine.specs.Sound.{lifetime};
 ghost use Rattle.layout.specs.WellFormed.{wellFormed};
-ghost use Rattle.state.specs.Forms.{headFormed, fitted, valueFormed, leaseFormed, keyFormed, stagedFormed, rowFormed, lifeFormed, sessionFormed, keysFormed, rowsFormed, sessionsFormed, tablesFormed, recordsJoin, stateFormed};
+ghost use Rattle.joins.specs.Joins.{numbers, Entered};
+ghost use Rattle.state.specs.Forms.{headFormed, fitted, valueFormed, leaseFormed, keyFormed, stagedFormed, rowFormed, lifeFormed, sessionFormed, Masks, keysFit, sessionsFit, rowsFit, tablesFit, stateFormed};
 
 // The header's bytes that are used, and those behind them.
 const HEAD_USED: usize = 24;
@@ -23,6 +24,9 @@ const REST_SIZE: usize = layout::STATE_SIZE - REST_FROM;
 
 // The tokens of the keys' leases.
 const TOKENS_FROM: usize = layout::KEYS_FROM + layout::KEY_TOKEN;
+
+// Twice the length of a value.
+const MASKS: usize = layout::VALUE_MAX + layout::VALUE_MAX;
 
 const TIME_MAX: u64 = 281474976710655;
 
@@ -63,70 +67,55 @@ fn head_formed(s: &[u8]) -> bool
     blocks::is_zero(s, HEAD_USED, HEAD_UNUSED)
 }
 
-// Whether the n bytes at a and the n bytes at b are all 0.
-fn are_zero(s: &[u8], a: usize, b: usize, n: usize) -> bool
-    requires { ⌜ (a + n ≤ length (now s)) × (b + n ≤ length (now s)) ⌝ }
-    ensures { λ r. ⌜ r ≡ (allZero (win (now (s .entry)) a n) && allZero (win (now (s .entry)) b n)) ⌝ }
+// 64 bytes 0 before 64 of ones.
+fn fill_masks(masks: &mut [u8; MASKS])
+    requires { ⌜ now masks ≡ replicate (valueMax + valueMax) 0 ⌝ }
+    ensures { λ _. ⌜ Masks (now (masks .exit)) ⌝ }
 {
+    for i in layout::VALUE_MAX..MASKS {
+        masks[i] = 255;
+    }
+}
+
+// Whether, of the 64 bytes at `at`, those from n on are all 0. All 64 are read whatever n is, so that nothing branches on it.
+fn is_bare(r: &[u8], at: usize, n: usize, masks: &[u8; MASKS]) -> bool
+    requires { ⌜ (at + valueMax ≤ length (now r)) × ((n ≤ valueMax) × Masks (now masks)) ⌝ }
+    ensures { λ b. ⌜ b ≡ allZero (win (now (r .entry)) (at + n) (valueMax - n)) ⌝ }
+{
+    let from = layout::VALUE_MAX - n;
     let mut seen: u8 = 0;
-    for i in 0..n {
-        seen = seen | (s[a + i] | s[b + i]);
+    for i in 0..layout::VALUE_MAX {
+        seen = seen | (r[at + i] & masks[from + i]);
     }
     seen == 0
 }
 
-// Whether the n bytes at `from` are all 0, n at most 64: the first 32, 16, 8 or 4 and the last as many, which may overlap. Each has a length that is
-// known, so that no loop is left but that of the last three bytes.
-fn is_bare(s: &[u8], from: usize, n: usize) -> bool
-    requires { ⌜ (n ≤ valueMax) × (from + n ≤ length (now s)) ⌝ }
-    ensures { λ r. ⌜ r ≡ allZero (win (now (s .entry)) from n) ⌝ }
-{
-    if 32 <= n {
-        return are_zero(s, from, from + (n - 32), 32);
-    }
-    if 16 <= n {
-        return are_zero(s, from, from + (n - 16), 16);
-    }
-    if 8 <= n {
-        if lent::load_u64(s, from) != 0 {
-            return false;
-        }
-        return lent::load_u64(s, from + (n - 8)) == 0;
-    }
-    if 4 <= n {
-        if lent::load_u32(s, from) != 0 {
-            return false;
-        }
-        return lent::load_u32(s, from + (n - 4)) == 0;
-    }
-    blocks::is_zero(s, from, n)
-}
-
 // A value of n bytes in the 64 at `at`, zero behind it.
-fn is_fitted(r: &[u8], at: usize, n: usize) -> bool
-    requires { ⌜ at + valueMax ≤ length (now r) ⌝ }
+fn is_fitted(r: &[u8], at: usize, n: usize, masks: &[u8; MASKS]) -> bool
+    requires { ⌜ (at + valueMax ≤ length (now r)) × Masks (now masks) ⌝ }
     ensures { λ b. ⌜ b ≡ fitted (now (r .entry)) at n ⌝ }
 {
     if layout::VALUE_MAX < n {
         return false;
     }
-    is_bare(r, at + n, layout::VALUE_MAX - n)
+    is_bare(r, at, n, masks)
 }
 
-fn value_formed(r: &[u8]) -> bool
-    requires { ⌜ length (now r) ≡ keyWidth ⌝ }
+// The mark and the length are one word. Without a value both are 0, so that all 64 bytes are behind it.
+fn value_formed(r: &[u8], masks: &[u8; MASKS]) -> bool
+    requires { ⌜ (length (now r) ≡ keyWidth) × Masks (now masks) ⌝ }
     ensures { λ b. ⌜ b ≡ valueFormed (now (r .entry)) ⌝ }
 {
-    if lent::load_u32(r, 0) == 0 {
-        return blocks::is_zero(r, layout::KEY_VALUE, layout::VALUE_MAX);
-    }
-    if r[0] != 1 {
+    let word = lent::load_u32(r, 0);
+    let mark = word % 256;
+    if 1 < mark {
         return false;
     }
-    if lent::load_u16(r, 2) != 0 {
+    let n = (word / 256) as usize;
+    if mark as usize * layout::VALUE_MAX < n {
         return false;
     }
-    is_fitted(r, layout::KEY_VALUE, lent::index(r[layout::KEY_LENGTH]))
+    is_bare(r, layout::KEY_VALUE, n, masks)
 }
 
 fn lease_formed(r: &[u8], limit: u64, next: u32) -> bool
@@ -144,11 +133,11 @@ fn lease_formed(r: &[u8], limit: u64, next: u32) -> bool
     until <= limit
 }
 
-fn key_formed(r: &[u8], limit: u64, next: u32) -> bool
-    requires { ⌜ length (now r) ≡ keyWidth ⌝ }
+fn key_formed(r: &[u8], limit: u64, next: u32, masks: &[u8; MASKS]) -> bool
+    requires { ⌜ (length (now r) ≡ keyWidth) × Masks (now masks) ⌝ }
     ensures { λ b. ⌜ b ≡ keyFormed limit next (now (r .entry)) ⌝ }
 {
-    if !value_formed(r) {
+    if !value_formed(r, masks) {
         return false;
     }
     lease_formed(r, limit, next)
@@ -175,8 +164,8 @@ fn is_marked(mark: u8, kind: u8) -> bool
     mark == 0
 }
 
-fn staged_formed(r: &[u8], kind: u8) -> bool
-    requires { ⌜ length (now r) ≡ rowWidth ⌝ }
+fn staged_formed(r: &[u8], kind: u8, masks: &[u8; MASKS]) -> bool
+    requires { ⌜ (length (now r) ≡ rowWidth) × Masks (now masks) ⌝ }
     ensures { λ b. ⌜ b ≡ stagedFormed kind (now (r .entry)) ⌝ }
 {
     let mark = r[layout::ROW_STAGED];
@@ -184,7 +173,12 @@ fn staged_formed(r: &[u8], kind: u8) -> bool
         if kind < 2 {
             return false;
         }
-        return is_fitted(r, layout::ROW_VALUE, lent::index(r[layout::ROW_LENGTH]));
+        return is_fitted(
+            r,
+            layout::ROW_VALUE,
+            lent::index(r[layout::ROW_LENGTH]),
+            masks,
+        );
     }
     if !is_marked(mark, kind) {
         return false;
@@ -192,8 +186,8 @@ fn staged_formed(r: &[u8], kind: u8) -> bool
     is_plain(r)
 }
 
-fn row_formed(r: &[u8]) -> bool
-    requires { ⌜ length (now r) ≡ rowWidth ⌝ }
+fn row_formed(r: &[u8], masks: &[u8; MASKS]) -> bool
+    requires { ⌜ (length (now r) ≡ rowWidth) × Masks (now masks) ⌝ }
     ensures { λ b. ⌜ b ≡ rowFormed (now (r .entry)) ⌝ }
 {
     if lent::load_u32(r, 0) == 0 {
@@ -206,7 +200,7 @@ fn row_formed(r: &[u8]) -> bool
     if 3 < kind {
         return false;
     }
-    staged_formed(r, kind)
+    staged_formed(r, kind, masks)
 }
 
 fn life_formed(r: &[u8], limit: u64) -> bool
@@ -254,37 +248,31 @@ fn limit(s: &[u8], life: usize) -> u64
     lent::load_u64(s, layout::CLOCK) + lent::load_u32(s, life) as u64
 }
 
-fn keys_formed(s: &[u8]) -> bool
-    requires { ⌜ (length (now s) ≡ stateSize) × (le64 (now s) 0 ≤ timeMax) ⌝ }
-    ensures { λ r. ⌜ r ≡ keysFormed (now (s .entry)) ⌝ }
+// Each key by itself, and tokens distinct.
+fn keys_fit(s: &[u8], masks: &[u8; MASKS]) -> bool
+    requires { ⌜ (length (now s) ≡ stateSize) × ((le64 (now s) 0 ≤ timeMax) × Masks (now masks)) ⌝ }
+    ensures { λ r. ⌜ r ≡ keysFit (now (s .entry)) ⌝ }
 {
     let until = limit(s, layout::READ_LIFE);
     let next = lent::load_u32(s, layout::NEXT_TOKEN);
+    let mut nums: [u32; joins::SIDE] = [0; joins::SIDE];
+    let mut seats: [u16; joins::SEATS] = [0; joins::SEATS];
     for k in 0..layout::KEY_COUNT {
         let at = layout::KEYS_FROM + k * layout::KEY_WIDTH;
-        if !key_formed(&s[at..at + layout::KEY_WIDTH], until, next) {
+        if !key_formed(&s[at..at + layout::KEY_WIDTH], until, next, masks) {
+            return false;
+        }
+        if !joins::enters(s, TOKENS_FROM, layout::KEY_WIDTH, k, &mut nums, &mut seats) {
             return false;
         }
     }
     true
 }
 
-fn rows_formed(s: &[u8]) -> bool
-    requires { ⌜ length (now s) ≡ stateSize ⌝ }
-    ensures { λ r. ⌜ r ≡ rowsFormed (now (s .entry)) ⌝ }
-{
-    for i in 0..layout::ROW_COUNT {
-        let at = layout::ROWS_FROM + i * layout::ROW_WIDTH;
-        if !row_formed(&s[at..at + layout::ROW_WIDTH]) {
-            return false;
-        }
-    }
-    true
-}
-
-fn sessions_formed(s: &[u8]) -> bool
-    requires { ⌜ (length (now s) ≡ stateSize) × (le64 (now s) 0 ≤ timeMax) ⌝ }
-    ensures { λ r. ⌜ r ≡ sessionsFormed (now (s .entry)) ⌝ }
+// Each session by itself, and numbers distinct; all then have their seats.
+fn sessions_fit(s: &[u8], nums: &mut [u32; joins::SIDE], seats: &mut [u16; joins::SEATS]) -> bool
+    requires { ⌜ (length (now s) ≡ stateSize) × ((le64 (now s) 0 ≤ timeMax) × Entered (numbers (now s) sessionsFrom sessionWidth) 0 (now nums) (now seats)) ⌝ }
+    ensures { λ r. ⌜ (r ≡ sessionsFit (now (s .entry))) × (r ≡ true → Entered (numbers (now (s .entry)) sessionsFrom sessionWidth) sessionCount (now (nums .exit)) (now (seats .exit))) ⌝ }
 {
     let until = limit(s, layout::WRITE_LIFE);
     let next = lent::load_u32(s, layout::NEXT_SESSION);
@@ -293,34 +281,64 @@ fn sessions_formed(s: &[u8]) -> bool
         if !session_formed(&s[at..at + layout::SESSION_WIDTH], until, next) {
             return false;
         }
+        if !joins::enters(
+            s,
+            layout::SESSIONS_FROM,
+            layout::SESSION_WIDTH,
+            j,
+            nums,
+            seats,
+        ) {
+            return false;
+        }
     }
     true
 }
 
-fn tables_formed(s: &[u8]) -> bool
-    requires { ⌜ (length (now s) ≡ stateSize) × (le64 (now s) 0 ≤ timeMax) ⌝ }
-    ensures { λ r. ⌜ r ≡ tablesFormed (now (s .entry)) ⌝ }
+// Each row by itself, and beside the sessions, its key and the rows before it.
+fn rows_fit(
+    s: &[u8],
+    masks: &[u8; MASKS],
+    nums: &[u32; joins::SIDE],
+    seats: &[u16; joins::SEATS],
+) -> bool
+    requires { ⌜ (length (now s) ≡ stateSize) × (Masks (now masks) × Entered (numbers (now s) sessionsFrom sessionWidth) sessionCount (now nums) (now seats)) ⌝ }
+    ensures { λ r. ⌜ r ≡ rowsFit (now (s .entry)) ⌝ }
 {
-    if !keys_formed(s) {
-        return false;
+    let mut seen: [u32; layout::KEY_COUNT] = [0; layout::KEY_COUNT];
+    let mut near: [u64; layout::KEY_COUNT] = [0; layout::KEY_COUNT];
+    let mut far: [u64; layout::KEY_COUNT] = [0; layout::KEY_COUNT];
+    for i in 0..layout::ROW_COUNT {
+        let at = layout::ROWS_FROM + i * layout::ROW_WIDTH;
+        if !row_formed(&s[at..at + layout::ROW_WIDTH], masks) {
+            return false;
+        }
+        if !joins::join(s, i, nums, seats, &mut seen, &mut near, &mut far) {
+            return false;
+        }
     }
-    if !rows_formed(s) {
-        return false;
-    }
-    if !sessions_formed(s) {
-        return false;
-    }
-    blocks::is_zero(s, REST_FROM, REST_SIZE)
+    true
 }
 
-fn records_join(s: &[u8]) -> bool
-    requires { ⌜ length (now s) ≡ stateSize ⌝ }
-    ensures { λ r. ⌜ r ≡ recordsJoin (now (s .entry)) ⌝ }
+// One table after the other, each read once: what joins its records is tested while they are at hand.
+fn tables_fit(s: &[u8]) -> bool
+    requires { ⌜ (length (now s) ≡ stateSize) × (le64 (now s) 0 ≤ timeMax) ⌝ }
+    ensures { λ r. ⌜ r ≡ tablesFit (now (s .entry)) ⌝ }
 {
-    if !joins::distinct(s, TOKENS_FROM, layout::KEY_WIDTH, layout::KEY_COUNT) {
+    if !blocks::is_zero(s, REST_FROM, REST_SIZE) {
         return false;
     }
-    joins::rows_join(s)
+    let mut masks: [u8; MASKS] = [0; MASKS];
+    fill_masks(&mut masks);
+    if !keys_fit(s, &masks) {
+        return false;
+    }
+    let mut nums: [u32; joins::SIDE] = [0; joins::SIDE];
+    let mut seats: [u16; joins::SEATS] = [0; joins::SEATS];
+    if !sessions_fit(s, &mut nums, &mut seats) {
+        return false;
+    }
+    rows_fit(s, &masks, &nums, &seats)
 }
 
 fn state_formed(s: &[u8]) -> bool
@@ -330,10 +348,7 @@ fn state_formed(s: &[u8]) -> bool
     if !head_formed(s) {
         return false;
     }
-    if !tables_formed(s) {
-        return false;
-    }
-    records_join(s)
+    tables_fit(s)
 }
 
 pub fn well_formed(s: &[u8]) -> bool

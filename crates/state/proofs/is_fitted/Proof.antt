@@ -12,9 +12,6 @@ returns : tie.Need-returns
 unfolding fitted
 returns c = rw (lt-leb (c .before .before .args .n) valueMax (omega arith))
 
-add-is-bare : tie.Need-add-is-bare
-add-is-bare c = search needs
-
 is-bare-requires : tie.Need-is-bare-requires
 is-bare-requires c κs = search needs
 
@@ -23,4 +20,4 @@ unfolding fitted
 returns-2 c = rw (le-leb (c .before .before .before .args .n) valueMax (omega arith)) (c .is-bare .ensures)
 
 pub is-fitted-spec : {M : Type 1} → statement M
-is-fitted-spec = tie.close (tie.spec returns add-is-bare is-bare-requires returns-2)
+is-fitted-spec = tie.close (tie.spec returns is-bare-requires returns-2)

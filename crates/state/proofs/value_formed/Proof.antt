@@ -1,63 +1,46 @@
--- Each test is the next of the value's conditions.
+-- By the three returns, each a law of `Values`.
 -- Assumes nothing.
+use mathlib.Core.Path.{sym, _∙_}
+use Prim.Native.Nat.{_-_}
 use native.Mathlib.Omega.{arith}
-use lib.ListN.{getD}
-use borrow.Author.Tests.{eq-eqb, ne-eqb}
 use borrow.Author.Needs.{needs}
-use Rattle.lent.specs.Bytes.{le16, le32}
-use Rattle.state.specs.Forms.{valueFormed}
+use Rattle.state.proofs.Values.{value-mark, value-long, value-fits}
 use Rattle.state.proofs.value_formed.Statement.{statement}
 use Rattle.state.proofs.value_formed.Tie as tie
 
 load-u32-requires : tie.Need-load-u32-requires
 load-u32-requires c κs = search needs
 
-is-zero-requires : tie.Need-is-zero-requires
-is-zero-requires c κs = search needs
-
 returns : tie.Need-returns
-unfolding valueFormed
-returns c = let x = c .before .before .before .before .args .r .now in rw (eq-eqb (le32 x 0) 0 (omega arith)) (c .is-zero .ensures)
+returns c = sym (value-mark (c .before .before .before .args .r .now) (λ i. c .before .before .shared-slice-known .given i .fits) (c .before .load-u32 .result) (c .before .load-u32 .ensures) (c .if1 .taken))
 
-shared-slice-read-if2 : tie.Need-shared-slice-read-if2
-shared-slice-read-if2 c = search needs
+cast-n : tie.Need-cast-n
+cast-n c = search needs
+
+cast-if2 : tie.Need-cast-if2
+cast-if2 c = search needs
+
+mul-if2 : tie.Need-mul-if2
+mul-if2 c = search needs
 
 returns-2 : tie.Need-returns-2
-unfolding valueFormed
-returns-2 c = let x = c .before .before .before .before .before .args .r .now in rw (ne-eqb (le32 x 0) 0 (omega arith), ne-eqb (getD x 0 0) 1 (omega arith))
+returns-2 c = sym (value-long (c .before .before .before .before .args .r .now) (λ i. c .before .before .before .shared-slice-known .given i .fits) (c .before .before .load-u32 .result) (c .before .before .load-u32 .ensures) (c .if2 .taken))
 
-load-u16-requires : tie.Need-load-u16-requires
-load-u16-requires c κs = search needs
+is-bare-requires : tie.Need-is-bare-requires
+is-bare-requires c κs = (search needs, (omega (arith, c .before .before .load-u32 .ensures), c .before .before .before .before .pre .1))
 
 returns-3 : tie.Need-returns-3
-unfolding valueFormed
-returns-3 c = let x = c .before .before .before .before .before .before .before .args .r .now in rw (ne-eqb (le32 x 0) 0 (omega arith), eq-eqb (getD x 0 0) 1 (omega arith), ne-eqb (le16 x 2) 0 (omega arith))
-
-shared-slice-read-index : tie.Need-shared-slice-read-index
-shared-slice-read-index c = search needs
-
-index-requires : tie.Need-index-requires
-index-requires c κs = search needs
-
-is-fitted-requires : tie.Need-is-fitted-requires
-is-fitted-requires c κs = search needs
-
-returns-4 : tie.Need-returns-4
-unfolding valueFormed
-returns-4 c = let x = c .before .before .before .before .before .before .before .before .before .before .args .r .now in rw (ne-eqb (le32 x 0) 0 (omega arith), eq-eqb (getD x 0 0) 1 (omega arith), eq-eqb (le16 x 2) 0 (omega arith), ← c .before .index .ensures .0) (c .is-fitted .ensures)
+returns-3 c = c .is-bare .ensures ∙ sym (value-fits (c .before .before .before .before .before .args .r .now) (λ i. c .before .before .before .before .shared-slice-known .given i .fits) (c .before .before .before .load-u32 .result) (c .before .before .before .load-u32 .ensures) (omega arith) (omega arith))
 
 pub value-formed-spec : {M : Type 1} → statement M
 value-formed-spec =
     tie.close
     (tie.spec
     load-u32-requires
-    is-zero-requires
     returns
-    shared-slice-read-if2
+    cast-n
+    cast-if2
+    mul-if2
     returns-2
-    load-u16-requires
-    returns-3
-    shared-slice-read-index
-    index-requires
-    is-fitted-requires
-    returns-4)
+    is-bare-requires
+    returns-3)

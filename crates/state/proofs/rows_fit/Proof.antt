@@ -1,0 +1,94 @@
+-- After i turns each of the first i rows is formed and joins, and all is known at row i that `join` asks.
+-- Assumes nothing.
+use Prim.Native.Nat.{_+_, _-_, _*_, _≤_}
+use mathlib.Core.Path.{_≡_, sym, _∙_}
+use mathlib.Core.Bool.{true, false, and-false}
+use native.Mathlib.Omega.{arith}
+use borrow.Author.Needs.{needs}
+use borrow.Author.Tests.{not-true, not-false}
+use Rattle.lent.specs.Bytes.{win}
+use Rattle.lent.specs.Tables.{every}
+use Rattle.lent.proofs.Walks.{every-none, every-more, every-fails}
+use Rattle.machine.specs.Sizes.{rowCount, rowsFrom, rowWidth}
+use Rattle.joins.specs.Joins.{joinOk, Ready}
+use Rattle.joins.proofs.Entered.{ready-none}
+use Rattle.state.specs.Forms.{rowFormed, rowsFormed, rowsFit}
+use Rattle.state.proofs.Tests.{record-failed, record-passed}
+use Rattle.state.proofs.rows_fit.Statement.{statement}
+use Rattle.state.proofs.rows_fit.Tie as tie
+
+abbrev Inv-loop : tie.InvT-loop
+Inv-loop s masks nums seats seen₀ near₀ far₀ i₀ seen near far i = (i ≤ rowCount) × ((every (λ j. rowFormed (win s (rowsFrom + j * rowWidth) rowWidth)) i ≡ true) × ((every (joinOk s) i ≡ true) × Ready s i nums seen near far))
+
+abbrev μ-loop : tie.MeasureT-loop
+μ-loop s masks nums seats seen₀ near₀ far₀ i₀ seen near far i = rowCount - i
+
+loop-holds : tie.Need-loop-holds Inv-loop μ-loop
+loop-holds c = (search needs, (every-none _, (every-none _, ready-none (c .before .pre .1 .1))))
+
+mul-at : tie.Need-mul-at Inv-loop μ-loop
+mul-at c = search needs
+
+add-at : tie.Need-add-at Inv-loop μ-loop
+add-at c = search needs
+
+add-row-formed : tie.Need-add-row-formed Inv-loop μ-loop
+add-row-formed c = search needs
+
+sub-row-formed : tie.Need-sub-row-formed Inv-loop μ-loop
+sub-row-formed c = search needs
+
+part-row-formed-start : tie.Need-part-row-formed-start Inv-loop μ-loop
+part-row-formed-start c = search needs
+
+part-row-formed-end : tie.Need-part-row-formed-end Inv-loop μ-loop
+part-row-formed-end c = search needs
+
+row-formed-requires : tie.Need-row-formed-requires Inv-loop μ-loop
+row-formed-requires c κs = (search needs, c .before .before .before .before .pre .1 .0)
+
+returns : tie.Need-returns Inv-loop μ-loop
+unfolding rowsFit rowsFormed
+returns c = let f : every (λ a. rowFormed (win (c .before .before .before .before .before .before .args .s .now) (rowsFrom + a * rowWidth) rowWidth)) rowCount ≡ false = every-fails _ rowCount (c .before .before .before .before .loop .i) (search needs) (record-failed rowFormed (c .before .before .before .before .before .before .args .s .now) _ rowWidth (c .before .row-formed .ensures) (c .if1 .taken)) in rw f
+
+join-requires : tie.Need-join-requires Inv-loop μ-loop
+join-requires c κs = (search needs, (search needs, (c .before .before .before .before .before .before .before .before .before .pre .1 .1 .seated .small, c .before .before .before .before .before .before .before .loop .inv .1 .1 .1)))
+
+returns-2 : tie.Need-returns-2 Inv-loop μ-loop
+unfolding rowsFit
+returns-2 c = let f : every (joinOk (c .before .before .before .before .before .before .before .before .before .before .before .args .s .now)) rowCount ≡ false = every-fails _ rowCount (c .before .before .before .before .before .before .before .before .before .loop .i) (search needs) (sym (c .before .join .ensures .is) ∙ not-true _ (c .if2 .taken)) in rw (f, and-false)
+
+add-i : tie.Need-add-i Inv-loop μ-loop
+add-i c = search needs
+
+loop-less : tie.Need-loop-less Inv-loop μ-loop
+loop-less c = search needs
+
+loop-again : tie.Need-loop-again Inv-loop μ-loop
+loop-again c = (search needs, (every-more _ _ (c .before .before .before .before .before .before .before .before .before .loop .inv .1 .0) (record-passed rowFormed (c .before .before .before .before .before .before .before .before .before .before .before .args .s .now) _ rowWidth (c .before .before .before .before .before .before .row-formed .ensures) (c .before .before .before .before .before .if1 .left)), (every-more _ _ (c .before .before .before .before .before .before .before .before .before .loop .inv .1 .1 .0) (sym (c .before .join .ensures .is) ∙ not-false _ (c .if2 .left)), c .before .join .ensures .next (not-false _ (c .if2 .left)))))
+
+returns-3 : tie.Need-returns-3 Inv-loop μ-loop
+unfolding rowsFit rowsFormed
+returns-3 c = let e : c .before .loop .i ≡ rowCount = omega arith in let f : every (λ a. rowFormed (win (c .before .before .before .args .s .now) (rowsFrom + a * rowWidth) rowWidth)) rowCount ≡ true = rw e at (c .before .loop .inv .1 .0) in let g : every (joinOk (c .before .before .before .args .s .now)) rowCount ≡ true = rw e at (c .before .loop .inv .1 .1 .0) in rw (f, g)
+
+pub rows-fit-spec : {M : Type 1} → statement M
+rows-fit-spec =
+    tie.close
+    (tie.spec
+    Inv-loop
+    μ-loop
+    loop-holds
+    mul-at
+    add-at
+    add-row-formed
+    sub-row-formed
+    part-row-formed-start
+    part-row-formed-end
+    row-formed-requires
+    returns
+    join-requires
+    returns-2
+    add-i
+    loop-less
+    loop-again
+    returns-3)
