@@ -30,7 +30,8 @@ use Rattle.cache.specs.declared.Numbered.{Numbered}
 use Rattle.book.specs.Book as book
 use Rattle.book.specs.Book.{bookSize, linesIn, counted}
 use Rattle.rules.specs.Rules as rules
-use Rattle.rules.specs.Rules.{unreadable, begins, writes, commands}
+use Rattle.rules.specs.Rules.{unreadable, begins, commands}
+use Rattle.writes.specs.Writes.{writes}
 use Rattle.rules.specs.Says.{Says}
 use Rattle.rules.specs.declared.Said.{Said}
 use Rattle.lines.specs.Fields.{lineMax, valueRoom}

@@ -11,7 +11,8 @@ use Rattle.machine.specs.State.{Value}
 use Rattle.cache.specs.Run.{commandOf}
 use Rattle.cache.specs.declared.Numbered.{Numbered}
 use Rattle.book.specs.Book.{bookSize, started, linesIn, brokenIn, counted}
-use Rattle.rules.specs.Rules.{Said, unreadable, begins, writes, commands}
+use Rattle.rules.specs.Rules.{Said, unreadable, begins, commands}
+use Rattle.writes.specs.Writes.{writes}
 use Rattle.lines.specs.Lines.{Read, readLine}
 use Rattle.lines.specs.declared.Line.{Line}
 use Rattle.replies.specs.Replies.{lineRoom, replied, ended}

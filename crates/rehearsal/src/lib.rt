@@ -4,7 +4,10 @@ ghost use mathlib.Core.List.{[]};
 ghost use Prim.Native.Nat.{ℕ, _≤_};
 ghost use lib.ListN.{length};
 ghost use Rattle.machine.specs.Sizes.{valueMax};
+ghost use Rattle.words.specs.Place.{placeOf};
+ghost use Rattle.cache.specs.Run.{ran};
 ghost use Rattle.book.specs.Book.{bookSize};
+ghost use Rattle.rules.specs.Rules.{commands};
 ghost use Rattle.rules.specs.Says.{Says};
 ghost use Rattle.lines.specs.Fields.{lineMax};
 ghost use Rattle.lines.specs.declared.Line.{Line};
@@ -13,6 +16,7 @@ ghost use Rattle.rehearsal.specs.Rehearsal.{commanded, acted, saidOf, li
 ghost use Rattle.rehearsal.specs.Saying.{notRead, Within, Prints};
 use cache::Numbered;
 use lines::Line;
+use machine::Command;
 use rules::Said;
 
 // HIT, the word that hands out a value, and UNREADABLE.
@@ -56,7 +60,17 @@ fn write(cache: &mut [u8], book: &mut [u8], session: u64, key: u64, value: &[u8]
     if !book::started(book) {
         return unreadable();
     }
-    rules::write(cache, book, session, key, value)
+    writes::write(cache, book, session, key, value)
+}
+
+// A command at its time, with its value. What rules 3 and 4 look at is read before the command changes it.
+fn run(cache: &mut [u8], book: &mut [u8], time: u64, command: Command, value: &[u8]) -> Said
+    requires { ⌜ length (now book) ≡ bookSize ⌝ }
+    ensures { λ r. ⌜ Says (commands (now (cache .entry)) (now (book .entry)) time command (now (value .entry))) (placeOf (ran (now (cache .entry)) time command (now (value .entry)) .answer)) r (now (cache .exit)) (now (book .exit)) ⌝ }
+{
+    let risk = risks::risk(cache, book, command, value);
+    let answer = cache::run(cache, time, command, value);
+    rules::conclude(book, command, answer, risk)
 }
 
 // A command's line.
@@ -68,7 +82,7 @@ fn command(cache: &mut [u8], book: &mut [u8], time: u64, numbered: Numbered, val
         return unreadable();
     }
     match numbered {
-        Numbered::Is(command) => rules::command(cache, book, time, command, value),
+        Numbered::Is(command) => run(cache, book, time, command, value),
         Numbered::Unknown => unreadable(),
     }
 }

@@ -40,7 +40,9 @@ use Rattle.cache.specs.Run.{ran}
 use Rattle.promises.proofs.Ran.{ran-formed, formed-kept, decode-ran}
 use Rattle.book.specs.Book.{bookSize, registered, granted, mark, withStarted, counted}
 use Rattle.book.proofs.Laws
-use Rattle.rules.specs.Rules.{begins, mayWrite, marked, writes, wroteFor, staleFor, ruleOf, commands}
+use Rattle.risks.specs.Risks.{wroteFor, staleFor}
+use Rattle.rules.specs.Rules.{begins, ruleOf, commands}
+use Rattle.writes.specs.Writes.{mayWrite, marked, writes}
 use Rattle.rehearsed.specs.TwoValues.{oldest, brokenTwo, verdictsTwo, AllKeptTwo}
 use Rattle.rehearsed.specs.Column.{Pair, ruleAt, after, through, column, startedPair, NewBook, Readable, AllReadable, Promised}
 use Rattle.rehearsed.proofs.Moves.{moves-step}

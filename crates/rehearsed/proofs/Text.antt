@@ -33,7 +33,8 @@ use Rattle.cache.specs.Run.{ran, commandOf}
 use Rattle.cache.specs.declared.Numbered.{Numbered}
 use Rattle.book.specs.Book.{bookSize, started, withStarted, registered, counted}
 use Rattle.book.proofs.Laws
-use Rattle.rules.specs.Rules.{Said, unreadable, begins, marked, writes, noted, commands}
+use Rattle.rules.specs.Rules.{Said, unreadable, begins, noted, commands}
+use Rattle.writes.specs.Writes.{marked, writes}
 use Rattle.lines.specs.Lines.{readLine}
 use Rattle.lines.specs.declared.Line.{Line}
 use Rattle.lines.proofs.Laws.{sizeOf, Ranged, line-sound}
@@ -47,7 +48,7 @@ use Rattle.rehearsed.proofs.Column.{Tied, rule-as, tied-next, tied-coun
 -- What a line does
 
 -- an event's act, or nothing
-abbrev saidBy : Pair → Option Event → Said
+abbrev pub saidBy : Pair → Option Event → Said
 saidBy p none = unreadable (p .cache) (p .book)
 saidBy p (some e) = actOf p e
 
@@ -86,7 +87,7 @@ first-unbroken x b (Line.Command number time a₁ a₂ a₃ a₄ size) = refl
 
 -- a line as it is read
 module _ (p : Pair) (t : Text) where
-  text-told : started (p .book) ≡ true → saidOf (p .cache) (p .book) t ≡ saidBy p (eventOf t)
+  pub text-told : started (p .book) ≡ true → saidOf (p .cache) (p .book) t ≡ saidBy p (eventOf t)
   unfolding saidOf
   text-told h = acted-told p h (readLine t .line) (readLine t .value)
 
@@ -242,7 +243,7 @@ unfolding allZero
 follows-zero p col none h = h
 follows-zero p col (some r) h = h
 
-abbrev pairOf : List ℕ → List ℕ → Pair
+abbrev pub pairOf : List ℕ → List ℕ → Pair
 pairOf x b = record { cache = x; book = b }
 
 -- after what is said of a line
@@ -353,6 +354,12 @@ module _ (x b : List ℕ) (new : NewBook b) (fresh : started b ≡ false) where
       (k, kept-promised (textThrough p₀ ts) (textColumn p₀ ts) (runOf x ts) (lines-follow x b new fresh ts) k)
 
 -- as the program begins: the book is zeros
+pub rehearsal-begun : (x : List ℕ) (ts : List Text) (r : Run) → runOf x ts ≡ some r → started (textThrough (pairOf x (zeros bookSize)) ts .book) ≡ true
+rehearsal-begun x ts r e =
+    let p = pairOf x (zeros bookSize) in
+    let h : Follows (textThrough p ts) (textColumn p ts) (some r) = subst (Follows (textThrough p ts) (textColumn p ts)) e (lines-follow x (zeros bookSize) new-zeros (Laws.started-new bookSize) ts) in
+    h .0 .flagged
+
 pub rehearsal-promised : (x : List ℕ) (ts us : List Text) → allZero (textColumn (pairOf x (zeros bookSize)) (ts ++ us)) ≡ true
     → RulesKept (runOf x ts) × PromisedIn (textThrough (pairOf x (zeros bookSize)) ts) (runOf x ts)
 rehearsal-promised x = lines-promised x (zeros bookSize) new-zeros (Laws.started-new bookSize)

@@ -9,7 +9,8 @@ use Rattle.machine.specs.World.{Event, command, write, World, Consistent}
 use Rattle.layout.specs.Layout.{decode}
 use Rattle.layout.specs.WellFormed.{wellFormed}
 use Rattle.book.specs.Book.{bookSize, registered, mark, counted}
-use Rattle.rules.specs.Rules.{Said, begins, writes, commands}
+use Rattle.rules.specs.Rules.{Said, begins, commands}
+use Rattle.writes.specs.Writes.{writes}
 
 pub record Pair : Type 0 where
   pub cache : List ℕ

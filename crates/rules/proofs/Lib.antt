@@ -1,4 +1,2 @@
-pub mod Stale
-pub mod Written
 pub mod Hits
 pub mod Told

@@ -1,10 +1,9 @@
 -- What the acts hand back is what is said of the line: a rule by the word at which it counts, a grant by its key, and an answer by its numbers.
 -- Assumes nothing.
 use Prim.Native.Nat.{ℕ}
-use mathlib.Core.Path.{_≡_, refl, sym, ap, _∙_}
+use mathlib.Core.Path.{_≡_, refl, sym, _∙_}
 use mathlib.Core.Bool.{Bool, true, false, not, _&&_, _||_}
 use mathlib.Core.List.{List}
-use native.Mathlib.Omega.{arith}
 use lib.Dec.{eqb}
 use borrow.Author.Tests.{eq-eqb, ne-eqb}
 use Rattle.lent.specs.Tables.{if_then_else_, same}
@@ -19,10 +18,13 @@ use Rattle.layout.specs.WellFormed.{wellFormed}
 use Rattle.startup.specs.Start.{Reply, startOf}
 use Rattle.words.specs.Place.{placeOf}
 use Rattle.cache.specs.Run.{ran}
-use Rattle.book.specs.Book.{withStarted, registered, granted, withRegistered, withGranted}
-use Rattle.rules.specs.Rules.{writtenWord, unreadableWord, answered, begins, mayWrite, marked, writes, wroteFor, staleFor, ruleOf, noted, commands}
+use Rattle.book.specs.Book.{withStarted, registered, granted, withGranted}
+use Rattle.risks.specs.Risks.{wroteFor, staleFor}
+use Rattle.risks.specs.Tests.{riskOf}
+use Rattle.rules.specs.Rules.{unreadableWord, answered, begins, ruleOf, noted, commands}
 use Rattle.rules.specs.Says.{toldOf, Says}
-use Rattle.rules.specs.Tests.{riskOf, watched, asksFor}
+use Rattle.rules.specs.Tests.{watched, asksFor}
+use Rattle.rules.specs.declared.Said.{Said as Told}
 use Rattle.rules.proofs.Hits.{Within, ran-within, start-within}
 
 -- ---- the rule broken, by the word at which it counts
@@ -130,27 +132,16 @@ module _ (x b : List ℕ) (readLife writeLife : ℕ) (a : Answer) (x′ : List �
   pub begin-ready : wordOf a ≡ 1 → (b′ : List ℕ) → b′ ≡ withStarted b → Started b′
   begin-ready h b′ g = begin-says b′ (g ∙ rw (eq-eqb (wordOf a) 1 h))
 
-pub write-says : (x b : List ℕ) (n k : ℕ) (v : Value) (rule : ℕ) (b₁ b′ : List ℕ) → rule ≡ (if mayWrite x n k then 0 else 2) → b₁ ≡ marked x b n → b′ ≡ withRegistered b₁ k v
-    → Says (writes x b n k v) 0 (record { word = writtenWord; detail = 0; at = 0; rule = rule }) x b′
-unfolding writes
-write-says x b n k v rule b₁ b′ e f g = record {
-  word = refl;
-  detail = refl;
-  place = refl;
-  rule = e;
-  cache = refl;
-  book = g ∙ ap (λ (y : List ℕ). withRegistered y k v) f;
-  value = λ w. absurd (omega arith);
-  inside = λ w. absurd (omega arith);
-  short = λ w. absurd (omega arith);
-}
+pub concluded : (b b′ : List ℕ) (c : Command) (a : Answer) (risk w rule : ℕ) (t : Told)
+    → w ≡ wordOf a → b′ ≡ noted b c w → rule ≡ (if eqb w (watched c) then risk else 0) → t ≡ toldOf a rule
+    → (t ≡ toldOf a (if eqb (wordOf a) (watched c) then risk else 0)) × (b′ ≡ noted b c (wordOf a))
+concluded b b′ c a risk w rule t g h q o = rw (o, q, h, g) (refl, refl)
 
-pub command-says : (x b : List ℕ) (now : ℕ) (c : Command) (v : Value) (a : Answer) (x′ b′ : List ℕ) (risk w rule : ℕ)
-    → (wellFormed x ≡ true → risk ≡ riskOf x b c v) → (a ≡ ran x now c v .answer) × (x′ ≡ ran x now c v .bytes) → w ≡ wordOf a → b′ ≡ noted b c w → rule ≡ (if eqb w (watched c) then risk else 0)
-    → Says (commands x b now c v) (placeOf (ran x now c v .answer)) (toldOf a rule) x′ b′
+pub command-says : (x b : List ℕ) (now : ℕ) (c : Command) (v : Value) (a : Answer) (x′ b′ : List ℕ) (risk : ℕ) (t : Told)
+    → (wellFormed x ≡ true → risk ≡ riskOf x b c v) → (a ≡ ran x now c v .answer) × (x′ ≡ ran x now c v .bytes)
+    → (t ≡ toldOf a (if eqb (wordOf a) (watched c) then risk else 0)) × (b′ ≡ noted b c (wordOf a))
+    → Says (commands x b now c v) (placeOf (ran x now c v .answer)) t x′ b′
 unfolding commands
-command-says x b now c v a x′ b′ risk w rule f e g h q =
-    let p : w ≡ wordOf (ran x now c v .answer) = g ∙ ap wordOf (e .0) in
-    let r : rule ≡ ruleOf x b c v (wordOf (ran x now c v .answer)) = q ∙ rule-told x b now c v risk w p f ∙ ap (ruleOf x b c v) p in
-    let k : b′ ≡ noted b c (wordOf (ran x now c v .answer)) = h ∙ ap (noted b c) p in
-    rw (r, k, e .1, e .0) (says (ran x now c v) (ruleOf x b c v (wordOf (ran x now c v .answer))) (noted b c (wordOf (ran x now c v .answer))) (ran-within x now c v))
+command-says x b now c v a x′ b′ risk t f e g =
+    let r = rule-told x b now c v risk (wordOf (ran x now c v .answer)) refl f in
+    rw (g .0, g .1, e .1, e .0, r) (says (ran x now c v) (ruleOf x b c v (wordOf (ran x now c v .answer))) (noted b c (wordOf (ran x now c v .answer))) (ran-within x now c v))

@@ -1,25 +1,20 @@
 -- A line of the rehearsal on the cache's bytes and the book: what is said of it, the number of the rule that it breaks, and both buffers after it.
 -- 01: "Rule 1 is tested here against the register's value at the grant and at the FILL".
 use Prim.Native.Nat.{ℕ}
-use mathlib.Core.Bool.{Bool, not, _&&_, _||_}
+use mathlib.Core.Bool.{not, _&&_, _||_}
 use mathlib.Core.List.{List, []}
-use lib.Dec.{eqb, ltb}
+use lib.Dec.{eqb}
 use Rattle.lent.specs.Bytes.{win}
 use Rattle.lent.specs.Tables.{if_then_else_, same}
-use Rattle.machine.specs.Sizes.{sessionCount}
-use Rattle.machine.specs.Tables.{any}
 use Rattle.machine.specs.Words.{wordOf, detailOf}
-use Rattle.machine.specs.State.{Value, freeRow, sessionPlace, rowOf}
-use Rattle.machine.specs.Refusals.{sealedIn}
-use Rattle.machine.specs.Test.{differs}
+use Rattle.machine.specs.State.{Value}
 use Rattle.machine.specs.declared.Command.{Command}
 use Rattle.machine.specs.declared.Command.the-variants.{Begin, Get, Fill, Quar, Stage, Delta, Validate, Done, Undo, Evict, Tick}
-use Rattle.layout.specs.Layout.{decode}
-use Rattle.layout.specs.WellFormed.{wellFormed}
 use Rattle.startup.specs.Start.{Reply, startOf}
 use Rattle.words.specs.Place.{placeOf}
 use Rattle.cache.specs.Run.{ran}
-use Rattle.book.specs.Book.{withStarted, registered, granted, withRegistered, withGranted, mark, withMark}
+use Rattle.book.specs.Book.{withStarted, registered, granted, withGranted}
+use Rattle.risks.specs.Risks.{wroteFor, staleFor}
 
 -- what is said of a line: its word by number, the number that goes with it and the value that is handed out, the rule broken or 0, and both buffers after it
 pub record Said : Type 0 where
@@ -55,32 +50,6 @@ answered r rule b = record {
 -- A: START
 unfoldable pub begins : List ℕ → List ℕ → ℕ → ℕ → Said
 begins x b readLife writeLife = let r = startOf x readLife writeLife in answered r 0 (if eqb (wordOf (r .answer)) 1 then withStarted b else b)
-
--- C: the register writes the value v to the key k for the session n. Rule 2: "The register writes a key only for a live sealed session with a row on that key"
-unfoldable pub mayWrite : List ℕ → ℕ → ℕ → Bool
-mayWrite x n k = wellFormed x && (sealedIn (decode x) n && not (freeRow (rowOf (decode x) n k)))
-
--- that it has written for the session while it was live is marked at the session's place
-unfoldable pub marked : List ℕ → List ℕ → ℕ → List ℕ
-marked x b n = if wellFormed x && ltb (sessionPlace (decode x) n) sessionCount then withMark b (sessionPlace (decode x) n) n else b
-
-unfoldable pub writes : List ℕ → List ℕ → ℕ → ℕ → Value → Said
-writes x b n k v = record {
-  word = writtenWord;
-  detail = 0;
-  value = [];
-  rule = if mayWrite x n k then 0 else 2;
-  cache = x;
-  book = withRegistered (marked x b n) k v;
-}
-
--- Rule 3: the register has written for session n while it was live
-unfoldable pub wroteFor : List ℕ → List ℕ → ℕ → Bool
-wroteFor x b n = ltb (sessionPlace (decode x) n) sessionCount && eqb (mark b (sessionPlace (decode x) n)) n
-
--- Rule 4: session n has staged a value that is not the one that the register holds
-unfoldable pub staleFor : List ℕ → List ℕ → ℕ → Bool
-staleFor x b n = any (differs (registered b) n) (decode x .rows)
 
 -- the rule broken by a command that was answered with the word w, in the cache's bytes and the book before it
 abbrev pub ruleOf : List ℕ → List ℕ → Command → Value → ℕ → ℕ

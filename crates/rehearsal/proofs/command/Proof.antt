@@ -22,8 +22,8 @@ returns c = not-taken _ _ _ _ (c .unreadable .ensures) (command-early (c .before
 enum-known-numbered : tie.Need-enum-known-numbered
 enum-known-numbered c = search needs
 
-command-requires : tie.Need-command-requires
-command-requires c κs = search needs
+run-requires : tie.Need-run-requires
+run-requires c κs = search needs
 
 enum-told : tie.Need-enum-told
 enum-told c = search needs
@@ -38,7 +38,7 @@ same-length-3 : tie.Need-same-length-3
 same-length-3 c = search needs
 
 returns-2 : tie.Need-returns-2
-returns-2 c = rw (command-is (c .before .before .before .before .before .before .before .before .before .before .before .before .before .before .before .before .args .cache .now) (c .before .before .before .before .before .before .before .before .before .before .before .before .before .before .before .before .args .book .now) (c .before .before .before .before .before .before .before .before .before .before .before .before .before .before .before .before .args .time) (c .before .before .before .before .before .before .before .before .before .before .before .before .before .before .before .before .args .numbered) _ (c .before .before .before .before .before .before .before .before .before .before .before .before .before .before .before .before .args .value .now) (c .before .before .before .before .before .before .before .before .numbered .given .1) (sym (c .before .before .before .before .before .before .before .before .before .before .before .started .ensures) ∙ not-false _ (c .before .before .before .before .before .before .before .before .before .before .if1 .left))) (here (c .before .before .before .before .command .ensures))
+returns-2 c = rw (command-is (c .before .before .before .before .before .before .before .before .before .before .before .before .before .before .before .before .args .cache .now) (c .before .before .before .before .before .before .before .before .before .before .before .before .before .before .before .before .args .book .now) (c .before .before .before .before .before .before .before .before .before .before .before .before .before .before .before .before .args .time) (c .before .before .before .before .before .before .before .before .before .before .before .before .before .before .before .before .args .numbered) _ (c .before .before .before .before .before .before .before .before .before .before .before .before .before .before .before .before .args .value .now) (c .before .before .before .before .before .before .before .before .numbered .given .1) (sym (c .before .before .before .before .before .before .before .before .before .before .before .started .ensures) ∙ not-false _ (c .before .before .before .before .before .before .before .before .before .before .if1 .left))) (here (c .before .before .before .before .run .ensures))
 
 same-length-4 : tie.Need-same-length-4
 same-length-4 c = search needs
@@ -55,7 +55,7 @@ command-spec =
     same-length
     returns
     enum-known-numbered
-    command-requires
+    run-requires
     enum-told
     unreadable-requires-2
     same-length-2

@@ -1,0 +1,31 @@
+-- What the command would break is read first; the answer is told with it.
+-- Assumes nothing.
+use Rattle.rules.proofs.Told.{command-says}
+use borrow.Author.Needs.{needs}
+use Rattle.rehearsal.proofs.run.Statement.{statement}
+use Rattle.rehearsal.proofs.run.Tie as tie
+
+risk-requires : tie.Need-risk-requires
+risk-requires c κs = search needs
+
+run-requires : tie.Need-run-requires
+run-requires c κs = search needs
+
+conclude-requires : tie.Need-conclude-requires
+conclude-requires c κs = search needs
+
+same-length : tie.Need-same-length
+same-length c = search needs
+
+same-length-2 : tie.Need-same-length-2
+same-length-2 c = search needs
+
+returns : tie.Need-returns
+returns c =
+    let a = c .before .before .before .before .before .before .before .before .before .before .before .before .before .before .args in
+    command-says (a .cache .now) (a .book .now) (a .time) (a .command) (a .value .now) _ _ _ (c .before .before .before .before .before .before .before .before .risk .result) _ (c .before .before .before .before .before .before .before .before .risk .ensures) (c .before .before .before .before .before .before .run .ensures) (c .before .before .conclude .ensures)
+
+pub run-spec : {M : Type 1} → statement M
+run-spec =
+    tie.close
+    (tie.spec risk-requires run-requires conclude-requires same-length same-length-2 returns)

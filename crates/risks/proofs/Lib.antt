@@ -1,0 +1,2 @@
+pub mod Stale
+pub mod Wrote

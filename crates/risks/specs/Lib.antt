@@ -1,0 +1,2 @@
+pub mod Risks
+pub mod Tests

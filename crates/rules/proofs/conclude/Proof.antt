@@ -1,0 +1,31 @@
+-- The word decides both what is noted and what is told.
+-- Assumes nothing.
+use Rattle.rules.proofs.Told.{concluded}
+use borrow.Author.Needs.{needs}
+use Rattle.rules.proofs.conclude.Statement.{statement}
+use Rattle.rules.proofs.conclude.Tie as tie
+
+word-requires : tie.Need-word-requires
+word-requires c κs = search needs
+
+note-grant-requires : tie.Need-note-grant-requires
+note-grant-requires c κs = search needs
+
+rule-of-requires : tie.Need-rule-of-requires
+rule-of-requires c κs = search needs
+
+tell-requires : tie.Need-tell-requires
+tell-requires c κs = search needs
+
+same-length : tie.Need-same-length
+same-length c = search needs
+
+returns : tie.Need-returns
+returns c =
+    let a = c .before .before .before .before .before .before .before .before .args in
+    concluded (a .book .now) _ (a .command) (a .answer) (a .risk) (c .before .before .before .before .before .before .word .result) (c .before .rule-of .result) _ (c .before .before .before .before .before .before .word .ensures) (c .before .before .before .before .note-grant .ensures) (c .before .rule-of .ensures) (c .tell .ensures)
+
+pub conclude-spec : {M : Type 1} → statement M
+conclude-spec =
+    tie.close
+    (tie.spec word-requires note-grant-requires rule-of-requires tell-requires same-length returns)

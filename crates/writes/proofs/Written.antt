@@ -1,0 +1,100 @@
+-- Rule 2: the session that a search found is the one that the definitions look up; its life and its row on the key decide, and its
+-- place is where it is marked. What is said of the line is that, and the register's note.
+-- Assumes nothing.
+use Prim.Native.Nat.{ℕ, _<_}
+use mathlib.Core.Path.{_≡_, refl, sym, ap, _∙_}
+use mathlib.Core.Bool.{true, false}
+use mathlib.Core.List.{List}
+use native.Mathlib.Omega.{arith}
+use lib.Dec.{ltb}
+use borrow.Author.Tests.{le-ltb, lt-ltb}
+use Rattle.lent.specs.Tables.{if_then_else_}
+use Rattle.machine.specs.Sizes.{sessionCount, rowCount}
+use Rattle.machine.specs.Session.{isSealed}
+use Rattle.machine.specs.State.{Value, State, sessionPlace, sessionAt, rowPlace}
+use Rattle.machine.specs.Sound.{sound}
+use Rattle.machine.specs.Refusals.{sealedIn}
+use Rattle.machine.specs.declared.Session.{Session}
+use Rattle.machine.proofs.SoundFacts as facts
+use Rattle.layout.specs.Fields.{sessionIn}
+use Rattle.layout.specs.Layout.{decode}
+use Rattle.layout.specs.WellFormed.{wellFormed}
+use Rattle.layout.specs.Holds.{Holds}
+use Rattle.layout.specs.Search.{found}
+use Rattle.layout.specs.declared.Found.{Found}
+use Rattle.layout.proofs.Formed.{formed, holds-decoded}
+use Rattle.layout.proofs.Search.{found-at, found-nothing}
+use Rattle.turns.proofs.Cases.{located, unlocated}
+use Rattle.sights.proofs.Sights.{row-missing, row-taken}
+use Rattle.book.specs.Book.{withRegistered, withMark}
+use Rattle.rules.specs.Rules.{writtenWord}
+use Rattle.rules.specs.Says.{Says}
+use Rattle.writes.specs.Writes.{mayWrite, marked, writes, Writes}
+
+-- ---- rule 2, of the session at place i, with its record as it was loaded
+
+module _ (s : State) (ok : sound s ≡ true) (b b′ : List ℕ) (n k i : ℕ) (p : sessionPlace s n ≡ i) (l : i < sessionCount) (x : Session) (e : x ≡ sessionIn (sessionAt s i)) (f : b′ ≡ withMark b i (x .number)) where
+  loaded : x ≡ located s n i ok p l .live
+  loaded = e ∙ ap sessionIn (located s n i ok p l .is)
+
+  number-loaded : x .number ≡ n
+  number-loaded = ap (λ (y : Session). y .number) loaded ∙ located s n i ok p l .number
+
+  sealed-loaded : sealedIn s n ≡ isSealed x
+  sealed-loaded = rw (located s n i ok p l .of) (ap isSealed (sym loaded))
+
+  noted-here : b′ ≡ withMark b i n
+  noted-here = f ∙ ap (withMark b i) number-loaded
+
+  pub written-open : isSealed x ≡ false → Writes s b n k i 2 b′
+  written-open q = record { rule = rw (sealed-loaded ∙ q); book = noted-here }
+
+  pub written-held : isSealed x ≡ true → (j : ℕ) → found rowCount (rowPlace s (x .number) k) ≡ Found.At j → Writes s b n k i 0 b′
+  written-held q j g =
+      record { rule = rw (sealed-loaded ∙ q, row-taken s n k j (facts.rows-length s ok) (rw number-loaded at g)); book = noted-here }
+
+  pub written-rowless : isSealed x ≡ true → found rowCount (rowPlace s (x .number) k) ≡ Found.Nothing → Writes s b n k i 2 b′
+  written-rowless q g =
+      record { rule = rw (sealed-loaded ∙ q, row-missing s n k (facts.rows-length s ok) (rw number-loaded at g)); book = noted-here }
+
+-- ---- on the cache's bytes
+
+module _ (x b : List ℕ) (n k : ℕ) where
+  abbrev Noted : ℕ → List ℕ → Type 0
+  Noted r b′ = (r ≡ (if mayWrite x n k then 0 else 2)) × (b′ ≡ marked x b n)
+
+  pub written-damaged : wellFormed x ≡ false → Noted 2 b
+  unfolding mayWrite marked
+  written-damaged e = rw e (refl, refl)
+
+  pub written-nobody : wellFormed x ≡ true → found sessionCount (sessionPlace (decode x) n) ≡ Found.Nothing → Noted 2 b
+  unfolding mayWrite marked
+  written-nobody e f =
+      let z = unlocated (decode x) n (formed x e .sound) f in
+      rw (e, z, le-ltb (sessionPlace (decode x) n) sessionCount (found-nothing sessionCount (sessionPlace (decode x) n) f)) (refl, refl)
+
+  pub written-at : wellFormed x ≡ true → (i r : ℕ) (b′ : List ℕ) → found sessionCount (sessionPlace (decode x) n) ≡ Found.At i
+      → ((s : State) → Holds x s → sound s ≡ true → (m : ℕ) → sessionPlace s m ≡ i → Writes s b m k i r b′) → Noted r b′
+  unfolding mayWrite marked
+  written-at e i r b′ f w =
+      let q = found-at sessionCount (sessionPlace (decode x) n) i f in
+      let u = w (decode x) (holds-decoded x e) (formed x e .sound) n (q .0) in
+      let g : ltb (sessionPlace (decode x) n) sessionCount ≡ true = rw (q .0) (lt-ltb i sessionCount (q .1)) in
+      (rw e (u .rule), rw (e, g) (u .book ∙ ap (λ (j : ℕ). withMark b j n) (sym (q .0))))
+
+-- ---- what is said of it
+
+pub write-says : (x b : List ℕ) (n k : ℕ) (v : Value) (rule : ℕ) (b₁ b′ : List ℕ) → rule ≡ (if mayWrite x n k then 0 else 2) → b₁ ≡ marked x b n → b′ ≡ withRegistered b₁ k v
+    → Says (writes x b n k v) 0 (record { word = writtenWord; detail = 0; at = 0; rule = rule }) x b′
+unfolding writes
+write-says x b n k v rule b₁ b′ e f g = record {
+  word = refl;
+  detail = refl;
+  place = refl;
+  rule = e;
+  cache = refl;
+  book = g ∙ ap (λ (y : List ℕ). withRegistered y k v) f;
+  value = λ w. absurd (omega arith);
+  inside = λ w. absurd (omega arith);
+  short = λ w. absurd (omega arith);
+}

@@ -1,0 +1,68 @@
+-- The session is loaded and marked; its life and its row on the key decide.
+-- Assumes nothing.
+use mathlib.Core.Path.{sym, _∙_}
+use borrow.Author.Tests.{not-true, not-false}
+use Rattle.writes.proofs.Written.{written-open, written-held, written-rowless}
+use borrow.Author.Needs.{needs}
+use Rattle.writes.proofs.mark_write.Statement.{statement}
+use Rattle.writes.proofs.mark_write.Tie as tie
+
+load-requires : tie.Need-load-requires
+load-requires c κs = search needs
+
+set-mark-requires : tie.Need-set-mark-requires
+set-mark-requires c κs = search needs
+
+is-sealed-requires : tie.Need-is-sealed-requires
+is-sealed-requires c κs = search needs
+
+same-length : tie.Need-same-length
+same-length c = search needs
+
+returns : tie.Need-returns
+returns c =
+    let s = c .before .before .before .before .before .before .before .before .before in
+    let l = c .before .before .before .before .before .before .load in
+    λ σ h ok n p. written-open σ ok (s .args .book .now) _ n (s .args .key) (s .args .i) p (s .pre .1 .1) (l .result) (l .ensures σ h) (c .before .before .before .before .set-mark .ensures) (sym (c .before .is-sealed .ensures) ∙ not-true _ (c .if1 .taken))
+
+cast-find : tie.Need-cast-find
+cast-find c = search needs
+
+find-requires : tie.Need-find-requires
+find-requires c κs = search needs
+
+enum-told : tie.Need-enum-told
+enum-told c = search needs
+
+enum-told-2 : tie.Need-enum-told-2
+enum-told-2 c = search needs
+
+same-length-2 : tie.Need-same-length-2
+same-length-2 c = search needs
+
+returns-2 : tie.Need-returns-2
+returns-2 c = λ σ h ok n p. written-held σ ok (c .before .before .before .before .before .before .before .before .before .before .before .before .args .book .now) _ n (c .before .before .before .before .before .before .before .before .before .before .before .before .args .key) (c .before .before .before .before .before .before .before .before .before .before .before .before .args .i) p (c .before .before .before .before .before .before .before .before .before .before .before .before .pre .1 .1) (c .before .before .before .before .before .before .before .before .before .load .result) (c .before .before .before .before .before .before .before .before .before .load .ensures σ h) (c .before .before .before .before .before .before .before .set-mark .ensures) (sym (c .before .before .before .before .is-sealed .ensures) ∙ not-false _ (c .before .before .before .if1 .left)) _ (sym (c .before .before .find .ensures .0 σ h) ∙ c .enum-told .given .1)
+
+same-length-3 : tie.Need-same-length-3
+same-length-3 c = search needs
+
+returns-3 : tie.Need-returns-3
+returns-3 c = λ σ h ok n p. written-rowless σ ok (c .before .before .before .before .before .before .before .before .before .before .before .before .args .book .now) _ n (c .before .before .before .before .before .before .before .before .before .before .before .before .args .key) (c .before .before .before .before .before .before .before .before .before .before .before .before .args .i) p (c .before .before .before .before .before .before .before .before .before .before .before .before .pre .1 .1) (c .before .before .before .before .before .before .before .before .before .load .result) (c .before .before .before .before .before .before .before .before .before .load .ensures σ h) (c .before .before .before .before .before .before .before .set-mark .ensures) (sym (c .before .before .before .before .is-sealed .ensures) ∙ not-false _ (c .before .before .before .if1 .left)) (sym (c .before .before .find .ensures .0 σ h) ∙ c .enum-told2 .given .1)
+
+pub mark-write-spec : {M : Type 1} → statement M
+mark-write-spec =
+    tie.close
+    (tie.spec
+    load-requires
+    set-mark-requires
+    is-sealed-requires
+    same-length
+    returns
+    cast-find
+    find-requires
+    enum-told
+    enum-told-2
+    same-length-2
+    returns-2
+    same-length-3
+    returns-3)
