@@ -26,18 +26,31 @@ const ONE_SLOT: u64 = 340_573_321;
 /// Numbers that are not spaced but chosen to crowd the proved check's seats.
 const CROWDED: u64 = 0;
 
-pub const PLANS: [Plan; 6] = [
+/// Numbers that are not spaced; the later half find all their seats in the proved check taken, and all rows are of such sessions.
+const FALLING: u64 = u64::MAX;
+
+pub const PLANS: [Plan; 7] = [
     Plan { name: "fresh", sessions: 0, rows: 0, values: 0, leases: 0, apart: 1 },
     Plan { name: "light", sessions: 10, rows: 20, values: 100, leases: 10, apart: 1 },
     Plan { name: "full", sessions: 128, rows: 384, values: 256, leases: 253, apart: 1 },
     Plan { name: "colliding", sessions: 128, rows: 384, values: 256, leases: 253, apart: 1 << 24 },
     Plan { name: "one-slot", sessions: 128, rows: 384, values: 256, leases: 253, apart: ONE_SLOT },
     Plan { name: "crowded", sessions: 128, rows: 384, values: 256, leases: 253, apart: CROWDED },
+    Plan { name: "falling", sessions: 127, rows: 384, values: 256, leases: 249, apart: FALLING },
 ];
 
 /// The number of a place.
 fn spaced(place: u64, apart: u64) -> u64 {
     (place + 1) * apart % (1 << 32)
+}
+
+/// The number of a place, half of the numbers having one seat each as their first: the others are multiples of 2^32 over that half, and so are
+/// all their products, whose high bits name no other seats than those.
+fn falling(place: u64, half: u64) -> u64 {
+    match place < half {
+        true => 1024 + place * (1024 / half),
+        false => (place - half + 1) * ((1 << 32) / half),
+    }
 }
 
 /// The plan of a name.
@@ -78,10 +91,15 @@ pub fn state(plan: &Plan) -> Vec<u8> {
 
 /// The tables of the plan; its first keys have the rows, its last the leases.
 pub fn tables(plan: &Plan) -> Tables {
-    let held_keys = if plan.rows > 128 { 3 } else { plan.rows };
+    let held_keys = match plan.apart {
+        FALLING => 7,
+        _ if plan.rows > 128 => 3,
+        _ => plan.rows,
+    };
     let crowd = if plan.apart == CROWDED { crowd() } else { Vec::new() };
-    let number = |place: u64, apart: u64| match plan.apart {
+    let number = |place: u64, apart: u64, most: usize| match plan.apart {
         CROWDED => crowd[place as usize],
+        FALLING => falling(place, most as u64 / 2),
         _ => spaced(place, apart),
     };
     let keys = (0..KEYS as u64).map(|key| {
@@ -89,20 +107,24 @@ pub fn tables(plan: &Plan) -> Tables {
         let value = (spread < plan.values)
             .then(|| Value::of(&[b'v'; 64][..(spread * 37 % 65) as usize]).unwrap_or(Value::EMPTY));
         let lease = (key >= KEYS as u64 - plan.leases && key >= held_keys)
-            .then(|| Lease { token: number(key - held_keys, if plan.apart == 1 << 24 { 1 << 23 } else { plan.apart }), deadline: LEASES_END });
+            .then(|| Lease { token: number(key - held_keys, if plan.apart == 1 << 24 { 1 << 23 } else { plan.apart }, KEYS), deadline: LEASES_END });
         KeyRecord { value, lease }
     });
     let sessions = (0..SESSIONS as u64).map(|place| {
         (place < plan.sessions).then(|| SessionRecord {
-            number: number(place, plan.apart),
+            number: number(place, plan.apart, SESSIONS),
             standing: Standing::Open { deadline: SESSIONS_END },
             count: place,
         })
     });
     let rows = (0..ROWS as u64).map(|place| {
+        let (session, key) = match plan.apart {
+            FALLING => (64 + place % 63, place / 63),
+            _ => (place % plan.sessions.max(1), place % held_keys.max(1)),
+        };
         (place < plan.rows).then(|| RowRecord {
-            session: number(place % plan.sessions, plan.apart),
-            key: (place % held_keys) as u8,
+            session: number(session, plan.apart, SESSIONS),
+            key: key as u8,
             kind: if plan.rows > 128 { 1 } else { 2 },
             staged: match plan.rows > 128 {
                 true => Staged::Nothing,
