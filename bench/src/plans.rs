@@ -26,7 +26,7 @@ const ONE_SLOT: u64 = 340_573_321;
 /// Numbers that are not spaced but chosen to crowd the proved check's seats.
 const CROWDED: u64 = 0;
 
-/// Numbers that are not spaced; the later half find all their seats in the proved check taken, and all rows are of such sessions.
+/// Session numbers that are not spaced: the last two find all their seats in the proved check taken, and all rows are of these two.
 const FALLING: u64 = u64::MAX;
 
 pub const PLANS: [Plan; 7] = [
@@ -36,21 +36,12 @@ pub const PLANS: [Plan; 7] = [
     Plan { name: "colliding", sessions: 128, rows: 384, values: 256, leases: 253, apart: 1 << 24 },
     Plan { name: "one-slot", sessions: 128, rows: 384, values: 256, leases: 253, apart: ONE_SLOT },
     Plan { name: "crowded", sessions: 128, rows: 384, values: 256, leases: 253, apart: CROWDED },
-    Plan { name: "falling", sessions: 127, rows: 384, values: 256, leases: 249, apart: FALLING },
+    Plan { name: "falling", sessions: 128, rows: 384, values: 256, leases: 64, apart: FALLING },
 ];
 
 /// The number of a place.
 fn spaced(place: u64, apart: u64) -> u64 {
     (place + 1) * apart % (1 << 32)
-}
-
-/// The number of a place, half of the numbers having one seat each as their first: the others are multiples of 2^32 over that half, and so are
-/// all their products, whose high bits name no other seats than those.
-fn falling(place: u64, half: u64) -> u64 {
-    match place < half {
-        true => 1024 + place * (1024 / half),
-        false => (place - half + 1) * ((1 << 32) / half),
-    }
 }
 
 /// The plan of a name.
@@ -60,7 +51,7 @@ pub fn named(name: &str) -> Option<&'static Plan> {
 
 /// The seats that the proved check tries for a number, in their order.
 fn seats(number: u32) -> impl Iterator<Item = usize> {
-    let spun = std::iter::successors(Some(number), |bits| Some(bits.wrapping_mul(2_654_435_769)));
+    let spun = std::iter::successors(Some(number), |bits| Some(bits.wrapping_mul(2_654_435_769).wrapping_add(1)));
     std::iter::once(number as usize % 1024).chain(spun.skip(1).take(15).map(|bits| (bits >> 22) as usize))
 }
 
@@ -84,6 +75,17 @@ fn crowd() -> Vec<u64> {
     numbers
 }
 
+/// Session numbers of which the last two find all their seats in the proved check taken: each of those seats is the first of a number before.
+fn fall() -> Vec<u64> {
+    let last = [1u32 << 31, 3u32 << 30];
+    let mut seats: Vec<usize> = last.iter().flat_map(|number| seats(*number)).collect();
+    seats.sort_unstable();
+    seats.dedup();
+    let first = seats.iter().map(|seat| 1024 + *seat as u64);
+    let others = (1 << 20)..;
+    first.chain(others).take(SESSIONS - last.len()).chain(last.map(u64::from)).collect()
+}
+
 /// A well-formed state of the plan.
 pub fn state(plan: &Plan) -> Vec<u8> {
     encode(&tables(plan))
@@ -92,38 +94,41 @@ pub fn state(plan: &Plan) -> Vec<u8> {
 /// The tables of the plan; its first keys have the rows, its last the leases.
 pub fn tables(plan: &Plan) -> Tables {
     let held_keys = match plan.apart {
-        FALLING => 7,
+        FALLING => plan.rows / 2,
         _ if plan.rows > 128 => 3,
         _ => plan.rows,
     };
-    let crowd = if plan.apart == CROWDED { crowd() } else { Vec::new() };
-    let number = |place: u64, apart: u64, most: usize| match plan.apart {
-        CROWDED => crowd[place as usize],
-        FALLING => falling(place, most as u64 / 2),
-        _ => spaced(place, apart),
+    let chosen = match plan.apart {
+        CROWDED => crowd(),
+        FALLING => fall(),
+        _ => Vec::new(),
+    };
+    let number = |place: u64, apart: u64| match chosen.get(place as usize) {
+        Some(number) => *number,
+        None => spaced(place, apart),
     };
     let keys = (0..KEYS as u64).map(|key| {
         let spread = key * 151 % KEYS as u64;
         let value = (spread < plan.values)
             .then(|| Value::of(&[b'v'; 64][..(spread * 37 % 65) as usize]).unwrap_or(Value::EMPTY));
         let lease = (key >= KEYS as u64 - plan.leases && key >= held_keys)
-            .then(|| Lease { token: number(key - held_keys, if plan.apart == 1 << 24 { 1 << 23 } else { plan.apart }, KEYS), deadline: LEASES_END });
+            .then(|| Lease { token: number(key - held_keys, if plan.apart == 1 << 24 { 1 << 23 } else { plan.apart }), deadline: LEASES_END });
         KeyRecord { value, lease }
     });
     let sessions = (0..SESSIONS as u64).map(|place| {
         (place < plan.sessions).then(|| SessionRecord {
-            number: number(place, plan.apart, SESSIONS),
+            number: number(place, plan.apart),
             standing: Standing::Open { deadline: SESSIONS_END },
             count: place,
         })
     });
     let rows = (0..ROWS as u64).map(|place| {
         let (session, key) = match plan.apart {
-            FALLING => (64 + place % 63, place / 63),
+            FALLING => (126 + place % 2, place / 2),
             _ => (place % plan.sessions.max(1), place % held_keys.max(1)),
         };
         (place < plan.rows).then(|| RowRecord {
-            session: number(session, plan.apart, SESSIONS),
+            session: number(session, plan.apart),
             key: key as u8,
             kind: if plan.rows > 128 { 1 } else { 2 },
             staged: match plan.rows > 128 {

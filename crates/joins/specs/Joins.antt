@@ -79,9 +79,9 @@ seatCount = 1024
 abbrev pub tries : ℕ
 tries = 16
 
--- the 32 low bits of the product with 2^32 over the golden ratio
+-- the 32 low bits of the product with 2^32 over the golden ratio, plus 1, so that a multiple of a power of two does not stay one
 unfoldable pub spun : ℕ → ℕ
-spun x = x * 2654435769 % 4294967296
+spun x = (x * 2654435769 + 1) % 4294967296
 
 -- n spun t times
 unfoldable pub spread : ℕ → ℕ → ℕ

@@ -1,4 +1,4 @@
--- As it is defined; the product is below 2^64.
+-- As it is defined; the sum is below 2^64.
 -- Assumes nothing.
 use mathlib.Core.Path.{refl}
 use borrow.Author.Needs.{needs}
@@ -9,6 +9,9 @@ use Rattle.joins.proofs.spin.Tie as tie
 mul-result : tie.Need-mul-result
 mul-result c = search needs
 
+add-result : tie.Need-add-result
+add-result c = search needs
+
 cast-result : tie.Need-cast-result
 cast-result c = search needs
 
@@ -17,4 +20,4 @@ unfolding spun
 returns c = refl
 
 pub spin-spec : {M : Type 1} → statement M
-spin-spec = tie.close (tie.spec mul-result cast-result returns)
+spin-spec = tie.close (tie.spec mul-result add-result cast-result returns)
