@@ -57,6 +57,16 @@ module _ (s : State) (n k kind : ℕ) where
   unfolding ask decide
   ask-by v held p e = rw (← p, e)
 
+  -- ---- what would be granted
+
+  pub grants-held-not : eqb (kindOf (rowOf s n k)) kind ≡ true → wouldGrant s n k kind ≡ false
+  unfolding wouldGrant
+  grants-held-not e = rw e
+
+  pub grants-by : eqb (kindOf (rowOf s n k)) kind ≡ false → (v : Verdict) (held : ℕ) → held ≡ heldOn s k → decision held kind ≡ v → wouldGrant s n k kind ≡ grants v
+  unfolding wouldGrant decide
+  grants-by e v held p q = rw (e, ← p, q)
+
   -- ---- a row that it has
 
   pub hold-own : eqb (kindOf (rowOf s n k)) kind ≡ true → hold s n k kind ≡ told Answer.Held s

@@ -7,6 +7,7 @@ ghost use lib.Dec.{eqb};
 ghost use lib.ListN.{length};
 ghost use Rattle.machine.specs.Sizes.{stateSize, sessionCount};
 ghost use Rattle.machine.specs.State.{State, kindOf, rowOf, numbered, sessionAt};
+ghost use Rattle.machine.specs.Refusals.{wouldGrant};
 ghost use Rattle.machine.specs.Sound.{sound};
 ghost use Rattle.machine.specs.declared.Command.the-variants.{Quar};
 ghost use Rattle.layout.specs.Holds.{Holds};
@@ -26,6 +27,23 @@ fn holds(s: &[u8], n: u32, k: u8, kind: u8) -> bool
         return false;
     };
     rows::kind(s, i) == kind
+}
+
+// Whether a QUAR by session n would be answered GRANTED, if there is room.
+pub fn would_grant(s: &[u8], n: u32, k: u8, kind: u8) -> bool
+    requires { ⌜ (length (now s) ≡ stateSize) × ((1 ≤ kind) × (kind < 4)) ⌝ }
+    ensures { λ r. ⌜ ((σ : State) → Holds (now (s .entry)) σ → sound σ ≡ true → r ≡ wouldGrant σ n k kind) ⌝ }
+{
+    if holds(s, n, k, kind) {
+        return false;
+    }
+    let held = holdings::held(s, k as usize);
+    match decisions::decide(held, kind as usize) {
+        Verdict::Grant => true,
+        Verdict::Void => true,
+        Verdict::BackOff => false,
+        Verdict::Abort => false,
+    }
 }
 
 // The lowest free row is taken and the I lease voided; where there is none, the refusal is ROOM.

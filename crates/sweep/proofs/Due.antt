@@ -1,18 +1,21 @@
 -- Sessions have different numbers, so to end those of some numbers is to free the places of those sessions: who is among the numbers of
--- the sessions that pass a test passes it himself.
+-- the sessions that pass a test passes it itself.
 -- Assumes nothing.
 use mathlib.Core.Path.{_≡_, refl, sym, ap, _∙_}
 use mathlib.Core.Bool.{Bool, true, false}
 use mathlib.Core.Logic.{_⊎_, inl, inr}
 use mathlib.Core.List.{List, map}
 use Prim.Native.Nat.{ℕ}
+use lib.Dec.{eqb}
 use lib.ListN.{getD, length-map, List·getD-map}
-use Rattle.machine.specs.Tables.{mem}
+use borrow.Author.Tests.{eqb-true}
+use Rattle.machine.specs.Tables.{place, find, mem}
 use Rattle.machine.specs.Session.{isDue}
-use Rattle.machine.specs.State.{Slot, noSession, session}
+use Rattle.machine.specs.State.{Slot, noSession, session, numbered}
 use Rattle.machine.specs.Expiry.{freeSession, those}
 use Rattle.machine.specs.declared.Session.{Session}
-use Rattle.machine.proofs.Views.{caseOf, clash, among-those, those-has}
+use Rattle.machine.proofs.Views.{caseOf, clash, find-passes, among-those, those-has}
+use Rattle.deadlines.specs.Deadlines.{dueSlot}
 use Rattle.endings.proofs.Numbers.{Distinct, slots-are}
 use Rattle.sweep.specs.Lapsing.{freeDue}
 
@@ -38,3 +41,11 @@ module _ (l : List Slot) (d : Distinct l) where
       at : (i : ℕ) (e : Slot) → getD l i noSession ≡ e → freeSession (those (isDue now) l) e ≡ freeDue now e
       at i noSession q = refl
       at i (session x) q = rw (among-is (isDue now) i x q)
+
+  -- and for a number that some session has
+  pub due-number : (now n i : ℕ) → numbered n (getD l i noSession) ≡ true → mem n (those (isDue now) l) ≡ dueSlot now (find (numbered n) noSession l)
+  due-number now n i h = at (find (numbered n) noSession l) refl (find-passes (numbered n) noSession l i refl h)
+    where
+      at : (e : Slot) → find (numbered n) noSession l ≡ e → numbered n e ≡ true → mem n (those (isDue now) l) ≡ dueSlot now e
+      at noSession q k = clash false k refl
+      at (session x) q k = let f : x .number ≡ n = eqb-true (x .number) n k in rw (← f) (among-is (isDue now) (place (numbered n) l) x q)

@@ -17,7 +17,7 @@ use Rattle.deadlines.specs.Deadlines.{lapsed, lapsedOn, dueSlot}
 use Rattle.sweep.specs.Lapsing.{lapsing}
 
 -- a map that changes only what passes a test that nothing passes
-unmapped : {A : Type 0} (p : A → Bool) (f : A → A) → ((x : A) → p x ≡ false → f x ≡ x) → (l : List A) → any p l ≡ false → map f l ≡ l
+pub unmapped : {A : Type 0} (p : A → Bool) (f : A → A) → ((x : A) → p x ≡ false → f x ≡ x) → (l : List A) → any p l ≡ false → map f l ≡ l
 unmapped p f same [] h = refl
 unmapped p f same (x ∷ l) h = let b = or-no (p x) (any p l) h in ap₂ _∷_ (same x (b .0)) (unmapped p f same l (b .1))
 

@@ -29,7 +29,7 @@ fn leases_lapse(s: &[u8], time: u64) -> bool
 }
 
 // Whether some session is due.
-fn sessions_lapse(s: &[u8], time: u64) -> bool
+pub fn sessions_lapse(s: &[u8], time: u64) -> bool
     requires { ⌜ length (now s) ≡ stateSize ⌝ }
     ensures { λ r. ⌜ ((σ : State) → Holds (now (s .entry)) σ → r ≡ any (dueSlot time) (σ .sessions)) ⌝ }
 {

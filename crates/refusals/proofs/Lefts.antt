@@ -1,0 +1,113 @@
+-- Who is left of a number after expiry, told by what the search for the number finds before it; and what that one finds who stages:
+-- whoever is left has the record and the rows that he had, so his refusals are those on the state as it is.
+-- Assumes nothing.
+use mathlib.Core.Path.{_≡_, refl, sym, ap, _∙_}
+use mathlib.Core.Bool.{Bool, true, false, not, _&&_}
+use mathlib.Core.Logic.{_⊎_, inl, inr}
+use mathlib.Core.List.{List, []}
+use mathlib.Core.Option.{Option, none, some}
+use Prim.Native.Nat.{ℕ, _≤_}
+use native.Mathlib.Omega.{arith}
+use lib.Dec.{eqb, ltb}
+use borrow.Author.Tests.{eqb-true, le-ltb}
+use Rattle.lent.specs.Tables.{if_then_else_}
+use Rattle.machine.specs.Sizes.{sessionCount, stepMax}
+use Rattle.machine.specs.Tables.{first}
+use Rattle.machine.specs.Session.{isDue, advanced, sealed, isSealed, validationOf}
+use Rattle.machine.specs.State.{Slot, noSession, session, State, numbered, sessionPlace, sessionOf, sessionAt, rowPlace, rowOf}
+use Rattle.machine.specs.Expiry.{expire}
+use Rattle.machine.specs.Sound.{sound}
+use Rattle.machine.specs.Refusals.{countOf, stagingRefusals, refusals}
+use Rattle.machine.specs.declared.Session.{Session}
+use Rattle.machine.specs.declared.Validation.{Validation}
+use Rattle.machine.specs.declared.Command.the-variants.{Validate}
+use Rattle.machine.proofs.Views.{clash, find-test, no-session}
+use Rattle.machine.proofs.SoundFacts as facts
+use Rattle.layout.specs.Fields.{sessionIn}
+use Rattle.layout.specs.Search.{found}
+use Rattle.layout.specs.declared.Found.{Found}
+use Rattle.layout.proofs.Search.{found-entry, found-passes, nothing-entry}
+use Rattle.stages.specs.Staging.{orElse, stagingOf}
+use Rattle.stages.specs.declared.Staging.{Staging}
+use Rattle.deadlines.specs.Deadlines.{dueSlot}
+use Rattle.sweep.specs.Lapsing.{freeDue}
+use Rattle.refusals.specs.Left.{leftOf}
+use Rattle.refusals.specs.Met.{refusalOf}
+use Rattle.refusals.specs.declared.after.Left.{Left}
+use Rattle.refusals.specs.declared.Refusal.{Refusal}
+use Rattle.refusals.proofs.Expired.{stays, session-expired, row-expired}
+
+-- ---- what the code is told
+
+pub left-is : (e : Slot) (x : Session) → leftOf e ≡ Left.Is x → e ≡ session x
+left-is noSession x q = absurd (let z : _≡_ {A = ℕ} 0 1 = cc in omega arith)
+left-is (session y) x q = let f : y ≡ x = cc in ap session f
+
+pub left-nobody : (e : Slot) → leftOf e ≡ Left.Nobody → e ≡ noSession
+left-nobody noSession q = refl
+left-nobody (session y) q = absurd (let z : _≡_ {A = ℕ} 0 1 = cc in omega arith)
+
+-- the refusal in what a session that stages has found, and in what VALIDATE has
+abbrev pub refusalIn : Staging → Refusal
+refusalIn (Staging.Refused e) = Refusal.Is e
+refusalIn Staging.Repeated = Refusal.Nothing
+refusalIn (Staging.At i j x) = Refusal.Nothing
+
+abbrev pub clashIn : Validation → Refusal
+clashIn (Validation.Seals x) = Refusal.Nothing
+clashIn Validation.Loses = Refusal.Nothing
+clashIn Validation.Clashes = Refusal.Is 6
+
+told-by : (o : Option ℕ) (t : Bool) (i j : ℕ) (x : Session) → refusalOf o ≡ refusalIn (orElse o (if t then Staging.Repeated else Staging.At i j x))
+told-by none true i j x = refl
+told-by none false i j x = refl
+told-by (some e) t i j x = refl
+
+pub validates : (t : State) (n m : ℕ) (x : Session) → sessionOf t n ≡ session x → m ≤ stepMax → refusalOf (first (refusals t (Validate n m) [])) ≡ clashIn (validationOf x m)
+unfolding refusals
+validates t n m x e h = rw (le-ltb stepMax m h, e) (go (isSealed x) (eqb m (x .count)))
+  where
+    go : (u t : Bool) → refusalOf (if u && not t then some 6 else none) ≡ clashIn (if t then Validation.Seals (sealed x) else if u then Validation.Clashes else Validation.Loses)
+    go true true = refl
+    go true false = refl
+    go false true = refl
+    go false false = refl
+
+slot-left : (now n : ℕ) (e : Slot) → numbered n e ≡ true → (t : Bool) → isDue now (sessionIn e) ≡ t → freeDue now e ≡ (if t then noSession else session (sessionIn e))
+slot-left now n noSession q t d = clash false q refl
+slot-left now n (session x) q t d = rw d
+
+module _ (s : State) (ok : sound s ≡ true) (now n : ℕ) where
+  -- ---- what the search for the number finds
+
+  pub left-none : found sessionCount (sessionPlace s n) ≡ Found.Nothing → sessionOf (expire now s) n ≡ noSession
+  left-none f = session-expired s ok now n ∙ ap (freeDue now) (nothing-entry (numbered n) noSession (s .sessions) sessionCount (facts.sessions-length s ok) f)
+
+  pub left-by : (i : ℕ) → found sessionCount (sessionPlace s n) ≡ Found.At i → (t : Bool) → isDue now (sessionIn (sessionAt s i)) ≡ t
+      → sessionOf (expire now s) n ≡ (if t then noSession else session (sessionIn (sessionAt s i)))
+  left-by i f t d =
+      session-expired s ok now n
+      ∙ ap (freeDue now) (found-entry (numbered n) noSession (s .sessions) sessionCount i f)
+      ∙ slot-left now n (sessionAt s i) (found-passes (numbered n) noSession (s .sessions) sessionCount i (facts.sessions-length s ok) f) t d
+
+  -- ---- who is left
+
+  module _ (x : Session) (e : sessionOf (expire now s) n ≡ session x) where
+    pub left-number : x .number ≡ n
+    left-number = go (find-test (numbered n) noSession (expire now s .sessions))
+      where
+        go : (sessionOf (expire now s) n ≡ noSession) ⊎ (numbered n (sessionOf (expire now s) n) ≡ true) → x .number ≡ n
+        go (inl q) = no-session x (sym q ∙ e)
+        go (inr q) = eqb-true (x .number) n (rw e at q)
+
+    left-was : (sessionOf s n ≡ session x) × (isDue now x ≡ false)
+    left-was = stays now (sessionOf s n) x (sym (session-expired s ok now n) ∙ e)
+
+    pub left-row : (k : ℕ) → rowOf (expire now s) n k ≡ rowOf s n k
+    left-row k = row-expired s ok now n k (ap (dueSlot now) (left-was .0) ∙ left-was .1)
+
+    pub left-stages : (step k kind : ℕ) → refusalOf (first (stagingRefusals (expire now s) n step k kind)) ≡ refusalIn (stagingOf s n step k kind)
+    unfolding stagingOf
+    left-stages step k kind =
+        rw (left-row k, e ∙ sym (left-was .0))
+        (told-by (first (stagingRefusals s n step k kind)) (ltb step (countOf s n)) (sessionPlace s n) (rowPlace s n k) (advanced (sessionIn (sessionOf s n))))

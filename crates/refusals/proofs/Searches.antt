@@ -1,0 +1,84 @@
+-- Whether a table has an entry that passes a test: told by the search for its place, by the count of the others, and, where every entry was
+-- put through f, by the entries as they were. By induction on the table.
+-- Assumes nothing.
+use mathlib.Core.Path.{_≡_, refl, sym, ap, ap₂, _∙_}
+use mathlib.Core.Bool.{Bool, true, false, not, _&&_, _||_}
+use mathlib.Core.List.{List, [], _∷_, map}
+use Prim.Native.Nat.{ℕ, zero, suc, _+_, _≤_, _<_}
+use native.Mathlib.Omega.{arith}
+use lib.Dec.{leb, leb·suc-suc}
+use lib.ListN.{length, getD}
+use borrow.Author.Tests.{lt-leb}
+use Rattle.lent.specs.Tables.{if_then_else_}
+use Rattle.lent.proofs.Choices.{clash, or-no}
+use Rattle.machine.specs.Tables.{place, any, count}
+use Rattle.machine.proofs.Views.{not-true′}
+use Rattle.layout.specs.Search.{found}
+use Rattle.layout.specs.declared.Found.{Found}
+use Rattle.layout.proofs.Search.{found-at, found-passes, found-full}
+use Rattle.endings.proofs.Searches.{any-hit}
+
+or-swap : (a b c d : Bool) → (a || b) || (c || d) ≡ (a || c) || (b || d)
+or-swap true b c d = refl
+or-swap false true true d = refl
+or-swap false true false d = refl
+or-swap false false c d = refl
+
+count-most : {A : Type 0} (p : A → Bool) (l : List A) → count p l ≤ length l
+count-most p [] = omega arith
+count-most p (x ∷ l) = go (p x) (count-most p l)
+  where
+    go : (t : Bool) → count p l ≤ length l → (if t then 1 else 0) + count p l ≤ suc (length l)
+    go true h = omega arith
+    go false h = omega arith
+
+module _ {A : Type 0} (p : A → Bool) where
+  -- ---- by the count of the others
+
+  abbrev others : List A → ℕ
+  others l = count (λ x. not (p x)) l
+
+  full-length : (l : List A) → leb (length l) (others l) ≡ not (any p l)
+  full-length [] = refl
+  full-length (x ∷ l) = go (p x) (full-length l)
+    where
+      go : (t : Bool) → leb (length l) (others l) ≡ not (any p l) → leb (suc (length l)) ((if not t then 1 else 0) + others l) ≡ not (t || any p l)
+      go true h = lt-leb (suc (length l)) (0 + others l) (omega (arith, count-most (λ x. not (p x)) l))
+      go false h = let q : 1 + others l ≡ suc (others l) = omega arith in rw (q, leb·suc-suc (length l) (others l)) h
+
+  pub full-any : (l : List A) (n : ℕ) → length l ≡ n → leb n (count (λ x. not (p x)) l) ≡ not (any p l)
+  full-any l n e = rw (← e) (full-length l)
+
+  -- ---- by the search for its place
+
+  module _ (d : A) (l : List A) (n : ℕ) (e : length l ≡ n) where
+    pub found-any : (i : ℕ) → found n (place p l) ≡ Found.At i → any p l ≡ true
+    found-any i f = let q = found-at n (place p l) i f in any-hit p d l i (omega arith) (found-passes p d l n i e f)
+
+    pub nothing-any : found n (place p l) ≡ Found.Nothing → any p l ≡ false
+    nothing-any f = not-true′ (any p l) (sym (full-any l n e) ∙ found-full p d l n e f)
+
+  -- ---- every entry put through f
+
+  pub any-mapped : (f : A → A) (q : A → Bool) → ((x : A) → p (f x) ≡ q x) → (l : List A) → any p (map f l) ≡ any q l
+  any-mapped f q same [] = refl
+  any-mapped f q same (x ∷ l) = ap₂ _||_ (same x) (any-mapped f q same l)
+
+  pub any-either : (f : A → A) (q r : A → Bool) → ((x : A) → p (f x) ≡ q x || r x) → (l : List A) → any p (map f l) ≡ any q l || any r l
+  any-either f q r same [] = refl
+  any-either f q r same (x ∷ l) = ap₂ _||_ (same x) (any-either f q r same l) ∙ or-swap (q x) (r x) (any q l) (any r l)
+
+  pub any-same : (q : A → Bool) → ((x : A) → p x ≡ q x) → (l : List A) → any p l ≡ any q l
+  any-same q same [] = refl
+  any-same q same (x ∷ l) = ap₂ _||_ (same x) (any-same q same l)
+
+  -- ---- two tests: if each that passes one passes the other
+
+  pub any-both : (q : A → Bool) (l : List A) → any (λ x. p x && not (q x)) l ≡ false → any (λ x. p x && q x) l ≡ any p l
+  any-both q [] h = refl
+  any-both q (x ∷ l) h = let b = or-no (p x && not (q x)) (any (λ x. p x && not (q x)) l) h in ap₂ _||_ (go (p x) (q x) (b .0)) (any-both q l (b .1))
+    where
+      go : (t u : Bool) → t && not u ≡ false → t && u ≡ t
+      go true true e = refl
+      go true false e = clash true refl e
+      go false u e = refl

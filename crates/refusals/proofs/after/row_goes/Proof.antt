@@ -1,0 +1,46 @@
+-- The search for the row's session and that one's deadline decide.
+-- Assumes nothing.
+use mathlib.Core.Path.{sym, ap, _∙_}
+use Rattle.machine.specs.Sizes.{sessionCount}
+use Rattle.machine.specs.State.{noSession, numbered}
+use Rattle.layout.proofs.Search.{found-entry, nothing-entry}
+use borrow.Author.Needs.{needs}
+use Rattle.refusals.proofs.after.row_goes.Statement.{statement}
+use Rattle.refusals.proofs.after.row_goes.Tie as tie
+
+session-requires : tie.Need-session-requires
+session-requires c κs = search needs
+
+cast-find : tie.Need-cast-find
+cast-find c = search needs
+
+find-requires : tie.Need-find-requires
+find-requires c κs = search needs
+
+enum-known-j : tie.Need-enum-known-j
+enum-known-j c = search needs
+
+enum-told : tie.Need-enum-told
+enum-told c = search needs
+
+returns : tie.Need-returns
+returns c = λ σ h. rw (← c .before .before .before .session .ensures σ h, nothing-entry (numbered (c .before .before .before .session .result)) noSession (σ .sessions) sessionCount (h .fits .sessions) (sym (c .before .before .find .ensures .0 σ h) ∙ c .enum-told .given .1))
+
+session-due-requires : tie.Need-session-due-requires
+session-due-requires c κs = (c .before .before .before .before .before .before .pre .0, rw (c .before .j .given .1) at (c .before .before .before .find .ensures .1))
+
+returns-2 : tie.Need-returns-2
+returns-2 c = λ σ h. rw (← c .before .before .before .before .before .session .ensures σ h, found-entry (numbered (c .before .before .before .before .before .session .result)) noSession (σ .sessions) sessionCount (c .before .before .j .given .0 .0) (sym (c .before .before .before .before .find .ensures .0 σ h) ∙ c .before .before .j .given .1)) (c .session-due .ensures σ h)
+
+pub row-goes-spec : {M : Type 1} → statement M
+row-goes-spec =
+    tie.close
+    (tie.spec
+    session-requires
+    cast-find
+    find-requires
+    enum-known-j
+    enum-told
+    returns
+    session-due-requires
+    returns-2)

@@ -1,0 +1,47 @@
+-- Whoever is left decides: nobody, one who is not sealed, or one who may go.
+-- Assumes nothing.
+use mathlib.Core.Path.{sym, _∙_}
+use Rattle.machine.specs.State.{sessionOf}
+use Rattle.machine.specs.Expiry.{expire}
+use Rattle.machine.specs.Refusals.{refusals}
+use borrow.Author.Tests.{not-true, not-false}
+use Rattle.refusals.proofs.Lefts.{left-is, left-nobody}
+use borrow.Author.Needs.{needs}
+use Rattle.refusals.proofs.done.Statement.{statement}
+use Rattle.refusals.proofs.done.Tie as tie
+
+session-requires : tie.Need-session-requires
+session-requires c κs = search needs
+
+enum-known-x : tie.Need-enum-known-x
+enum-known-x c = search needs
+
+enum-told : tie.Need-enum-told
+enum-told c = search needs
+
+returns : tie.Need-returns
+unfolding refusals
+returns c = λ σ h ok. rw (left-nobody (sessionOf (expire (c .before .before .before .before .args .time) σ) (c .before .before .before .before .args .session)) (sym (c .before .before .session .ensures σ h ok) ∙ c .enum-told .given .1))
+
+is-sealed-requires : tie.Need-is-sealed-requires
+is-sealed-requires c κs = search needs
+
+returns-2 : tie.Need-returns-2
+unfolding refusals
+returns-2 c = λ σ h ok. rw (left-is (sessionOf (expire (c .before .before .before .before .before .before .before .args .time) σ) (c .before .before .before .before .before .before .before .args .session)) (c .before .before .before .x .given .0 .0) (sym (c .before .before .before .before .before .session .ensures σ h ok) ∙ c .before .before .before .x .given .1), sym (c .before .is-sealed .ensures) ∙ not-true _ (c .if1 .taken))
+
+returns-3 : tie.Need-returns-3
+unfolding refusals
+returns-3 c = λ σ h ok. rw (left-is (sessionOf (expire (c .before .before .before .before .before .before .before .args .time) σ) (c .before .before .before .before .before .before .before .args .session)) (c .before .before .before .x .given .0 .0) (sym (c .before .before .before .before .before .session .ensures σ h ok) ∙ c .before .before .before .x .given .1), sym (c .before .is-sealed .ensures) ∙ not-false _ (c .if1 .left))
+
+pub done-spec : {M : Type 1} → statement M
+done-spec =
+    tie.close
+    (tie.spec
+    session-requires
+    enum-known-x
+    enum-told
+    returns
+    is-sealed-requires
+    returns-2
+    returns-3)

@@ -1,0 +1,32 @@
+-- 0 is nobody's number; any other is unknown where nobody is left.
+-- Assumes nothing.
+use mathlib.Core.Path.{sym, _∙_}
+use borrow.Author.Tests.{eq-eqb, ne-eqb}
+use Rattle.machine.specs.State.{sessionOf}
+use Rattle.machine.specs.Expiry.{expire}
+use Rattle.refusals.proofs.Lefts.{left-is, left-nobody}
+use borrow.Author.Needs.{needs}
+use Rattle.refusals.proofs.is_unknown.Statement.{statement}
+use Rattle.refusals.proofs.is_unknown.Tie as tie
+
+returns : tie.Need-returns
+returns c = λ σ h ok. rw (eq-eqb (c .before .before .args .session) 0 (c .if1 .taken))
+
+session-requires : tie.Need-session-requires
+session-requires c κs = search needs
+
+enum-told : tie.Need-enum-told
+enum-told c = search needs
+
+enum-told-2 : tie.Need-enum-told-2
+enum-told-2 c = search needs
+
+returns-2 : tie.Need-returns-2
+returns-2 c = λ σ h ok. rw (ne-eqb (c .before .before .before .before .before .args .session) 0 (c .before .before .before .if1 .left), left-is (sessionOf (expire (c .before .before .before .before .before .args .time) σ) (c .before .before .before .before .before .args .session)) _ (sym (c .before .before .session .ensures σ h ok) ∙ c .enum-told .given .1))
+
+returns-3 : tie.Need-returns-3
+returns-3 c = λ σ h ok. rw (ne-eqb (c .before .before .before .before .before .args .session) 0 (c .before .before .before .if1 .left), left-nobody (sessionOf (expire (c .before .before .before .before .before .args .time) σ) (c .before .before .before .before .before .args .session)) (sym (c .before .before .session .ensures σ h ok) ∙ c .enum-told2 .given .1))
+
+pub is-unknown-spec : {M : Type 1} → statement M
+is-unknown-spec =
+    tie.close (tie.spec returns session-requires enum-told enum-told-2 returns-2 returns-3)
