@@ -1,17 +1,20 @@
--- The parts of a step as the code takes them, said of the bytes: what is held after the clock's test, after the command, after expiry on a
--- copy, and after the check of the whole buffer.
+-- The parts of a step as the code takes them, said of the bytes: what is held after the clock's test, after the command, after expiry,
+-- and after the check of the whole buffer.
 use mathlib.Core.Path.{_≡_, refl, sym, ap, _∙_}
 use mathlib.Core.Bool.{Bool, true, false, _||_, or-true}
 use mathlib.Core.List.{List}
+use mathlib.Core.Option.{Option, none, some}
 use Prim.Native.Nat.{ℕ, _≤_, _<_}
+use native.Mathlib.Omega.{arith}
 use lib.Dec.{ltb}
 use borrow.Author.Tests.{lt-ltb, le-ltb}
 use Rattle.machine.specs.Sizes.{timeMax}
 use Rattle.machine.specs.State.{Value, State}
 use Rattle.machine.specs.Sound.{sound}
 use Rattle.machine.specs.Expiry.{withClock, expire}
+use Rattle.machine.specs.Refusals.{refusal}
 use Rattle.machine.specs.Effects.{Outcome, told}
-use Rattle.machine.specs.Step.{step}
+use Rattle.machine.specs.Step.{settled, step}
 use Rattle.machine.specs.declared.Answer.{Answer}
 use Rattle.machine.specs.declared.Command.{Command}
 use Rattle.layout.specs.Layout.{encode, decode}
@@ -19,8 +22,18 @@ use Rattle.layout.specs.WellFormed.{wellFormed}
 use Rattle.layout.specs.Holds.{Holds}
 use Rattle.layout.proofs.Formed.{formed, holds-decoded}
 use Rattle.outcome.specs.Outcome.{tried, acted, isRefused, Gives, Does}
-use Rattle.outcome.proofs.Steps.{clockBad, acted-late, acted-refused, acted-accepted, step-still, step-refused, step-accepted}
+use Rattle.outcome.proofs.Steps.{clockBad, acted-late, acted-refused, acted-accepted, step-still}
+use Rattle.refusals.specs.Met.{refusalOf}
+use Rattle.refusals.specs.declared.Refusal.{Refusal}
 use Rattle.cache.specs.Run.{ran}
+
+is-refused : {e : ℕ} (o : Option ℕ) → refusalOf o ≡ Refusal.Is e → o ≡ some e
+is-refused none q = absurd (let z : _≡_ {A = ℕ} 0 1 = cc in omega arith)
+is-refused (some d) q = cc
+
+is-accepted : (o : Option ℕ) → refusalOf o ≡ Refusal.Nothing → o ≡ none
+is-accepted none q = refl
+is-accepted (some d) q = absurd (let z : _≡_ {A = ℕ} 0 1 = cc in omega arith)
 
 module _ (s : State) (now : ℕ) (c : Command) (v : Value) where
   -- CLOCK
@@ -42,11 +55,13 @@ module _ (s : State) (now : ℕ) (c : Command) (v : Value) where
   accepted-still p q r g h = rw (acted-accepted s now c v (in-time p q) (rw (← g .answer) r)) (record { answer = g .answer; holds = h })
 
   -- after expiry
-  pub refused-lapsed : {a : Answer} {b d : List ℕ} → isRefused a ≡ true → Gives (acted (expire now s) now c v) a b → Holds d s → Gives (step s now c v) a d
-  refused-lapsed r g h = rw (step-refused s now c v (rw (← g .answer) r)) (record { answer = g .answer; holds = h })
+  pub refused-lapsed : {e : ℕ} {b : List ℕ} → refusalOf (refusal (expire now s) now c v) ≡ Refusal.Is e → Holds b s → Gives (step s now c v) (Answer.Refused e) b
+  unfolding step settled
+  refused-lapsed q h = rw (is-refused (refusal (expire now s) now c v) q) (record { answer = refl; holds = h })
 
-  pub accepted-lapsed : {a : Answer} {b : List ℕ} → isRefused a ≡ false → Gives (acted (expire now s) now c v) a b → Gives (step s now c v) a b
-  accepted-lapsed r g = rw (step-accepted s now c v (rw (← g .answer) r)) g
+  pub accepted-lapsed : {a : Answer} {b : List ℕ} → refusalOf (refusal (expire now s) now c v) ≡ Refusal.Nothing → Gives (acted (expire now s) now c v) a b → Gives (step s now c v) a b
+  unfolding step acted settled
+  accepted-lapsed q g = let e = is-accepted (refusal (expire now s) now c v) q in rw e (rw e at g)
 
   pub nothing-lapsed : {a : Answer} {b : List ℕ} → expire now s ≡ s → Gives (acted s now c v) a b → Gives (step s now c v) a b
   nothing-lapsed e g = rw (step-still s now c v e) g

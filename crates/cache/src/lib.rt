@@ -10,6 +10,7 @@ ghost use Rattle.outcome.specs.Outcome.{tried, acted, Does};
 ghost use Rattle.cache.specs.Run.{ran, commandOf, unknown, ranBy};
 use machine::Answer;
 use machine::Command;
+use refusals::Refusal;
 
 // 2^48 - 1, the last time.
 const TIME_MAX: u64 = 281474976710655;
@@ -58,20 +59,18 @@ fn still(s: &mut [u8], time: u64, command: Command, value: &[u8]) -> Answer
     r
 }
 
-// Something lapses: expiry and the command are tried on a copy, so that a refusal leaves the lent state as it came.
+// Something lapses: whether the command is refused after expiry is decided by reading alone, so that a refusal leaves the state as it came.
 fn lapsing(s: &mut [u8], time: u64, command: Command, value: &[u8]) -> Answer
     requires { ⌜ length (now s) ≡ stateSize ⌝ }
     ensures { λ r. ⌜ Does (now (s .entry)) (λ σ. step σ time command (now (value .entry))) r (now (s .exit)) ⌝ }
 {
-    let mut copy: [u8; 65536] = [0; 65536];
-    blocks::copy_in(&mut copy, 0, s);
-    sweep::sweep(&mut copy, time);
-    let answer = still(&mut copy, time, command, value);
-    if outcome::is_refused(answer) {
-        return answer;
+    match refusals::find(s, time, command, value) {
+        Refusal::Is(e) => Answer::Refused(e),
+        Refusal::Nothing => {
+            sweep::sweep(s, time);
+            still(s, time, command, value)
+        }
     }
-    blocks::copy_in(s, 0, &copy);
-    answer
 }
 
 fn settle(s: &mut [u8], time: u64, command: Command, value: &[u8]) -> Answer

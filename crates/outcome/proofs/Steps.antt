@@ -1,5 +1,5 @@
 -- A step in the parts in which the code takes it: the clock's test, the command on a state on which nothing lapses, the clock.
--- Where nothing lapses that is the whole step; else it is taken on the state after expiry, and a refusal goes back to the state as it came.
+-- Where nothing lapses that is the whole step.
 use Prim.Native.Nat.{ℕ}
 use native.Mathlib.Omega.{arith}
 use mathlib.Core.Path.{_≡_, refl, sym, ap, _∙_}
@@ -7,7 +7,7 @@ use mathlib.Core.Bool.{Bool, true, false, _||_}
 use mathlib.Core.Option.{Option, none, some}
 use lib.Dec.{eqb, ltb}
 use Rattle.machine.specs.Sizes.{timeMax}
-use Rattle.machine.specs.Tables.{first, mem}
+use Rattle.machine.specs.Tables.{first}
 use Rattle.machine.specs.Words.{wordOf, wordsOf}
 use Rattle.machine.specs.State.{Value, State}
 use Rattle.machine.specs.Expiry.{withClock, expire}
@@ -53,23 +53,3 @@ module _ (s : State) (now : ℕ) (c : Command) (v : Value) where
 pub step-still : (s : State) (now : ℕ) (c : Command) (v : Value) → expire now s ≡ s → step s now c v ≡ acted s now c v
 unfolding step acted
 step-still s now c v e = rw e
-
--- where something does: on the state after expiry, and back to the state as it came
-module _ (s : State) (now : ℕ) (c : Command) (v : Value) where
-  pub step-refused : isRefused (acted (expire now s) now c v .answer) ≡ true → step s now c v ≡ told (acted (expire now s) now c v .answer) s
-  unfolding step acted settled
-  step-refused q = go (refusal (expire now s) now c v) q
-    where
-      go : (o : Option ℕ) → isRefused (settled (expire now s) now o (effect (expire now s) now c v) .answer) ≡ true
-          → settled s now o (effect (expire now s) now c v) ≡ told (settled (expire now s) now o (effect (expire now s) now c v) .answer) s
-      go (some d) p = refl
-      go none p = clash (isRefused (effect (expire now s) now c v .answer)) p (effect-accepts (expire now s) now c v)
-
-  pub step-accepted : isRefused (acted (expire now s) now c v .answer) ≡ false → step s now c v ≡ acted (expire now s) now c v
-  unfolding step acted settled
-  step-accepted q = go (refusal (expire now s) now c v) q
-    where
-      go : (o : Option ℕ) → isRefused (settled (expire now s) now o (effect (expire now s) now c v) .answer) ≡ false
-          → settled s now o (effect (expire now s) now c v) ≡ settled (expire now s) now o (effect (expire now s) now c v)
-      go none p = refl
-      go (some d) p = clash true refl p
