@@ -1,5 +1,4 @@
 -- A line is counted by one store, or by two of which the second reads its count after the first.
--- Assumes nothing.
 use Prim.Native.Nat.{ℕ, _+_, _%_, _^_}
 use mathlib.Core.Path.{_≡_}
 use mathlib.Core.List.{List}

@@ -1,6 +1,5 @@
 -- What is read of a book after it was written. Each reader looks at one stretch of it and each writer is a splice of one stretch, so what lies apart
 -- from the splice is read as before, and what was written is read back. Readers stand first, then each writer.
--- Assumes nothing.
 use Prim.Native.Nat.{ℕ, zero, suc, _+_, _*_, _%_, _^_, _≤_, _<_, min}
 use mathlib.Core.Path.{_≡_, refl, sym, ap, _∙_}
 use mathlib.Core.Logic.{_⊎_, inl, inr}

@@ -1,5 +1,4 @@
 -- What callers of the counts cite: a count that is written is read back, a count that is read, raised or lowered is at most the largest, and a buffer of 20 bytes takes any count.
--- Assumes nothing.
 use mathlib.Core.Path.{_≡_, refl, sym}
 use mathlib.Core.Bool.{Bool, true, false, _&&_, and-eq-true-iff}
 use mathlib.Core.List.{List}

@@ -1,5 +1,4 @@
 -- A deadline is looked at only where there is one: a token of 0 is no lease, and a place with the number 0 is free.
--- Assumes nothing.
 use mathlib.Core.Path.{_≡_, refl}
 use mathlib.Core.Bool.{false}
 use mathlib.Core.Option.{Option, none, some}

@@ -1,6 +1,5 @@
 -- What DELTA makes of a value: two values copied one behind the other are the longer value, if they fit, and a count that is written stands
 -- at the front of its buffer. Where there is no result nothing is said of the buffer.
--- Assumes nothing.
 use mathlib.Core.Path.{_≡_, refl, sym, ap, _∙_}
 use mathlib.Core.Bool.{true, false}
 use mathlib.Core.List.{List, _++_}

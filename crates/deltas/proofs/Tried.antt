@@ -1,6 +1,5 @@
 -- What DELTA answers and leaves, case by case: its own tests in their order, and then what its session found; and where a session stages,
 -- the row that was found is the one that is changed.
--- Assumes nothing.
 use mathlib.Core.Path.{_≡_, refl, ap, _∙_}
 use mathlib.Core.Bool.{true, false, not, _||_, or-true}
 use mathlib.Core.List.{List}

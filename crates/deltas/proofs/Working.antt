@@ -1,6 +1,5 @@
 -- What DELTA stages, by what the bytes say of its row and of its key: the row's mark tells DROP, a staged value or nothing, and where it is
 -- nothing the key's mark tells whether a value is cached. A value stands where its record says, so the operation on those bytes is on it.
--- Assumes nothing.
 use mathlib.Core.Path.{_≡_, refl, ap, _∙_}
 use mathlib.Core.Bool.{true, false, not}
 use mathlib.Core.List.{List}

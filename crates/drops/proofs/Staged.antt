@@ -1,6 +1,5 @@
 -- A staged value has the same mark, length and 64 bytes in its row as a cached one has in its key, so copying them caches it. The rows lie
 -- behind the keys, so the first copy does not touch what the second reads.
--- Assumes nothing.
 use mathlib.Core.Path.{_≡_, refl, _∙_}
 use mathlib.Core.List.{List, [], _∷_}
 use mathlib.Core.Option.{none, some}

@@ -1,6 +1,5 @@
 -- The loop over the rows is a pass that hands the keys along. The rows and keys after the last are those of `finish` and of `leave`, which
 -- settle the keys along the rows in the same order.
--- Assumes nothing.
 use mathlib.Core.Path.{_≡_, refl, sym, _∙_}
 use mathlib.Core.Bool.{Bool, true, false}
 use mathlib.Core.List.{List, [], _∷_}

@@ -1,5 +1,4 @@
 -- Sessions have different numbers, so to end the session of one number is to free one place.
--- Assumes nothing.
 use mathlib.Core.Path.{_≡_, refl, sym, ap, _∙_}
 use mathlib.Core.Bool.{true, false}
 use mathlib.Core.Logic.{_⊎_, inl, inr}

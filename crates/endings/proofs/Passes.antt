@@ -1,6 +1,5 @@
 -- A pass over a table that puts each entry through f is `map f`, and what it hands along from entry to entry is handed along the list.
 -- Before place n the entries are new, from n on they are old, so the step at n finds the old entry. By induction on the steps.
--- Assumes nothing.
 use mathlib.Core.Path.{_≡_, refl, _∙_}
 use mathlib.Core.List.{List, [], _∷_, _++_, map, map-append, append-nil}
 use Prim.Native.Nat.{ℕ, zero, suc, _≤_, _<_}

@@ -1,5 +1,4 @@
 -- A search of a list, entry by entry: one that passes is a hit for the whole, and where none did the whole has none.
--- Assumes nothing.
 use mathlib.Core.Path.{_≡_, refl}
 use mathlib.Core.Bool.{Bool, true, false, or-true}
 use mathlib.Core.List.{List, [], _∷_}

@@ -1,5 +1,4 @@
 -- One row of the pass over the rows: a free one and one of another session stay as they are, and one of the sessions settles its key and is freed.
--- Assumes nothing.
 use mathlib.Core.Path.{_≡_, refl}
 use mathlib.Core.Bool.{true, false}
 use mathlib.Core.List.{List}

@@ -1,5 +1,4 @@
 -- The held bytes as a list: a byte that is pushed makes the list that the definition makes, and it never grows past its most.
--- Assumes nothing.
 use mathlib.Core.Path.{_≡_, refl, sym, ap, _∙_}
 use mathlib.Core.List.{List, [], _∷_, _++_}
 use Prim.Native.Nat.{ℕ, zero, suc, _+_, _≤_, _<_}

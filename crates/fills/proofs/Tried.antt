@@ -1,6 +1,5 @@
 -- What FILL and EVICT answer and do, case by case: each test of the definition's list decided, in its order. The token that a key's record
 -- says is 0 where there is no lease, and a lease's token never is.
--- Assumes nothing.
 use mathlib.Core.Path.{_≡_, refl}
 use mathlib.Core.Bool.{true, false}
 use mathlib.Core.List.{List, []}

@@ -1,6 +1,5 @@
 -- What GET comes to, case by case: each test of its list of refusals decided, in its order, then what the asker sees. A holder of a row
 -- meets no test beyond the session's; anyone else meets the test of the numbers only where a lease would be given.
--- Assumes nothing.
 use mathlib.Core.Path.{_≡_, refl, ap}
 use mathlib.Core.Bool.{Bool, true, false, not, _&&_}
 use mathlib.Core.List.{List, [], _∷_}

@@ -1,5 +1,4 @@
 -- What callers cite of a text that is read: it says bytes, at most one for two digits.
--- Assumes nothing.
 use mathlib.Core.Path.{_≡_}
 use mathlib.Core.Logic.{⊎-elim}
 use mathlib.Core.Bool.{true}

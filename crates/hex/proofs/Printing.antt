@@ -1,5 +1,4 @@
 -- A value is printed byte by byte, two digits behind those of the bytes before; and what is printed of a value reads back as that value, since each digit says what it was made from.
--- Assumes nothing.
 use mathlib.Core.Path.{_≡_, refl, ap, _∙_}
 use mathlib.Core.Logic.{⊎-elim}
 use mathlib.Core.Bool.{true}

@@ -1,5 +1,4 @@
 -- A text of hex is checked digit by digit and then read pair by pair: what is still to be written is always what the pairs that are left say, behind the bytes that are written.
--- Assumes nothing.
 use mathlib.Core.Path.{_≡_, refl, sym, ap, _∙_}
 use mathlib.Core.Bool.{Bool, true, false, _&&_}
 use mathlib.Core.List.{List, [], _∷_}

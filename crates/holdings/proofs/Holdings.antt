@@ -1,5 +1,4 @@
 -- What is held on a key, told by what the search of the rows found: the first row on the key decides by its kind, else the I lease does.
--- Assumes nothing.
 use mathlib.Core.Path.{_≡_, refl}
 use mathlib.Core.Bool.{true}
 use mathlib.Core.Option.{Option, none, some}

@@ -1,6 +1,5 @@
 -- Numbers that enter one after the other: the next takes its place behind them, which moves none of theirs and no seat; then it is new among
 -- those side by side exactly if it is new in its table. Once all sessions are there, the pass over the rows may start.
--- Assumes nothing.
 use mathlib.Core.Path.{_≡_, sym, _∙_}
 use mathlib.Core.Bool.{Bool, true}
 use mathlib.Core.List.{List}

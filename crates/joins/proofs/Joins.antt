@@ -1,7 +1,6 @@
 -- One pass over the rows: what the kind seen on a row's key and the mark of its session tell of it is what comparing it with each row
 -- before it tells. The kind seen is that of every row before on the key, since rows that do not share it were refused; the mark at a
 -- session's place is that session's, since a place has one number.
--- Assumes nothing.
 use mathlib.Core.Path.{_≡_, refl, sym, ap, _∙_}
 use mathlib.Core.Bool.{Bool, true, false, not, _&&_, _||_, and-false, or-true}
 use mathlib.Core.Logic.{_⊎_, ⊎-elim, inl, inr}

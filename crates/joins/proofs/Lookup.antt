@@ -1,5 +1,4 @@
 -- The place of a number among numbers side by side, where none but 0 stands twice: a place at which it stands is its first.
--- Assumes nothing.
 use mathlib.Core.Path.{_≡_, refl, sym, ap, _∙_}
 use mathlib.Core.Bool.{Bool, true, false, not}
 use mathlib.Core.List.{List}

@@ -1,5 +1,4 @@
 -- Numbers side by side, and which of them are new.
--- Assumes nothing.
 use mathlib.Core.Path.{_≡_, refl, sym, ap, _∙_}
 use mathlib.Core.Bool.{Bool, true, false, not}
 use mathlib.Core.Logic.{_⊎_, ⊎-elim, inl, inr}

@@ -1,5 +1,4 @@
 -- The marks of keys and session places: a mark is a bit of the key's word in one of two arrays, by the place, and setting it changes no other.
--- Assumes nothing.
 use mathlib.Core.Path.{_≡_, refl, ap, _∙_}
 use mathlib.Core.Bool.{Bool, true, false, _&&_, _||_, and-false, or-false}
 use mathlib.Core.Logic.{⊎-elim}

@@ -1,7 +1,6 @@
 -- Seats of numbers. A number takes the first free seat that it tries, and no seat is given up; so one that was there before stands in a seat
 -- before any free one that it tries, and a number that meets a free seat and not itself before it is new. Where others have all its seats, it
 -- is compared with each.
--- Assumes nothing.
 use mathlib.Core.Path.{_≡_, refl, sym, ap, _∙_}
 use mathlib.Core.Bool.{Bool, true, false, not}
 use mathlib.Core.Logic.{_⊎_, ⊎-elim}

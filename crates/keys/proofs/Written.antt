@@ -1,6 +1,5 @@
 -- Token and deadline stand side by side, so that the two stores write one lease; and a value put on a key, the lease cleared after it, makes
 -- the record that FILL leaves.
--- Assumes nothing.
 use mathlib.Core.Path.{_≡_}
 use mathlib.Core.List.{List}
 use mathlib.Core.Option.{none, some}

@@ -1,5 +1,4 @@
 -- Which states fit their bytes: each sound one, since its numbers lie below limits that their bytes can say, and each that is read from bytes.
--- Assumes nothing.
 use mathlib.Core.Path.{_≡_, refl, sym, ap, _∙_}
 use mathlib.Core.Bool.{Bool, true, false, _&&_}
 use mathlib.Core.List.{List, [], _∷_, _++_}

@@ -1,6 +1,5 @@
 -- What is well formed: bytes that hold a sound state, and no others. A state that fits is read back from its bytes as it was, so its bytes
 -- are well formed exactly if it is sound.
--- Assumes nothing.
 use mathlib.Core.Path.{_≡_, refl, sym, ap, _∙_}
 use mathlib.Core.Bool.{Bool, true, _&&_}
 use mathlib.Core.List.{List}

@@ -1,6 +1,5 @@
 -- Bytes that hold a state: each record is read at its place and its fields with it, and a record that fits, written at its place, makes the
 -- bytes of the state with that record. A record that is written part by part is written whole once its parts make it up.
--- Assumes nothing.
 use mathlib.Core.Path.{_≡_, refl, sym, ap, _∙_}
 use mathlib.Core.Bool.{Bool, true, false, not}
 use mathlib.Core.List.{List, [], _∷_, _++_}

@@ -1,6 +1,5 @@
 -- A record's parts written where they stand: a value and its mark, a lease, what is staged, the header's numbers. What is not written stays,
 -- so each makes the bytes of the record with that part.
--- Assumes nothing.
 use mathlib.Core.Path.{_≡_, refl, sym, ap, ap₂, _∙_}
 use mathlib.Core.Bool.{Bool, true, false, not}
 use mathlib.Core.List.{List, [], _∷_, _++_}

@@ -1,6 +1,5 @@
 -- Where each record stands in a state's bytes: a table lies behind what comes before it, whose length is the table's place. So a record is
 -- read and written at its place, and the whole state is read back as it was written.
--- Assumes nothing.
 use mathlib.Core.Path.{_≡_, refl, sym, ap, _∙_}
 use mathlib.Core.List.{List, [], _∷_, _++_, append-assoc}
 use Prim.Native.Nat.{ℕ, _+_, _*_, _≤_, _<_}

@@ -1,6 +1,5 @@
 -- Each record is read from its bytes as it was written: field by field, where the bytes of a number say it and a value is as long as its
 -- length byte says; so the whole record.
--- Assumes nothing.
 use mathlib.Core.Path.{_≡_, refl, sym, ap, ap₂, _∙_}
 use mathlib.Core.Bool.{Bool, true, false, not}
 use mathlib.Core.List.{List, [], _∷_, _++_}

@@ -1,6 +1,5 @@
 -- What a search of a table tells of the table: the first place at which a test holds is the table's `place`, and where there is none, every
 -- entry fails the test. So the lowest free place also tells whether a table is full.
--- Assumes nothing.
 use mathlib.Core.Path.{_≡_, refl, sym, ap, _∙_}
 use mathlib.Core.Bool.{Bool, true, false, not}
 use mathlib.Core.List.{List, [], _∷_}

@@ -1,5 +1,4 @@
 -- How many bytes each record takes, and all of them: a value is padded to its 64, and every other part has a fixed width.
--- Assumes nothing.
 use mathlib.Core.Path.{_≡_, refl, sym, ap, _∙_}
 use mathlib.Core.List.{List, [], _∷_, _++_}
 use mathlib.Core.Option.{Option, none, some}

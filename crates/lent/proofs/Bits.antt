@@ -1,5 +1,4 @@
 -- The bits of a number with one more bit: a bit of `a | b` is the larger of the two bits, and a power of two has one bit.
--- Assumes nothing.
 use mathlib.Core.Path.{_≡_, refl, _∙_}
 use mathlib.Core.Bool.{false, _||_}
 use Prim.Native.Nat.{ℕ, zero, suc, _*_, _/_, _%_, _^_, _<_, max}

@@ -1,5 +1,4 @@
 -- Choices and tests by the value of a Boolean: each law is its two cases.
--- Assumes nothing.
 use mathlib.Core.Path.{_≡_, refl}
 use mathlib.Core.Logic.{_⊎_, inl, inr}
 use mathlib.Core.Bool.{Bool, true, false, not, _&&_, _||_, and-false}

@@ -1,5 +1,4 @@
 -- Lists with the same elements: `same` is equality, and it goes part by part, so that a record is compared window by window.
--- Assumes nothing.
 use mathlib.Core.Path.{_≡_, refl, sym, ap, _∙_}
 use mathlib.Core.Bool.{Bool, true, false, _&&_, and-true, and-assoc}
 use mathlib.Core.List.{List, [], _∷_, _++_}

@@ -1,6 +1,5 @@
 -- Numbers in bytes: the bytes of a number say it, and bytes are those of the number that they say. Both hold for any number of bytes by
 -- induction, with `digits` and `number`; the widths of `specs/` are two and four digits, and two halves of four.
--- Assumes nothing.
 use mathlib.Core.Path.{_≡_, refl, sym, ap₂, _∙_}
 use mathlib.Core.Bool.{_&&_}
 use mathlib.Core.List.{List, [], _∷_, _++_}

@@ -1,6 +1,5 @@
 -- Stretches of a list: `win` reads one and `splice` writes one. Both are `take`, `drop` and `++`, so each law is one of those of
 -- `lib.Seq` once the places have the same form. Windows stand first, then splices, then what is read after a splice.
--- Assumes nothing.
 use mathlib.Core.Path.{_≡_, refl, sym, ap, _∙_}
 use mathlib.Core.Bool.{Bool, true, false}
 use mathlib.Core.List.{List, [], _∷_, _++_, append-assoc, append-nil}

@@ -1,5 +1,4 @@
 -- Loops and runs of stores that write a stretch: each store writes the next byte behind those that are written.
--- Assumes nothing.
 use mathlib.Core.Path.{_≡_, refl, _∙_}
 use mathlib.Core.List.{List, [], _∷_, _++_}
 use Prim.Native.Nat.{ℕ, suc, _+_, _-_, _≤_, _<_}

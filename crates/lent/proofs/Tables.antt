@@ -1,6 +1,5 @@
 -- Tables of records of w bytes: what is read at a place, put there, or compared in the bytes is that of the list of records. Each law goes
 -- by the first record, behind which the rest of the table lies w bytes further.
--- Assumes nothing.
 use mathlib.Core.Path.{_≡_, refl, sym, ap, _∙_}
 use mathlib.Core.Bool.{Bool, _&&_, and-assoc}
 use mathlib.Core.List.{List, [], _∷_, _++_, append-assoc}

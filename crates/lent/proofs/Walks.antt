@@ -1,6 +1,5 @@
 -- Tests of each index, of some index, the search for the first, and a step for each index: what a loop over the indices needs at a
 -- turn, and what its result says of the indices. All by induction on the number of indices.
--- Assumes nothing.
 use mathlib.Core.Path.{_≡_, refl, sym, ap, _∙_}
 use mathlib.Core.Logic.{⊎-elim}
 use mathlib.Core.Bool.{Bool, true, false, _&&_, _||_, and-true, and-assoc, or-true}

@@ -1,5 +1,4 @@
 -- Bytes that are all 0: their `|` is 0, and they are the list of zeros.
--- Assumes nothing.
 use mathlib.Core.Path.{_≡_, refl, sym, _∙_}
 use mathlib.Core.Bool.{true, _&&_, and-true, and-assoc}
 use mathlib.Core.List.{List, [], _∷_, _++_}

@@ -1,5 +1,4 @@
 -- A line is cut at its spaces. As long as no byte passed is a space, the fields from a place on are those of the bytes left, with the bytes passed before the first of them.
--- Assumes nothing.
 use mathlib.Core.Path.{_≡_, refl, sym, _∙_}
 use mathlib.Core.Bool.{Bool, true, false}
 use mathlib.Core.List.{List, [], _∷_, _++_, append-assoc, append-nil}

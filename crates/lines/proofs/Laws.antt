@@ -1,5 +1,4 @@
 -- What callers cite of a line that is read, whatever it says: its length is that of its value, which are bytes that fit the buffer; a register write is in range; a command's place is one of the document's list. Each way to read a line ends in one of three forms, and each form has all of this.
--- Assumes nothing.
 use mathlib.Core.Path.{_≡_, refl}
 use mathlib.Core.Bool.{Bool, true, false}
 use mathlib.Core.List.{List, [], _∷_}

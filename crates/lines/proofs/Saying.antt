@@ -1,5 +1,4 @@
 -- What a field says where the code has found its end, and what is given once the value that may follow is read. Each law is a case of a definition.
--- Assumes nothing.
 use mathlib.Core.Path.{_≡_, refl, sym, ap, _∙_}
 use mathlib.Core.Bool.{true}
 use mathlib.Core.List.{List, [], _∷_}

@@ -1,6 +1,5 @@
 -- A row in the bytes: no row has the session 0, which tells a free row, so a test of the bytes is a test of the row that they hold, and a
 -- search of the bytes is a search of the table.
--- Assumes nothing.
 use mathlib.Core.Path.{_≡_, refl, _∙_}
 use mathlib.Core.Bool.{Bool, true, false, _&&_}
 use mathlib.Core.List.{List}

@@ -19,7 +19,7 @@ use Rattle.machine.specs.Expiry.{withClock, leave, finish, expire}
 use Rattle.machine.specs.Refusals.{decide, blocked, Sight, sight, badKey, long, countIn, countOf, refusals, refusal, startRefusals}
 use Rattle.machine.specs.Effects.{Outcome, looked, missed, matches, asks, changed, stages, toCache, effect}
 use Rattle.machine.specs.Step.{settled, step, started, start}
-use Rattle.machine.specs.World.{Event, command, write, World, begun, commanded, written, next, run}
+use Rattle.machine.specs.World.{Event, command, write, World, begun, commanded, written, next, run, EventBytes, AllBytes}
 use Rattle.machine.specs.declared.Session.{Session}
 use Rattle.machine.specs.declared.Answer.{Answer}
 use Rattle.machine.specs.declared.Command.{Command}
@@ -178,15 +178,6 @@ start-keeps-sound s readLife writeLife h = go (first (startRefusals readLife wri
     go none p = started-sound s readLife writeLife none p refl
 
 -- Every run
-
--- the values of an event's command are bytes
-abbrev pub EventBytes : Event → Type 0
-EventBytes (command now c v) = Bytes v
-EventBytes (write n k v) = Unit {0}
-
-abbrev pub AllBytes : List Event → Type 0
-AllBytes [] = Unit {0}
-AllBytes (e ∷ l) = EventBytes e × AllBytes l
 
 next-sound : (w : World) (e : Event) → EventBytes e → sound (w .state) ≡ true → sound (next w e .state) ≡ true
 unfolding commanded written

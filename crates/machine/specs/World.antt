@@ -7,6 +7,7 @@ use mathlib.Core.Option.{none, some}
 use Prim.Native.Nat.{ℕ}
 use lib.Dec.{eqb}
 use lib.ListN.{getD}
+use Rattle.lent.specs.Bytes.{Bytes}
 use Rattle.lent.specs.Tables.{if_then_else_}
 use Rattle.machine.specs.Tables.{any}
 use Rattle.machine.specs.Words.{wordOf, detailOf}
@@ -25,6 +26,15 @@ use Rattle.machine.specs.declared.Command.the-variants.{Begin, Get, Fill
 pub data Event : Type 0 where
   command : ℕ → Command → Value → Event
   write : ℕ → ℕ → Value → Event
+
+-- the values that commands carry are lists of bytes
+abbrev pub EventBytes : Event → Type 0
+EventBytes (command now c v) = Bytes v
+EventBytes (write n k v) = Unit {0}
+
+abbrev pub AllBytes : List Event → Type 0
+AllBytes [] = Unit {0}
+AllBytes (e ∷ l) = EventBytes e × AllBytes l
 
 -- the cache and the register, and what the rules and the promise speak of:
 -- what the register held for a key when its unbroken quarantine began; by token and key, what it has held since the

@@ -1,6 +1,5 @@
 -- A note in the book: its length, and the bytes of its value behind it. Where one is copied to a later place, the length that is stored there first
 -- does not touch the bytes that are still to be read.
--- Assumes nothing.
 use Prim.Native.Nat.{ℕ, _+_, _≤_, _<_, min}
 use mathlib.Core.Path.{_≡_, refl, sym, _∙_}
 use mathlib.Core.List.{List, [], _∷_}

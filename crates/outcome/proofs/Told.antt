@@ -1,5 +1,4 @@
 -- An outcome that is told is given by its answer and by bytes that hold its state.
--- Assumes nothing.
 use mathlib.Core.Path.{_≡_, refl}
 use mathlib.Core.List.{List}
 use Prim.Native.Nat.{ℕ}

@@ -6,9 +6,8 @@ use mathlib.Core.List.{List, [], _∷_, _++_}
 use Prim.Native.Nat.{ℕ}
 use Rattle.machine.specs.State.{Value, State}
 use Rattle.machine.specs.Step.{step}
-use Rattle.machine.specs.World.{Event, command, write, World, commanded, written, next, run, AllKept, Consistent}
+use Rattle.machine.specs.World.{Event, command, write, World, commanded, written, next, run, AllKept, Consistent, EventBytes, AllBytes}
 use Rattle.machine.specs.declared.Answer.{Answer}
-use Rattle.machine.proofs.KeepsSound.{EventBytes, AllBytes}
 use Rattle.layout.specs.Layout.{decode}
 use Rattle.layout.specs.WellFormed.{wellFormed}
 use Rattle.startup.specs.Start.{Reply, startOf}

@@ -10,11 +10,10 @@ use borrow.Author.Tests.{ltb-true}
 use lib.ListN.{length, take, drop, take-append-drop}
 use Rattle.machine.specs.Sizes.{stateSize}
 use Rattle.machine.specs.State.{Value, State}
-use Rattle.machine.specs.World.{Event, command, write, World, begun, AllKept, Consistent}
+use Rattle.machine.specs.World.{Event, command, write, World, begun, AllKept, Consistent, AllBytes}
 use Rattle.machine.specs.declared.Answer.{Answer}
 use Rattle.machine.proofs.Views.{and-true₁, and-true₂}
 use Rattle.machine.proofs.WellFormed.{Bytes}
-use Rattle.machine.proofs.KeepsSound.{AllBytes}
 use Rattle.machine.proofs.Witness.{events, witness-kept}
 use Rattle.layout.specs.WellFormed.{wellFormed}
 use Rattle.startup.specs.Start.{Reply, startOf}

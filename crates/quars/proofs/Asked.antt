@@ -1,6 +1,5 @@
 -- What QUAR answers and leaves, case by case in the code's order: its arguments, its session, a row that it has, the decision table, a free row.
 -- Each test of the definition's list is decided where the code decides it; ROOM, the last, only where a row would be taken.
--- Assumes nothing.
 use mathlib.Core.Path.{_≡_, refl}
 use mathlib.Core.Bool.{Bool, true, false, not, _&&_, or-true}
 use mathlib.Core.List.{[], _∷_}

@@ -1,6 +1,5 @@
 -- What a session holds on a key, told by what the search of the rows found: a row of its own has its kind, and where there is none it holds
 -- nothing.
--- Assumes nothing.
 use mathlib.Core.Path.{_≡_}
 use mathlib.Core.Bool.{false}
 use Prim.Native.Nat.{ℕ, _≤_}

@@ -1,6 +1,5 @@
 -- A sound state after expiry, part by part. Numbers differ, so the session of a number is the one it was, or nobody if that one is due;
 -- a row goes exactly if its session is due; and a session that stays has the rows that it had.
--- Assumes nothing.
 use mathlib.Core.Path.{_≡_, refl, sym, ap, _∙_}
 use mathlib.Core.Bool.{Bool, true, false, _&&_}
 use mathlib.Core.Logic.{_⊎_, inl, inr}

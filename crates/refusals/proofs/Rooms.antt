@@ -1,6 +1,5 @@
 -- A table is full after expiry exactly if it is full and nothing of it goes. Where the rows are, they are as they were, and what QUAR would be
 -- granted is as it was: of the rest only an I lease may have lapsed, and a quarantine is granted over one as over nothing.
--- Assumes nothing.
 use mathlib.Core.Path.{_≡_, refl, sym, ap, _∙_}
 use mathlib.Core.Bool.{Bool, true, false, not, _&&_, _||_}
 use mathlib.Core.List.{List, [], _∷_, map}

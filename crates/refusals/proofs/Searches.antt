@@ -1,6 +1,5 @@
 -- Whether a table has an entry that passes a test: told by the search for its place, by the count of the others, and, where every entry was
 -- put through f, by the entries as they were. By induction on the table.
--- Assumes nothing.
 use mathlib.Core.Path.{_≡_, refl, sym, ap, ap₂, _∙_}
 use mathlib.Core.Bool.{Bool, true, false, not, _&&_, _||_}
 use mathlib.Core.List.{List, [], _∷_, map}

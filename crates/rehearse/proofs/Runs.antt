@@ -1,5 +1,4 @@
 -- Chunks one behind the other are one input, and at its end the world and what was written are those of its rehearsal.
--- Assumes nothing.
 use mathlib.Core.Path.{_≡_, refl, sym, ap, _∙_}
 use mathlib.Core.Bool.{Bool, true, false}
 use mathlib.Core.List.{List, [], _∷_, _++_}

@@ -19,7 +19,7 @@ use Rattle.machine.specs.Sound.{sound}
 use Rattle.machine.specs.Refusals.{notLive}
 use Rattle.machine.specs.Expiry.{expire}
 use Rattle.machine.specs.Step.{step}
-use Rattle.machine.specs.World.{Event, command, write, World, begun, commanded, written, next, run}
+use Rattle.machine.specs.World.{Event, command, write, World, begun, commanded, written, next, run, EventBytes, AllBytes}
 use Rattle.machine.specs.Test.{differs}
 use Rattle.machine.specs.declared.Answer.{Answer}
 use Rattle.machine.specs.declared.Command.{Command}
@@ -29,7 +29,6 @@ use Rattle.machine.proofs.Orderly.{orderly-fresh}
 use Rattle.machine.proofs.Accepted.{session-of}
 use Rattle.machine.proofs.SoundMeans.{sound-means}
 use Rattle.machine.proofs.SoundFacts.{session-place}
-use Rattle.machine.proofs.KeepsSound.{EventBytes, AllBytes}
 use Rattle.machine.proofs.Demand3.{demand-3}
 use Rattle.layout.specs.Layout.{decode}
 use Rattle.layout.specs.WellFormed.{wellFormed}

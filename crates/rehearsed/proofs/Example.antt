@@ -1,7 +1,6 @@
 -- The theorem over text is not empty. What the twelve lines of 01's worked example tell is computed from their bytes, and what the machine beside the register makes of it
 -- by the definitions: every rule is kept. So from any buffer of 65,536 bytes their column is all 0, demand 3 holds after each of them, and the last is told HIT with
 -- the register's value.
--- Assumes nothing.
 use mathlib.Core.Path.{_≡_, refl, sym, ap, subst, _∙_}
 use mathlib.Core.Bool.{true}
 use mathlib.Core.List.{List, [], _∷_, _++_}

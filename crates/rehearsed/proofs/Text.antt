@@ -18,12 +18,11 @@ use Rattle.machine.specs.Sizes.{stateSize, sessionCount}
 use Rattle.machine.specs.Words.{wordOf}
 use Rattle.machine.specs.State.{Value, sessionPlace}
 use Rattle.machine.specs.Sound.{lifetime}
-use Rattle.machine.specs.World.{Event, command, write, World, begun, next, run}
+use Rattle.machine.specs.World.{Event, command, write, World, begun, next, run, EventBytes}
 use Rattle.machine.specs.declared.Answer.{Answer}
 use Rattle.machine.specs.declared.Command.{Command}
 use Rattle.machine.specs.declared.Command.the-variants.{Begin, Get, Fill, Quar, Stage, Delta, Validate, Done, Undo, Evict, Tick}
 use Rattle.machine.proofs.Orderly.{orderly-fresh}
-use Rattle.machine.proofs.KeepsSound.{EventBytes}
 use Rattle.machine.proofs.Demand3.{demand-3-whole}
 use Rattle.layout.specs.Layout.{decode}
 use Rattle.layout.specs.WellFormed.{wellFormed}

@@ -18,16 +18,16 @@ use Rattle.machine.specs.Expiry.{leave, finish, expire}
 use Rattle.machine.specs.Refusals.{decide, blocked, sight, wouldLease, wouldGrant, refusals, refusal}
 use Rattle.machine.specs.Effects.{begins, wait, leased, missed, looked, fills, asks, operate, changed, stages, effect}
 use Rattle.machine.specs.Step.{settled, step}
-use Rattle.machine.specs.World.{Event, command, write, begun, commanded, written, run}
+use Rattle.machine.specs.World.{Event, command, write, begun, commanded, written, run, AllBytes}
 use Rattle.machine.specs.Test.{verdicts}
 use Rattle.machine.specs.declared.Answer.{Answer}
 use Rattle.machine.specs.declared.Command.the-variants.{Begin, Get, Fill, Quar, Stage, Validate, Done, Undo}
 use Rattle.machine.proofs.Views.{and-true₁, and-true₂}
-use Rattle.machine.proofs.KeepsSound.{AllBytes}
 use Rattle.machine.proofs.Witness.{events}
 use Rattle.startup.specs.Start.{Reply, startOf}
 use Rattle.startup.proofs.Started.{started-ready}
 use Rattle.book.specs.Book.{bookSize}
+use Rattle.promises.proofs.Witness.{byteTest, byte-test}
 use Rattle.rehearsed.specs.TwoValues.{verdictsTwo}
 use Rattle.rehearsed.specs.Column.{Pair, through, column, startedPair, AllReadable, Promised}
 use Rattle.rehearsed.proofs.Column.{new-zeros, column-verdicts, zeros-promised}
@@ -41,15 +41,6 @@ ready : startOf (zeros stateSize) 1000 5000 .answer ≡ Answer.Ready
 ready = ap (λ (r : Reply). r .answer) (started-ready (zeros stateSize) 1000 5000 (length-replicate {A = ℕ} stateSize 0) refl refl)
 
 -- that a run can be read is tested
-
-abbrev byteTest : Value → Bool
-byteTest [] = true
-byteTest (x ∷ v) = ltb x 256 && byteTest v
-
-byte-test : (v : Value) → byteTest v ≡ true → Bytes v
-byte-test [] e i = omega arith
-byte-test (x ∷ v) e zero = ltb-true x 256 (and-true₁ (ltb x 256) (byteTest v) e)
-byte-test (x ∷ v) e (suc i) = byte-test v (and-true₂ (ltb x 256) (byteTest v) e) i
 
 abbrev readTest : List Event → Bool
 readTest [] = true

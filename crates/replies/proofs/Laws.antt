@@ -1,5 +1,4 @@
 -- What callers cite of the lines: each fits in its room, a printed number reads back, and the definitions print the output of 01's worked example.
--- Assumes nothing.
 use mathlib.Core.Path.{_≡_, refl}
 use mathlib.Core.List.{List, [], _++_}
 use Prim.Native.Nat.{ℕ, _≤_}

@@ -1,5 +1,4 @@
 -- A line is written field by field: what is put at the place behind what was put is one longer stretch, and the tail of a buffer that is lent and comes back with bytes at its front is the buffer with them at the tail's place.
--- Assumes nothing.
 use mathlib.Core.Path.{_≡_, refl, ap, _∙_}
 use mathlib.Core.Logic.{_⊎_, inl, inr, ⊎-elim}
 use mathlib.Core.Bool.{true, false}

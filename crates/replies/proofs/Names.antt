@@ -1,5 +1,4 @@
 -- The tables of words and of their lengths are compared with the definition entry by entry, by a test that is computed over the whole table.
--- Assumes nothing.
 use mathlib.Core.Path.{_≡_, refl, sym}
 use mathlib.Core.Bool.{Bool, true, false, _&&_}
 use mathlib.Core.List.{List, [], _++_, map}

@@ -1,5 +1,4 @@
 -- Rule 4 on the rows: what a row's fields say of its staged value, and a walk over all rows.
--- Assumes nothing.
 use Prim.Native.Nat.{ℕ, suc, _≤_, _<_}
 use mathlib.Core.Path.{_≡_, refl, ap, _∙_}
 use mathlib.Core.Bool.{Bool, false, not}

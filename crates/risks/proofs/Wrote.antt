@@ -1,5 +1,4 @@
 -- Rule 3: the session that a search found is the one that the definition looks up, and its mark is the one at its place.
--- Assumes nothing.
 use Prim.Native.Nat.{ℕ}
 use mathlib.Core.Path.{_≡_}
 use mathlib.Core.Bool.{false, _&&_}

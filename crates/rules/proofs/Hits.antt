@@ -1,6 +1,5 @@
 -- What a HIT hands out stands within the cache's bytes and has at most 64: it is the value of a key or one staged in a row of a sound state, and no
 -- other command is answered HIT. START never is.
--- Assumes nothing.
 use Prim.Native.Nat.{ℕ, _+_, _≤_, _<_}
 use mathlib.Core.Path.{_≡_, refl}
 use mathlib.Core.Bool.{Bool, true, false}

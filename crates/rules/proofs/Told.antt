@@ -1,5 +1,4 @@
 -- What the acts hand back is what is said of the line: a rule by the word at which it counts, a grant by its key, and an answer by its numbers.
--- Assumes nothing.
 use Prim.Native.Nat.{ℕ}
 use mathlib.Core.Path.{_≡_, refl, sym, _∙_}
 use mathlib.Core.Bool.{Bool, true, false, not, _&&_, _||_}

@@ -1,5 +1,4 @@
 -- What the library leaves in the part of the output buffer that is lent for a text. The part keeps its length, so the text fits it.
--- Assumes nothing.
 use mathlib.Core.Path.{_≡_, refl, sym, ap, _∙_}
 use mathlib.Core.Bool.{Bool, true, false, _&&_}
 use mathlib.Core.List.{List, [], _∷_, _++_}

@@ -1,5 +1,4 @@
 -- A text printed into a part of the output buffer is printed into the buffer, and one that follows another makes one text with it.
--- Assumes nothing.
 use mathlib.Core.Path.{_≡_, refl, sym, ap, _∙_}
 use mathlib.Core.List.{List, [], _∷_, _++_}
 use Prim.Native.Nat.{ℕ, _+_, _-_, _≤_}

@@ -1,5 +1,4 @@
 -- A byte's step by what the byte is, held or the end of a line that is answered; and the end of the input by whether bytes are held.
--- Assumes nothing.
 use mathlib.Core.Path.{_≡_, refl, sym, ap, _∙_}
 use mathlib.Core.List.{List, [], _∷_, _++_}
 use Prim.Native.Nat.{ℕ, _+_, _≤_}

@@ -1,5 +1,4 @@
 -- A stretch of the chunk, byte by byte: the bytes taken so far are answered as the definition answers them, and a byte more is its step.
--- Assumes nothing.
 use mathlib.Core.Path.{_≡_, refl, sym, ap, _∙_}
 use mathlib.Core.Logic.{_⊎_, inl, inr, ⊎-elim}
 use mathlib.Core.List.{List, [], _∷_, _++_}

@@ -1,5 +1,4 @@
 -- However an input is cut into chunks, the texts of the chunks and of the end are, one behind the other, those of its rehearsal.
--- Assumes nothing.
 use mathlib.Core.Path.{_≡_, refl, sym, ap, _∙_}
 use mathlib.Core.List.{List, [], _∷_, _++_, append-assoc}
 use Prim.Native.Nat.{ℕ}

@@ -1,6 +1,5 @@
 -- A place of the session table in the bytes: its fields where they stand, and its number, which tells a free place and a session apart since no
 -- session has the number 0. So a search of the bytes by a number is a search of the table.
--- Assumes nothing.
 use mathlib.Core.Path.{_≡_, refl, sym, ap, _∙_}
 use mathlib.Core.Bool.{Bool, true, false}
 use mathlib.Core.List.{List, [], _∷_, _++_}

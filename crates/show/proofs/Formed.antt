@@ -1,5 +1,4 @@
 -- SHOW by the check of the state: bytes that are not well formed are refused, and well-formed ones hold the state that they decode to.
--- Assumes nothing.
 use mathlib.Core.Path.{_≡_}
 use mathlib.Core.Bool.{true, false}
 use mathlib.Core.List.{List, []}

@@ -1,5 +1,4 @@
 -- A session other than 0 is live where a place has its number, and nobody has the number 0.
--- Assumes nothing.
 use mathlib.Core.Path.{_≡_, refl, sym}
 use mathlib.Core.Bool.{true, false, not, _&&_}
 use Prim.Native.Nat.{ℕ}

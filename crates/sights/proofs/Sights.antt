@@ -1,6 +1,5 @@
 -- What is seen on a key, by the marks in the bytes: a row's mark and kind decide between its staged value, nothing and the cached value, and
 -- a lookup decides between a row of one's own and none.
--- Assumes nothing.
 use mathlib.Core.Path.{_≡_, refl, sym, ap}
 use mathlib.Core.Bool.{true, false}
 use mathlib.Core.Option.{Option, none, some}

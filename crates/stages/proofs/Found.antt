@@ -1,6 +1,5 @@
 -- What a session finds that stages, case by case in the order of the refusals: the asker, its row on the key, the row's kind, the step.
 -- Each test of the definition's list is decided by what the searches found.
--- Assumes nothing.
 use mathlib.Core.Path.{_≡_, refl}
 use mathlib.Core.Bool.{Bool, true, false, not}
 use mathlib.Core.List.{List, [], _∷_}

@@ -1,6 +1,5 @@
 -- What a command that stages answers and leaves, told by what its session found: a refusal and REPEATED keep the state; otherwise the
 -- session's next record and what is staged are set at the places that were found. And what is known there of the session and its row.
--- Assumes nothing.
 use mathlib.Core.Path.{_≡_, refl, ap}
 use mathlib.Core.Bool.{Bool, true, false}
 use mathlib.Core.List.{List}

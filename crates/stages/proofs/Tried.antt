@@ -1,5 +1,4 @@
 -- What STAGE answers and leaves, case by case: its own tests in their order, and then what its session found.
--- Assumes nothing.
 use mathlib.Core.Path.{_≡_}
 use mathlib.Core.Bool.{or-true}
 use Prim.Native.Nat.{ℕ, _≤_, _<_}

@@ -1,5 +1,4 @@
 -- What is written to a row piece by piece is written whole: the pieces lie side by side.
--- Assumes nothing.
 use mathlib.Core.Path.{_≡_, refl}
 use mathlib.Core.Bool.{false}
 use mathlib.Core.List.{List, [], _∷_, _++_}

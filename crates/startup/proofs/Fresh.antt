@@ -1,5 +1,4 @@
 -- The bytes of the fresh state: its tables are all free, so all is zero behind the header, and in the header four numbers are written.
--- Assumes nothing.
 use mathlib.Core.Path.{_≡_, refl, sym, ap, _∙_}
 use mathlib.Core.Bool.{Bool, true, _&&_}
 use mathlib.Core.List.{List, _++_}

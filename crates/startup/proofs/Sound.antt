@@ -12,10 +12,10 @@ use Rattle.machine.specs.Sizes.{stateSize}
 use Rattle.machine.specs.Words.{wordOf}
 use Rattle.machine.specs.State.{State, fresh}
 use Rattle.machine.specs.Sound.{lifetime, sound}
-use Rattle.machine.specs.World.{Event, World, begun, run, AllKept, Consistent}
+use Rattle.machine.specs.World.{Event, World, begun, run, AllKept, Consistent, AllBytes}
 use Rattle.machine.specs.declared.Answer.{Answer}
 use Rattle.machine.proofs.Views.{caseOf, clash}
-use Rattle.machine.proofs.KeepsSound.{AllBytes, fresh-sound, reached-sound}
+use Rattle.machine.proofs.KeepsSound.{fresh-sound, reached-sound}
 use Rattle.machine.proofs.Demand3.{demand-3}
 use Rattle.layout.specs.Layout.{encode, decode}
 use Rattle.layout.specs.WellFormed.{wellFormed}

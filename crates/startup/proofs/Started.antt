@@ -1,5 +1,4 @@
 -- What START answers, and the bytes after it, case by case: each test of the definition's list decided, in its order.
--- Assumes nothing.
 use mathlib.Core.Path.{_≡_, refl}
 use mathlib.Core.Bool.{Bool, true, false, not, _||_, or-true}
 use mathlib.Core.List.{List}

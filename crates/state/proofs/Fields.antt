@@ -1,6 +1,5 @@
 -- The records of the state that bytes decode to, by place, and those of their fields that the conditions across records read: they are what
 -- stands in the bytes, whatever the bytes are, since a number that is read as 0 is 0.
--- Assumes nothing.
 use Prim.Native.Nat.{ℕ, _+_, _*_, _≤_, _<_}
 use mathlib.Core.Path.{_≡_, refl, sym, ap, _∙_}
 use mathlib.Core.Bool.{Bool, true, false}

@@ -1,6 +1,5 @@
 -- What joins records, on the bytes: the numbers and tokens that the conditions compare are those of the bytes, and the four conditions on rows
 -- are one test of each row beside the sessions, its key and the rows before it.
--- Assumes nothing.
 use Prim.Native.Nat.{ℕ, _+_, _*_, _<_}
 use mathlib.Core.Path.{_≡_, refl, sym, ap, _∙_}
 use mathlib.Core.Bool.{Bool, true, false, not, _&&_, and-true, and-false}

@@ -1,5 +1,4 @@
 -- The masks of the bytes behind a value: after each turn of the loop that fills them, the first half is 0 still and what was passed of the second is ones.
--- Assumes nothing.
 use Prim.Native.Nat.{ℕ, _+_, _≤_, _<_}
 use mathlib.Core.Path.{_≡_, _∙_}
 use mathlib.Core.Logic.{⊎-elim}

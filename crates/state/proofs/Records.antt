@@ -1,6 +1,5 @@
 -- A record is formed exactly where its bytes are the encoding of what they decode to and that is sound. Each law goes field by field: the bytes
 -- of a number are those of the number that they say, so that only marks, lengths and zeros are left to be the same.
--- Assumes nothing.
 use Prim.Native.Nat.{ℕ, _+_, _-_, _*_, _≤_, _<_, min}
 use mathlib.Core.Path.{_≡_, refl, sym, ap, ap₂, _∙_}
 use mathlib.Core.Bool.{Bool, true, false, _&&_, and-true, and-false, and-assoc, and-comm}

@@ -1,5 +1,4 @@
 -- What a call says of its definition's test, by the branch on its result: of the test itself, or of a test of one record of a table.
--- Assumes nothing.
 use Prim.Native.Nat.{ℕ, _+_, _-_}
 use mathlib.Core.Path.{_≡_, refl, sym, ap, _∙_}
 use mathlib.Core.Bool.{Bool, true, false, not, _&&_}

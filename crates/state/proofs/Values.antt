@@ -1,6 +1,5 @@
 -- A key's value told by its first word, whose least byte is the mark and whose rest is the length: with the mark 0 the length has to be 0, with the
 -- mark 1 at most 64; in both cases the bytes from the length on are 0.
--- Assumes nothing.
 use Prim.Native.Nat.{ℕ, _+_, _*_, _-_, _/_, _%_, _≤_, _<_}
 use mathlib.Core.Path.{_≡_}
 use mathlib.Core.Bool.{false}

@@ -1,5 +1,4 @@
 -- Stretches that are all 0: the bytes behind a value, which a mask keeps while it hides those of the value; and two side by side.
--- Assumes nothing.
 use Prim.Native.Nat.{ℕ, suc, _+_, _-_, _%_, _≤_, _<_}
 use mathlib.Core.Path.{_≡_, refl, sym, ap, _∙_}
 use mathlib.Core.Bool.{Bool, true, false, _&&_}

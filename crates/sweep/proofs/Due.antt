@@ -1,6 +1,5 @@
 -- Sessions have different numbers, so to end those of some numbers is to free the places of those sessions: who is among the numbers of
 -- the sessions that pass a test passes it itself.
--- Assumes nothing.
 use mathlib.Core.Path.{_≡_, refl, sym, ap, _∙_}
 use mathlib.Core.Bool.{Bool, true, false}
 use mathlib.Core.Logic.{_⊎_, inl, inr}

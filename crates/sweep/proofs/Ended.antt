@@ -1,6 +1,5 @@
 -- The loops over the keys and over the sessions: each is a pass over one table, and a session that the loop has not come to stands as before,
 -- so the numbers noted are those of the sessions that were due.
--- Assumes nothing.
 use mathlib.Core.Path.{_≡_, refl, sym, ap, _∙_}
 use mathlib.Core.Bool.{Bool, true, false}
 use mathlib.Core.List.{List, [], _∷_, _++_, map}

@@ -1,5 +1,4 @@
 -- Where nothing lapses, expiry changes nothing: no lease goes, no session is due, and the rows of no sessions end.
--- Assumes nothing.
 use mathlib.Core.Path.{_≡_, refl, ap, ap₂}
 use mathlib.Core.Bool.{Bool, false}
 use mathlib.Core.Option.{Option, none, some}

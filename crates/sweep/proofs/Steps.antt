@@ -1,5 +1,4 @@
 -- One step of each loop: what it does where the lease or the session goes, and that it does nothing where it stays.
--- Assumes nothing.
 use mathlib.Core.Path.{_≡_, refl}
 use mathlib.Core.Bool.{true, false}
 use mathlib.Core.List.{[], _∷_}

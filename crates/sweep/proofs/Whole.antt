@@ -1,6 +1,5 @@
 -- The passes of the sweep in a row are expiry: the sessions that are due are those whose numbers are noted, since the numbers of a sound state
 -- differ, and the rows of those end with their keys.
--- Assumes nothing.
 use mathlib.Core.Path.{_≡_, sym, _∙_}
 use mathlib.Core.Bool.{true}
 use mathlib.Core.List.{[], map}

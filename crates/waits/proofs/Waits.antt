@@ -1,6 +1,5 @@
 -- For how long a key is blocked, read from its lease and its rows. A row that is not on the key adds a deadline of 0, which changes no
 -- latest deadline, so each row adds something, and a walk from the last row to the first makes the latest one.
--- Assumes nothing.
 use mathlib.Core.Path.{_≡_, refl, sym, _∙_}
 use mathlib.Core.Bool.{Bool, true, false}
 use mathlib.Core.List.{List, _∷_}

@@ -1,6 +1,5 @@
 -- Rule 2: the session that a search found is the one that the definitions look up; its life and its row on the key decide, and its
 -- place is where it is marked. What is said of the line is that, and the register's note.
--- Assumes nothing.
 use Prim.Native.Nat.{ℕ, _<_}
 use mathlib.Core.Path.{_≡_, refl, sym, ap, _∙_}
 use mathlib.Core.Bool.{true, false}

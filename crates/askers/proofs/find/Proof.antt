@@ -1,5 +1,4 @@
 -- What the search for the number finds decides: no session, a sealed one, or an open one at its place.
--- Assumes nothing.
 use mathlib.Core.Path.{sym, _∙_}
 use Rattle.askers.proofs.Asked.{asker-none, asker-at}
 use borrow.Author.Needs.{needs}

@@ -1,5 +1,4 @@
 -- `clear` writes zeros: after i turns the first i bytes of the stretch are 0 and nothing else has changed.
--- Assumes nothing.
 use Prim.Native.Nat.{_-_, _≤_}
 use mathlib.Core.Path.{_≡_, refl, sym}
 use native.Mathlib.Omega.{arith}

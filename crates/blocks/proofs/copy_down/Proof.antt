@@ -1,5 +1,4 @@
 -- `copy_down` writes the window at its place: after i turns its first i bytes are written, and those still to be read are as they were.
--- Assumes nothing.
 use Prim.Native.Nat.{_-_, _≤_}
 use mathlib.Core.Path.{_≡_, refl, sym}
 use native.Mathlib.Omega.{arith}

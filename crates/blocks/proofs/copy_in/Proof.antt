@@ -1,5 +1,4 @@
 -- `copy_in` writes v at its place: after i turns its first i bytes are written.
--- Assumes nothing.
 use Prim.Native.Nat.{_-_, _≤_}
 use mathlib.Core.Path.{_≡_, refl, sym, ap, _∙_}
 use native.Mathlib.Nat.{zero-add}

@@ -1,5 +1,4 @@
 -- `copy_up` writes the window at its place: its bytes from i on are written, and those still to be read, before them, are as they were.
--- Assumes nothing.
 use Prim.Native.Nat.{_+_, _-_, _≤_}
 use mathlib.Core.Path.{_≡_, refl, _∙_}
 use native.Mathlib.Nat.{add-zero, sub-zero}

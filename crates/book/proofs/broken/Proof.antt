@@ -1,5 +1,4 @@
 -- The count is eight bytes at its place.
--- Assumes nothing.
 use Rattle.book.specs.Book.{brokenIn}
 use borrow.Author.Needs.{needs}
 use Rattle.book.proofs.broken.Statement.{statement}

@@ -1,5 +1,4 @@
 -- The first count goes up by one, and the second, read after it, where a rule is broken.
--- Assumes nothing.
 use Rattle.book.proofs.Counts.{counted-kept, counted-broken}
 use borrow.Author.Needs.{needs}
 use Rattle.book.proofs.count.Statement.{statement}

@@ -1,5 +1,4 @@
 -- The count is eight bytes at its place.
--- Assumes nothing.
 use Rattle.book.specs.Book.{linesIn}
 use borrow.Author.Needs.{needs}
 use Rattle.book.proofs.lines.Statement.{statement}

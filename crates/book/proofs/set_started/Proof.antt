@@ -1,5 +1,4 @@
 -- The flag is the book's first byte.
--- Assumes nothing.
 use Rattle.book.specs.Book.{withStarted}
 use borrow.Author.Needs.{needs}
 use Rattle.book.proofs.set_started.Statement.{statement}

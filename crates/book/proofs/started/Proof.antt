@@ -1,5 +1,4 @@
 -- The flag is the book's first byte.
--- Assumes nothing.
 use Rattle.book.specs.Book.{started}
 use mathlib.Core.Path.{refl}
 use borrow.Author.Needs.{needs}

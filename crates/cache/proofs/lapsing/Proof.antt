@@ -1,5 +1,4 @@
 -- A refusal after expiry is the step's, with the state as it came; without one the sweep makes the state the expired one, on which the command acts.
--- Assumes nothing.
 use mathlib.Core.Path.{sym, _∙_}
 use Rattle.machine.specs.Expiry.{expire}
 use Rattle.machine.proofs.KeepsSound.{expire-sound}

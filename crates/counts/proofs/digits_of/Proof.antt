@@ -1,5 +1,4 @@
 -- `digits_of` meets its contract: each turn counts a digit and leaves what stands before it (`count-turn` of `Writing`). What is left falls.
--- Assumes nothing.
 use borrow.Author.Needs.{needs}
 use native.Mathlib.Omega.{arith}
 use Rattle.counts.proofs.Writing.{Counted, count-start, count-turn, count-end}

@@ -1,5 +1,4 @@
 -- `extend` meets its contract: each refusal is a test of `extended` that fails, in its order. `(countMax - d) / 10 < a` says that `a * 10 + d` passes the largest count, with no sum that could wrap.
--- Assumes nothing.
 use mathlib.Core.Path.{sym}
 use Rattle.counts.proofs.Reading.{extended-low, extended-high, extended-past, extended-is}
 use native.Mathlib.Omega.{arith}

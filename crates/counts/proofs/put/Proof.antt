@@ -1,5 +1,4 @@
 -- `put` meets its contract: what `out` is to be is always `out` with the digits that are left at its front (`put-turn` of `Writing`).
--- Assumes nothing.
 use borrow.Author.Needs.{needs}
 use Prim.Native.Nat.{_≤_}
 use mathlib.Core.Path.{_≡_, refl}

@@ -1,5 +1,4 @@
 -- `read` meets its contract: a length outside 1 to 20 is no count, and each turn of the loop leaves to be read what stands behind the digits passed (`read-turn` of `Reading`).
--- Assumes nothing.
 use lib.ListN.{length, drop}
 use borrow.Author.Needs.{needs}
 use Prim.Native.Nat.{_-_, _≤_}

@@ -1,5 +1,4 @@
 -- `write` meets its contract: where the digits do not fit, nothing is touched; where they do, `put` says what `out` holds.
--- Assumes nothing.
 use mathlib.Core.Path.{refl}
 use native.Mathlib.Omega.{arith}
 use Rattle.counts.proofs.Writing.{written-fits, written-short}

@@ -1,5 +1,4 @@
 -- A token of 0 is no lease (`lapsed-not`); any other has a deadline (`lapsed-by`).
--- Assumes nothing.
 use mathlib.Core.Path.{sym, _∙_}
 use native.Mathlib.Omega.{arith}
 use borrow.Author.Needs.{needs}

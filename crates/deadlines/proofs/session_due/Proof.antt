@@ -1,5 +1,4 @@
 -- A place with the number 0 is free (`due-not`); any other session says itself whether it is due (`due-by`).
--- Assumes nothing.
 use mathlib.Core.Path.{_≡_, sym, ap, _∙_}
 use native.Mathlib.Omega.{arith}
 use borrow.Author.Needs.{needs}

@@ -1,5 +1,4 @@
 -- The number of the operation picks the sum or the difference.
--- Assumes nothing.
 use borrow.Author.Tests.{eq-eqb, ne-eqb}
 use borrow.Author.Needs.{needs}
 use Rattle.deltas.proofs.calculate.Statement.{statement}

@@ -1,5 +1,4 @@
 -- What `work` made is what is to be staged, and the row is written with it.
--- Assumes nothing.
 use native.Mathlib.Omega.{arith}
 use lib.ListN.{length-take}
 use borrow.Author.Needs.{needs}

@@ -1,5 +1,4 @@
 -- What was read decides: where one of the two is no count there is no result, else the count that is written.
--- Assumes nothing.
 use native.Mathlib.Omega.{arith}
 use mathlib.Core.Path.{sym, _∙_}
 use borrow.Author.Needs.{needs}

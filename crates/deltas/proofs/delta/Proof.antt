@@ -1,5 +1,4 @@
 -- DELTA's own tests, then what its session found; where that is its places, the record is stored and the row changed.
--- Assumes nothing.
 use mathlib.Core.Path.{sym, _∙_}
 use borrow.Author.Tests.{not-true, not-false}
 use borrow.Author.Needs.{needs}

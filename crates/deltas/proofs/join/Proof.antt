@@ -1,5 +1,4 @@
 -- The two copies are the values one behind the other; where they would pass 64 bytes there is no result.
--- Assumes nothing.
 use native.Mathlib.Omega.{arith}
 use borrow.Author.Needs.{needs}
 use Rattle.deltas.proofs.Making.{makes-drop, joined-long, joined}

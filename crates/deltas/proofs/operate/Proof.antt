@@ -1,5 +1,4 @@
 -- Each arm is one case of the definition, by the operation's number.
--- Assumes nothing.
 use borrow.Author.Needs.{needs}
 use Rattle.deltas.proofs.Making.{operate-append, operate-prepend, operate-count}
 use Rattle.deltas.proofs.operate.Statement.{statement}

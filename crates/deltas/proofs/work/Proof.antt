@@ -1,5 +1,4 @@
 -- The row's mark and the key's decide which value is worked on, and that value stands where its record says.
--- Assumes nothing.
 use mathlib.Core.Path.{sym, _∙_}
 use borrow.Author.Tests.{not-true, not-false}
 use borrow.Author.Needs.{needs}

@@ -1,5 +1,4 @@
 -- Without the mark of a value nothing is cached (`staged-not`); with it, mark, length and bytes are those of a cached value (`staged-copied`).
--- Assumes nothing.
 use mathlib.Core.Path.{sym, _∙_}
 use native.Mathlib.Omega.{arith}
 use borrow.Author.Needs.{needs}

@@ -1,5 +1,4 @@
 -- Where there is no lease its twelve bytes are zero (`lease-put`).
--- Assumes nothing.
 use mathlib.Core.Option.{none}
 use native.Mathlib.Omega.{arith}
 use borrow.Author.Needs.{needs}

@@ -1,5 +1,4 @@
 -- Where there is no value the mark, the length and the 64 bytes are zero (`value-put`).
--- Assumes nothing.
 use mathlib.Core.Option.{none}
 use native.Mathlib.Omega.{arith}
 use borrow.Author.Needs.{needs}

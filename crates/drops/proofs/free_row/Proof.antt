@@ -1,5 +1,4 @@
 -- A free row is all zero, so clearing the row writes one.
--- Assumes nothing.
 use native.Mathlib.Omega.{arith}
 use borrow.Author.Needs.{needs}
 use Rattle.machine.specs.State.{noRow}

@@ -1,5 +1,4 @@
 -- `among` is `mem`: as long as no number passed is n, none before place j is.
--- Assumes nothing.
 use Prim.Native.Nat.{_≤_, _-_}
 use mathlib.Core.Bool.{false}
 use mathlib.Core.Path.{_≡_, sym}

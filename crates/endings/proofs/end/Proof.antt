@@ -1,5 +1,4 @@
 -- The rows of the session end, which changes no session, and then its place is freed.
--- Assumes nothing.
 use borrow.Author.Needs.{needs}
 use Rattle.endings.specs.Ends.{endRows}
 use Rattle.endings.proofs.end.Statement.{statement}

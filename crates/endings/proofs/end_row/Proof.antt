@@ -1,5 +1,4 @@
 -- A free row and one of another session stay (`row-free`, `row-stays`); else the key is settled and the row freed (`row-ends`).
--- Assumes nothing.
 use mathlib.Core.Path.{_≡_, sym, _∙_}
 use mathlib.Core.Bool.{true}
 use native.Mathlib.Omega.{arith}

@@ -1,5 +1,4 @@
 -- After i turns the bytes hold the state after i steps of `endRow`; all of them are `endRows` (`rows-ended`).
--- Assumes nothing.
 use Prim.Native.Nat.{_≤_, _-_}
 use mathlib.Core.Path.{_≡_}
 use native.Mathlib.Omega.{arith}

@@ -1,5 +1,4 @@
 -- The rows of the session end, what they staged is cached, and its place is freed: that is `finish` (`finish-whole`).
--- Assumes nothing.
 use borrow.Author.Needs.{needs}
 use Rattle.endings.proofs.Whole.{finish-whole}
 use Rattle.endings.proofs.finish.Statement.{statement}

@@ -1,5 +1,4 @@
 -- The rows of the session end, the values stay, and its place is freed: that is `leave` (`leave-whole`).
--- Assumes nothing.
 use borrow.Author.Needs.{needs}
 use Rattle.endings.proofs.Whole.{leave-whole}
 use Rattle.endings.proofs.leave.Statement.{statement}

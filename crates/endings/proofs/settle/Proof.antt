@@ -1,5 +1,4 @@
 -- Each ending is one change of the key's value, by what the called function ensures; where the value stays nothing is called.
--- Assumes nothing.
 use borrow.Author.Needs.{needs}
 use Rattle.endings.proofs.settle.Statement.{statement}
 use Rattle.endings.proofs.settle.Tie as tie

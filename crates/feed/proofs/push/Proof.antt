@@ -1,5 +1,4 @@
 -- `push` meets its contract: each return is the definition's case by the tests that led there.
--- Assumes nothing.
 use mathlib.Core.Path.{refl}
 use mathlib.Core.Bool.{or-true}
 use borrow.Author.Needs.{needs}

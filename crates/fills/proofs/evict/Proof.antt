@@ -1,5 +1,4 @@
 -- The refusal, then whether a value is there; where one is, dropping it leaves the record with its lease.
--- Assumes nothing.
 use native.Mathlib.Omega.{arith}
 use mathlib.Core.Path.{sym, _∙_}
 use borrow.Author.Tests.{not-true, not-false}

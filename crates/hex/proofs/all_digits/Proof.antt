@@ -1,5 +1,4 @@
 -- `all_digits` meets its contract: what is left decides as long as no byte passed is other than a digit (`digits-on` of `Reading`).
--- Assumes nothing.
 use Prim.Native.Nat.{_-_, _≤_}
 use mathlib.Core.Path.{_≡_, refl, sym, _∙_}
 use lib.ListN.{drop}

@@ -1,5 +1,4 @@
 -- `digit` meets its contract: each range of bytes is a law of `Reading`.
--- Assumes nothing.
 use mathlib.Core.Path.{sym}
 use Rattle.hex.proofs.Reading.{digit-low, digit-number, digit-between, digit-letter, digit-high}
 use borrow.Author.Needs.{needs}

@@ -1,5 +1,4 @@
 -- `digit_of` meets its contract: its two ranges are those of `digitOf`.
--- Assumes nothing.
 use mathlib.Core.Path.{sym}
 use Rattle.hex.proofs.Printing.{digit-few, digit-many}
 use borrow.Author.Needs.{needs}

@@ -1,5 +1,4 @@
 -- `fill` meets its contract: what `out` is to be is always `out` with what the pairs that are left say behind the bytes written (`fill-turn` of `Reading`). Each digit is below 16, so that no byte wraps.
--- Assumes nothing.
 use Rattle.hex.proofs.Reading.{pair-digits, fill-turn, fill-end}
 use Prim.Native.Nat.{_-_, _*_, _≤_}
 use mathlib.Core.Path.{_≡_, refl}

@@ -1,5 +1,4 @@
 -- `is_dash` meets its contract: a text of one byte is its first byte.
--- Assumes nothing.
 use mathlib.Core.Path.{_≡_, sym}
 use lib.ListN.{length}
 use native.Mathlib.Omega.{arith}

@@ -1,5 +1,4 @@
 -- `is_hex` meets its contract: each refusal is a test of `isHex` that fails, in its order.
--- Assumes nothing.
 use mathlib.Core.Path.{_≡_, sym, _∙_}
 use Prim.Native.Nat.{_%_}
 use native.Mathlib.Omega.{arith}

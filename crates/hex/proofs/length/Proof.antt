@@ -1,5 +1,4 @@
 -- `length` meets its contract: the tests of `readHex` in its order; pairs say half as many bytes.
--- Assumes nothing.
 use mathlib.Core.Path.{sym, _∙_}
 use Rattle.hex.proofs.Reading.{length-bytes, read-dash, read-pairs, read-none}
 use borrow.Author.Needs.{needs}

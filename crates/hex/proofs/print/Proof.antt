@@ -1,5 +1,4 @@
 -- `print` meets its contract: after i turns the digits of the first i bytes stand at the front (`print-turn` of `Printing`).
--- Assumes nothing.
 use Prim.Native.Nat.{_≤_, _-_}
 use mathlib.Core.Path.{_≡_, refl, sym}
 use native.Mathlib.Omega.{arith}

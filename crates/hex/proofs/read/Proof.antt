@@ -1,5 +1,4 @@
 -- `read` meets its contract: the text is checked first, so that `out` stays where it says no value; then `fill` writes it.
--- Assumes nothing.
 use mathlib.Core.Path.{refl, sym, _∙_}
 use borrow.Author.Tests.{not-true, not-false}
 use Rattle.lent.proofs.Splice.{splice-none}

@@ -1,5 +1,4 @@
 -- `write` meets its contract: the empty value is the dash, and any other the digits of its bytes.
--- Assumes nothing.
 use mathlib.Core.Path.{refl, sym, ap}
 use native.Mathlib.Omega.{arith}
 use lib.ListN.{length}

@@ -1,5 +1,4 @@
 -- The number takes its place behind those before it; what `is_new` says of it then is what is to be said of its table.
--- Assumes nothing.
 use borrow.Author.Needs.{needs}
 use Rattle.joins.proofs.Entered.{seated-behind, entered-more}
 use Rattle.joins.proofs.enters.Statement.{statement}

@@ -1,5 +1,4 @@
 -- A place at which n stands is its first, since it stands once; it stands nowhere if its places joined are 0.
--- Assumes nothing.
 use Prim.Native.Nat.{_+_, _-_}
 use mathlib.Core.Path.{_≡_, sym, _∙_}
 use native.Mathlib.Omega.{arith}

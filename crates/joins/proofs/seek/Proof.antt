@@ -1,5 +1,4 @@
 -- The invariant: others than n have the seats of the turns passed, and x is n spun as often.
--- Assumes nothing.
 use Prim.Native.Nat.{ℕ, _-_, _≤_}
 use mathlib.Core.Path.{_≡_, refl, sym, ap, _∙_}
 use native.Mathlib.Omega.{arith}

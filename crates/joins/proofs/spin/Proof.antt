@@ -1,5 +1,4 @@
 -- As it is defined; the sum is below 2^64.
--- Assumes nothing.
 use mathlib.Core.Path.{refl}
 use borrow.Author.Needs.{needs}
 use Rattle.joins.specs.Joins.{spun}

@@ -1,5 +1,4 @@
 -- By the three returns, each a law of `Seats`: all seats are others', the seat found is the number's own, and it is free.
--- Assumes nothing.
 use mathlib.Core.Path.{refl}
 use native.Mathlib.Omega.{arith}
 use borrow.Author.Needs.{needs}

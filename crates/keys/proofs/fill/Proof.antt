@@ -1,5 +1,4 @@
 -- The value is put, and then the bytes of the lease are cleared.
--- Assumes nothing.
 use native.Mathlib.Omega.{arith}
 use Rattle.keys.proofs.Written.{value-filled}
 use borrow.Author.Needs.{needs}

@@ -1,5 +1,4 @@
 -- The record's first byte is 1 exactly where a value is there.
--- Assumes nothing.
 use native.Mathlib.Omega.{arith}
 use Rattle.layout.proofs.Held.{value-there}
 use borrow.Author.Needs.{needs}

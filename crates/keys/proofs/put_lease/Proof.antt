@@ -1,5 +1,4 @@
 -- Token and deadline, written one after the other, are the record's lease.
--- Assumes nothing.
 use native.Mathlib.Omega.{arith}
 use Rattle.keys.proofs.Written.{lease-written}
 use borrow.Author.Needs.{needs}

@@ -1,5 +1,4 @@
 -- Mark and length, then the 64 bytes of the value, are the record's value.
--- Assumes nothing.
 use native.Mathlib.Omega.{arith}
 use mathlib.Core.Option.{some}
 use Rattle.layout.proofs.Parts.{value-put}

@@ -1,5 +1,4 @@
 -- The record's length byte says the length of the value.
--- Assumes nothing.
 use mathlib.Core.Path.{_∙_}
 use native.Mathlib.Omega.{arith}
 use Rattle.layout.proofs.Held.{value-long}

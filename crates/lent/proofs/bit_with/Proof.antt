@@ -1,5 +1,4 @@
 -- `bit_with` sets the bit: below 64 the shift of 1 loses nothing.
--- Assumes nothing.
 use mathlib.Core.Path.{ap}
 use lib.Bits.{bitOr}
 use borrow.Author.Needs.{needs}

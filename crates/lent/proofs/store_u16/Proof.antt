@@ -1,5 +1,4 @@
 -- `store_u16` is two stores in a row.
--- Assumes nothing.
 use native.Mathlib.Omega.{arith}
 use lib.ListN.{length-set}
 use borrow.Author.Needs.{needs}

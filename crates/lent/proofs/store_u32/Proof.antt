@@ -1,5 +1,4 @@
 -- `store_u32` is two writes, one behind the other.
--- Assumes nothing.
 use Prim.Native.Nat.{_/_}
 use mathlib.Core.Path.{refl, ap, _∙_}
 use native.Mathlib.Nat.{div-div-eq-div-mul}

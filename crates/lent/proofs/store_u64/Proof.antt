@@ -1,5 +1,4 @@
 -- `store_u64` is two writes, one behind the other.
--- Assumes nothing.
 use Prim.Native.Nat.{_%_, _/_}
 use mathlib.Core.Path.{refl}
 use borrow.Author.Needs.{needs}

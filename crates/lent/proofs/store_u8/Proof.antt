@@ -1,5 +1,4 @@
 -- `store_u8` is one store.
--- Assumes nothing.
 use borrow.Author.Needs.{needs}
 use Rattle.lent.proofs.Splice.{set-splice}
 use Rattle.lent.proofs.store_u8.Statement.{statement}

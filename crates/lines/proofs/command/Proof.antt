@@ -1,5 +1,4 @@
 -- `command` meets its contract: an arm for each form of a shape.
--- Assumes nothing.
 use mathlib.Core.Path.{sym, _∙_}
 use Rattle.lines.specs.Lines.{commandLine}
 use Rattle.lines.proofs.Saying.{gives-none, gives-said}

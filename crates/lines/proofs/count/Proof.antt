@@ -1,5 +1,4 @@
 -- `count` meets its contract: a text of two bytes or more that starts with a zero is no number, and any other says what `counts::read` finds.
--- Assumes nothing.
 use mathlib.Core.Path.{sym, _∙_}
 use native.Mathlib.Omega.{arith}
 use Rattle.lines.proofs.Cutting.{number-short, number-zero, number-other}

@@ -1,5 +1,4 @@
 -- `field_end` meets its contract: as long as no space is passed, the fields are those of the bytes left with the bytes passed before the first (`end-turn` of `Cutting`).
--- Assumes nothing.
 use Prim.Native.Nat.{_-_, _≤_}
 use mathlib.Core.Path.{_≡_}
 use lib.ListN.{length, drop}

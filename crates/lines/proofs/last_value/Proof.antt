@@ -1,5 +1,4 @@
 -- `last_value` meets its contract: the field is the last where it ends with the line; its length is known before a byte is written, so that the buffer stays where the value is refused.
--- Assumes nothing.
 use mathlib.Core.Path.{refl, sym}
 use native.Mathlib.Omega.{arith}
 use Rattle.lent.proofs.Splice.{splice-none}

@@ -1,5 +1,4 @@
 -- `letter_at` meets its contract: a field whose end is one byte on is that byte, and any other field is no letter.
--- Assumes nothing.
 use Prim.Native.Nat.{_-_}
 use mathlib.Core.Path.{_≡_}
 use native.Mathlib.Omega.{arith}

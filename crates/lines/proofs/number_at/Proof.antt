@@ -1,5 +1,4 @@
 -- `number_at` meets its contract: the field is what stands up to its end, and the rest starts behind it (`number-cut` of `Saying`).
--- Assumes nothing.
 use mathlib.Core.Path.{_∙_}
 use borrow.Author.Tests.{not-true, not-false}
 use Rattle.lines.proofs.Cutting.{fields-past}

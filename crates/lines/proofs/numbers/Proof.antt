@@ -1,5 +1,4 @@
 -- `numbers` meets its contract: each call takes the next field, and the definition goes on where it took one.
--- Assumes nothing.
 use Rattle.lines.specs.Fields.{numbers}
 use borrow.Author.Needs.{needs}
 use Rattle.lines.proofs.numbers.Statement.{statement}

@@ -1,5 +1,4 @@
 -- `plain` meets its contract: behind the numbers no field is left exactly if the next place is past the line.
--- Assumes nothing.
 use Rattle.lines.specs.Lines.{commandLine}
 use Rattle.lines.proofs.Saying.{ended-in, ended-past}
 use borrow.Author.Needs.{needs}

@@ -1,5 +1,4 @@
 -- `read` meets its contract: a long line is refused unread, a first field `A` is a start, and any other line begins with the time.
--- Assumes nothing.
 use mathlib.Core.Path.{sym}
 use native.Mathlib.Omega.{arith}
 use lib.ListN.{length}

@@ -1,5 +1,4 @@
 -- `register_write` meets its contract: the key is tested before the value is read, and `last_value` refuses a value that is too long before it writes.
--- Assumes nothing.
 use borrow.Author.Tests.{lt-ltb, le-ltb}
 use Rattle.lines.specs.Fields.{fieldsAt, lastValue}
 use Rattle.lines.specs.Lines.{writeLine, keyMax, valueMax}

@@ -1,5 +1,4 @@
 -- `shape_of` meets its contract: each arm says which letter it is; in the last arm it is none of the eleven.
--- Assumes nothing.
 use Rattle.lines.specs.Lines.{shapeOf}
 use borrow.Author.Tests.{ne-eqb}
 use Rattle.lines.proofs.shape_of.Statement.{statement}

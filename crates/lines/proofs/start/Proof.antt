@@ -1,5 +1,4 @@
 -- `start` meets its contract: behind the two numbers no field is left exactly if the next place is past the line.
--- Assumes nothing.
 use Rattle.lines.specs.Lines.{startLine}
 use Rattle.lines.proofs.Saying.{ended-in, ended-past}
 use borrow.Author.Needs.{needs}

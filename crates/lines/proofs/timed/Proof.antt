@@ -1,5 +1,4 @@
 -- `timed` meets its contract: the time, the letter and what follows it, in the order of `timedLine`.
--- Assumes nothing.
 use borrow.Author.Tests.{eq-eqb, ne-eqb}
 use Rattle.lines.specs.Lines.{timedLine, writeLetter}
 use Rattle.lines.proofs.Saying.{gives-none}

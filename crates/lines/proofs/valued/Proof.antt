@@ -1,5 +1,4 @@
 -- `valued` meets its contract: `last_value` reads the value behind the numbers, and its length is the one that is given.
--- Assumes nothing.
 use Rattle.lines.specs.Fields.{valueRoom, fieldsAt, lastValue}
 use Rattle.lines.specs.Lines.{commandLine}
 use Rattle.lines.specs.declared.Line.{Line}

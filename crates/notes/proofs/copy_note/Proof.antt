@@ -1,5 +1,4 @@
 -- The length is written, and behind it the bytes of a note that lies before it.
--- Assumes nothing.
 use Rattle.notes.proofs.Notes.{note-copied}
 use borrow.Author.Needs.{needs}
 use Rattle.notes.proofs.copy_note.Statement.{statement}

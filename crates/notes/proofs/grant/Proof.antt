@@ -1,5 +1,4 @@
 -- What is no key is left alone; a key's first note is copied to its second.
--- Assumes nothing.
 use Rattle.book.specs.Book.{registered, withGranted}
 use borrow.Author.Tests.{le-ltb, lt-ltb}
 use Rattle.machine.specs.Sizes.{keyCount}

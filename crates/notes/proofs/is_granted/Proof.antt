@@ -1,5 +1,4 @@
 -- What is no key has the empty value; a key has its note.
--- Assumes nothing.
 use Rattle.book.specs.Book.{granted}
 use mathlib.Core.Path.{sym}
 use borrow.Author.Tests.{le-ltb, lt-ltb}

@@ -1,5 +1,4 @@
 -- The note is the part of the book that is lent, and the two are compared.
--- Assumes nothing.
 use Rattle.book.specs.Book.{note}
 use mathlib.Core.Path.{_∙_}
 use Rattle.lent.proofs.Splice.{part-win}

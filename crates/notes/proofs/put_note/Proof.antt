@@ -1,5 +1,4 @@
 -- The length and the bytes of the value are written one behind the other.
--- Assumes nothing.
 use Rattle.book.specs.Book.{withNote}
 use mathlib.Core.Path.{refl}
 use mathlib.Core.List.{[], _∷_}

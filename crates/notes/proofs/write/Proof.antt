@@ -1,5 +1,4 @@
 -- What is no key is left alone; a key's note is written.
--- Assumes nothing.
 use Rattle.book.specs.Book.{withRegistered}
 use borrow.Author.Tests.{le-ltb, lt-ltb}
 use Rattle.machine.specs.Sizes.{keyCount}

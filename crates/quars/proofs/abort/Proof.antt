@@ -1,5 +1,4 @@
 -- The session leaves.
--- Assumes nothing.
 use mathlib.Core.Path.{refl}
 use Rattle.outcome.proofs.Told.{gives}
 use borrow.Author.Needs.{needs}

@@ -1,5 +1,4 @@
 -- Each verdict of the table is the definition's, since what is held is.
--- Assumes nothing.
 use mathlib.Core.Path.{sym, _∙_}
 use Rattle.layout.proofs.Held.{session-fits}
 use Rattle.machine.specs.State.{sessionAt}

@@ -1,5 +1,4 @@
 -- Without a free row the table is full; else the row is written there and the I lease cleared.
--- Assumes nothing.
 use mathlib.Core.Path.{sym, _∙_}
 use Rattle.outcome.proofs.Told.{gives}
 use Rattle.quars.proofs.Asked.{grant-full, grant-room}

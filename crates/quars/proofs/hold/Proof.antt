@@ -1,5 +1,4 @@
 -- A row of that kind is HELD; without one the table is asked.
--- Assumes nothing.
 use mathlib.Core.Path.{sym, _∙_}
 use Rattle.outcome.proofs.Told.{gives}
 use Rattle.quars.proofs.Asked.{hold-own, hold-asks}

@@ -1,5 +1,4 @@
 -- Without a row of its own the session holds no kind; else its row's kind is compared.
--- Assumes nothing.
 use mathlib.Core.Path.{sym, _∙_}
 use Rattle.quars.proofs.Holding.{holds-none, holds-row}
 use borrow.Author.Needs.{needs}

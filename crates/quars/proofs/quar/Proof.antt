@@ -1,5 +1,4 @@
 -- Key and kind, then the session; an open one goes on by its own number.
--- Assumes nothing.
 use mathlib.Core.Path.{sym, _∙_}
 use native.Mathlib.Omega.{arith}
 use borrow.Author.Tests.{not-true, not-false}

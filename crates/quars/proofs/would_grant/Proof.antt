@@ -1,5 +1,4 @@
 -- A row of that kind is HELD; without one the verdict of the table says whether it is granted.
--- Assumes nothing.
 use mathlib.Core.Path.{sym, _∙_}
 use Rattle.quars.proofs.Asked.{grants-held-not, grants-by}
 use borrow.Author.Needs.{needs}

@@ -1,5 +1,4 @@
 -- Expiry changes the places and not the next number.
--- Assumes nothing.
 use mathlib.Core.Path.{sym, _∙_}
 use borrow.Author.Tests.{le-leb, lt-leb}
 use Rattle.machine.specs.Sizes.{numberMax}

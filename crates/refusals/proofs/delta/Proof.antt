@@ -1,5 +1,4 @@
 -- DELTA's own tests, then those of its session.
--- Assumes nothing.
 use mathlib.Core.Path.{sym, _∙_}
 use mathlib.Core.Bool.{not, _||_, or-true}
 use lib.ListN.{length}

@@ -1,5 +1,4 @@
 -- Whoever is left decides: nobody, one who is not sealed, or one who may go.
--- Assumes nothing.
 use mathlib.Core.Path.{sym, _∙_}
 use Rattle.machine.specs.State.{sessionOf}
 use Rattle.machine.specs.Expiry.{expire}

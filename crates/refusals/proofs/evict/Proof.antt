@@ -1,5 +1,4 @@
 -- EVICT is refused for its key alone.
--- Assumes nothing.
 use borrow.Author.Tests.{le-leb, lt-leb}
 use Rattle.machine.specs.Sizes.{keyCount}
 use Rattle.machine.specs.Refusals.{refusals}

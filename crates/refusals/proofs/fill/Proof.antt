@@ -1,5 +1,4 @@
 -- FILL is refused for its key or its value alone.
--- Assumes nothing.
 use lib.ListN.{length}
 use borrow.Author.Tests.{le-leb, lt-leb, lt-ltb, le-ltb}
 use Rattle.machine.specs.Sizes.{keyCount, valueMax}

@@ -1,5 +1,4 @@
 -- Expiry leaves the clock, so CLOCK is as it was; then come the command's own.
--- Assumes nothing.
 use mathlib.Core.Path.{sym, ap, _∙_}
 use Rattle.machine.specs.State.{Head}
 use lib.Dec.{ltb}

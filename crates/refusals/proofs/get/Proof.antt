@@ -1,5 +1,4 @@
 -- Key, then session; the token is asked before the key is looked at, and both have to hold for the last test.
--- Assumes nothing.
 use mathlib.Core.Path.{sym, ap, _∙_}
 use lib.Dec.{leb}
 use Rattle.machine.specs.State.{Head}

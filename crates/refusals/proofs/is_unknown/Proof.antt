@@ -1,5 +1,4 @@
 -- 0 is nobody's number; any other is unknown where nobody is left.
--- Assumes nothing.
 use mathlib.Core.Path.{sym, _∙_}
 use borrow.Author.Tests.{eq-eqb, ne-eqb}
 use Rattle.machine.specs.State.{sessionOf}

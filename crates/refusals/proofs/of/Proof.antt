@@ -1,5 +1,4 @@
 -- Each arm is the command of that name; what the command does not look at computes away.
--- Assumes nothing.
 use mathlib.Core.Path.{refl}
 use Rattle.machine.specs.Expiry.{expire}
 use Rattle.machine.specs.Refusals.{refusals}

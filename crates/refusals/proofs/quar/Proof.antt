@@ -1,5 +1,4 @@
 -- Key and kind, then whoever is left; the last test is of two parts, and where the rows are full the other is as it was.
--- Assumes nothing.
 use mathlib.Core.Bool.{and-false, or-true}
 use mathlib.Core.Path.{sym, _∙_}
 use native.Mathlib.Omega.{arith}

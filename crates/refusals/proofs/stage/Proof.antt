@@ -1,5 +1,4 @@
 -- STAGE's own tests, then those of its session.
--- Assumes nothing.
 use mathlib.Core.Bool.{or-true}
 use lib.ListN.{length}
 use borrow.Author.Tests.{le-leb, lt-leb, lt-ltb, le-ltb}

@@ -1,5 +1,4 @@
 -- Nobody left is the refusal 5; whoever is left finds what he finds on the state as it is.
--- Assumes nothing.
 use mathlib.Core.Path.{sym, ap, _∙_}
 use Rattle.machine.specs.State.{sessionOf}
 use Rattle.machine.specs.Expiry.{expire}

@@ -1,5 +1,4 @@
 -- Whoever is left may go.
--- Assumes nothing.
 use mathlib.Core.Path.{sym, _∙_}
 use Rattle.machine.specs.State.{sessionOf}
 use Rattle.machine.specs.Expiry.{expire}

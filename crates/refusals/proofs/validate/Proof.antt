@@ -1,5 +1,4 @@
 -- Whoever is left validates by himself, and only a clash is a refusal.
--- Assumes nothing.
 use mathlib.Core.Path.{sym, ap, _∙_}
 use Rattle.refusals.proofs.Lefts.{left-is, left-nobody, clashIn, validates}
 use mathlib.Core.Path.{sym, _∙_}

@@ -1,5 +1,4 @@
 -- What is read decides: each way of reading is a law of `Turns`, and the value that was read stands at the front of the buffer.
--- Assumes nothing.
 use mathlib.Core.List.{[]}
 use lib.ListN.{length-take}
 use native.Mathlib.Omega.{arith}

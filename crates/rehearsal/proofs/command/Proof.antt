@@ -1,5 +1,4 @@
 -- A command counts only after START has answered READY; then its number decides.
--- Assumes nothing.
 use mathlib.Core.Path.{sym, _∙_}
 use borrow.Author.Tests.{not-true, not-false}
 use Rattle.rehearsal.proofs.Turns.{here, not-taken, command-early, command-is, command-unknown}

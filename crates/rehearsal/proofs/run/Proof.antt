@@ -1,5 +1,4 @@
 -- What the command would break is read first; the answer is told with it.
--- Assumes nothing.
 use Rattle.rules.proofs.Told.{command-says}
 use borrow.Author.Needs.{needs}
 use Rattle.rehearsal.proofs.run.Statement.{statement}

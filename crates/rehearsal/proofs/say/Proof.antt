@@ -1,5 +1,4 @@
 -- The line is counted, and its text printed; only a HIT needs the bytes of the cache.
--- Assumes nothing.
 use Rattle.rehearsal.proofs.Turns.{part-win, prints}
 use lib.ListN.{length-take}
 use native.Mathlib.Omega.{arith}

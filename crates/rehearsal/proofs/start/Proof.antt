@@ -1,5 +1,4 @@
 -- An A line counts only before START has answered READY.
--- Assumes nothing.
 use mathlib.Core.Path.{sym, _∙_}
 use Rattle.rehearsal.proofs.Turns.{here, not-taken, start-late, start-first}
 use borrow.Author.Needs.{needs}

@@ -1,5 +1,4 @@
 -- A C line counts only after START has answered READY; then it is the write.
--- Assumes nothing.
 use mathlib.Core.Path.{sym, _∙_}
 use borrow.Author.Tests.{not-true, not-false}
 use Rattle.rehearsal.proofs.Turns.{here, not-taken, write-early, write-started}

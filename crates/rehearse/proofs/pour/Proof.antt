@@ -1,5 +1,4 @@
 -- `pour` meets its contract: the chunk's bytes before `from` are answered, and each stretch takes at least one more.
--- Assumes nothing.
 use borrow.Author.Needs.{needs}
 use Prim.Native.Nat.{_-_, _≤_}
 use mathlib.Core.Path.{_≡_, refl, sym, ap, _∙_}

@@ -1,6 +1,5 @@
 -- `rehearse` meets its contract: after each turn the world is that of all that has been read, and at the end `finish` closes it. The turns end
 -- since they are counted down.
--- Assumes nothing.
 use borrow.Author.Needs.{needs}
 use Prim.Native.Nat.{_≤_}
 use mathlib.Core.Path.{_≡_, refl, sym, ap, _∙_}

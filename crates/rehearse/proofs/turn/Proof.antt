@@ -1,5 +1,4 @@
 -- `turn` meets its contract: what was read is the front of the chunk, which `pour` answers.
--- Assumes nothing.
 use Rattle.script.specs.Buffers.{opened}
 use Rattle.rehearse.proofs.Runs.{poured-turned}
 use borrow.Author.Needs.{needs}

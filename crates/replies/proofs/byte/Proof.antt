@@ -1,5 +1,4 @@
 -- `byte` meets its contract: a store is a stretch of one byte.
--- Assumes nothing.
 use mathlib.Core.Path.{refl}
 use Rattle.lent.proofs.Splice.{set-splice}
 use borrow.Author.Needs.{needs}

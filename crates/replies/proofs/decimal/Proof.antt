@@ -1,5 +1,4 @@
 -- `decimal` meets its contract: a buffer of 20 bytes takes any number, so what `counts::write` leaves in the tail is the number's digits at the tail's front.
--- Assumes nothing.
 use Rattle.replies.proofs.Lines.{number-put, printed-most}
 use native.Mathlib.Omega.{arith}
 use borrow.Author.Needs.{needs}

@@ -1,5 +1,4 @@
 -- `detail_field` meets its contract: the space stands behind the detail.
--- Assumes nothing.
 use native.Mathlib.Omega.{arith}
 use Rattle.replies.proofs.Lines.{put-then, detail-most}
 use borrow.Author.Needs.{needs}

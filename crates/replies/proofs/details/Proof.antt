@@ -1,5 +1,4 @@
 -- `details` meets its contract: its tests are those of `detailed`, in its order.
--- Assumes nothing.
 use mathlib.Core.Path.{sym, _∙_}
 use native.Mathlib.Omega.{arith}
 use borrow.Author.Tests.{eq-eqb, ne-eqb}

@@ -1,5 +1,4 @@
 -- `end` meets its contract: the three fields stand one behind the other.
--- Assumes nothing.
 use Rattle.replies.proofs.Lines.{end-put, number-most}
 use native.Mathlib.Omega.{arith}
 use borrow.Author.Needs.{needs}

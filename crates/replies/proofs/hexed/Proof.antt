@@ -1,5 +1,4 @@
 -- `hexed` meets its contract: what `hex::write` puts at the front of the tail stands at the tail's place.
--- Assumes nothing.
 use Rattle.replies.proofs.Lines.{tail-put}
 use borrow.Author.Needs.{needs}
 use Rattle.replies.proofs.hexed.Statement.{statement}

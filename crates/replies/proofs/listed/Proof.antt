@@ -1,5 +1,4 @@
 -- `listed` meets its contract: a number behind the table has the name of UNREADABLE.
--- Assumes nothing.
 use Rattle.replies.proofs.Names.{name-other}
 use native.Mathlib.Omega.{arith}
 use borrow.Author.Needs.{needs}

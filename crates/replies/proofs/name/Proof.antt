@@ -1,5 +1,4 @@
 -- `name` meets its contract: the row's front of the word's length is the word.
--- Assumes nothing.
 use mathlib.Core.Path.{sym, ap, _∙_}
 use native.Mathlib.Omega.{arith}
 use lib.ListN.{length}

@@ -1,5 +1,4 @@
 -- `name_length` meets its contract: the code's table is `lengths`.
--- Assumes nothing.
 use Rattle.replies.proofs.Names.{lengths, length-at}
 use Rattle.replies.specs.Replies.{nameOf, words}
 use borrow.Author.Needs.{needs}

@@ -1,5 +1,4 @@
 -- `number` meets its contract: the byte stands behind the digits, of which there are at most 20.
--- Assumes nothing.
 use native.Mathlib.Omega.{arith}
 use Rattle.replies.proofs.Lines.{put-then, printed-most}
 use borrow.Author.Needs.{needs}

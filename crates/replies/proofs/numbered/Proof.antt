@@ -1,5 +1,4 @@
 -- `numbered` meets its contract: the arms are the four words and all others.
--- Assumes nothing.
 use mathlib.Core.Logic.{inl, inr}
 use mathlib.Core.Path.{sym}
 use native.Mathlib.Omega.{arith}

@@ -1,5 +1,4 @@
 -- `padded` meets its contract: the code's table is `rows`, whose fronts are the words.
--- Assumes nothing.
 use Rattle.replies.proofs.Names.{rows, front-at}
 use Rattle.replies.specs.Replies.{nameOf, words}
 use borrow.Author.Needs.{needs}

@@ -1,5 +1,4 @@
 -- `reply` meets its contract: the four fields stand one behind the other, and no line is longer than its room.
--- Assumes nothing.
 use native.Mathlib.Omega.{arith}
 use Rattle.replies.specs.Replies.{nameOf, detailed}
 use Rattle.replies.proofs.Names.{name-most}

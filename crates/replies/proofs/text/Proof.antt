@@ -1,5 +1,4 @@
 -- `text` meets its contract: the byte stands behind what is copied.
--- Assumes nothing.
 use mathlib.Core.Path.{refl}
 use Rattle.replies.proofs.Lines.{put-then}
 use borrow.Author.Needs.{needs}

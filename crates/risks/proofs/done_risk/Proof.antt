@@ -1,5 +1,4 @@
 -- The test decides.
--- Assumes nothing.
 use mathlib.Core.Path.{sym, _∙_}
 use borrow.Author.Needs.{needs}
 use Rattle.risks.proofs.done_risk.Statement.{statement}

@@ -1,5 +1,4 @@
 -- One of the two values is the same, or neither is.
--- Assumes nothing.
 use mathlib.Core.Path.{sym, _∙_}
 use borrow.Author.Needs.{needs}
 use Rattle.risks.proofs.fill_risk.Statement.{statement}

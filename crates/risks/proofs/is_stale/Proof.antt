@@ -1,5 +1,4 @@
 -- The row's session, its mark, its key and its value's bytes are those of the row that the bytes hold.
--- Assumes nothing.
 use mathlib.Core.Path.{_≡_, sym, ap, _∙_}
 use mathlib.Core.Bool.{not}
 use Rattle.lent.specs.Bytes.{win}

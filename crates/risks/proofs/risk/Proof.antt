@@ -1,5 +1,4 @@
 -- A wrong length is not well formed; else each arm is the risk of its command, on the state that the bytes hold.
--- Assumes nothing.
 use Rattle.layout.specs.Layout.{decode}
 use Rattle.layout.proofs.Formed.{formed, holds-decoded}
 use Rattle.risks.specs.Risks.{wroteFor, staleFor}

@@ -1,5 +1,4 @@
 -- No row before i is stale; where the walk ends, none is.
--- Assumes nothing.
 use Prim.Native.Nat.{_≤_, _-_}
 use mathlib.Core.Path.{_≡_, refl, sym, _∙_}
 use mathlib.Core.Bool.{false}

@@ -1,5 +1,4 @@
 -- The session's place is searched, and its mark compared.
--- Assumes nothing.
 use mathlib.Core.Path.{sym, _∙_}
 use native.Mathlib.Omega.{arith}
 use Prim.Native.Nat.{_<_}

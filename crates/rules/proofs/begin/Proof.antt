@@ -1,5 +1,4 @@
 -- The answer is START's, and READY is noted in the book.
--- Assumes nothing.
 use mathlib.Core.Path.{sym, _∙_}
 use Rattle.rules.proofs.Told.{begin-refused, begin-ready}
 use borrow.Author.Needs.{needs}

@@ -1,5 +1,4 @@
 -- The word decides both what is noted and what is told.
--- Assumes nothing.
 use Rattle.rules.proofs.Told.{concluded}
 use borrow.Author.Needs.{needs}
 use Rattle.rules.proofs.conclude.Statement.{statement}

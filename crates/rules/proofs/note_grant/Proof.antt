@@ -1,5 +1,4 @@
 -- Only a LEASE is noted, on the key that the command asks for.
--- Assumes nothing.
 use mathlib.Core.Path.{_∙_}
 use Rattle.rules.proofs.Told.{noted-none, noted-grant}
 use borrow.Author.Needs.{needs}

@@ -1,5 +1,4 @@
 -- Each number is the one that the answer's crate gives.
--- Assumes nothing.
 use borrow.Author.Needs.{needs}
 use Rattle.rules.proofs.tell.Statement.{statement}
 use Rattle.rules.proofs.tell.Tie as tie

@@ -1,5 +1,4 @@
 -- `answer` prints the library's output line: it stands at the front of the part that is lent for it, and fits it.
--- Assumes nothing.
 use native.Mathlib.Omega.{arith}
 use Rattle.script.proofs.Library.{line-said}
 use borrow.Author.Needs.{needs}

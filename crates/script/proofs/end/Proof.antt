@@ -1,5 +1,4 @@
 -- `end` prints the library's end line: it stands at the front of the part that is lent for it, and fits it.
--- Assumes nothing.
 use native.Mathlib.Omega.{arith}
 use Rattle.script.proofs.Library.{end-said}
 use borrow.Author.Needs.{needs}

@@ -1,5 +1,4 @@
 -- `finish` meets its contract: where bytes are held they are a last line, and the end line stands behind its answer.
--- Assumes nothing.
 use mathlib.Core.Path.{sym}
 use lib.Seq.{length-take-le}
 use native.Mathlib.Omega.{arith}

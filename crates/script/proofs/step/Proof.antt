@@ -1,5 +1,4 @@
 -- `step` meets its contract: by what `push` says of the byte, it is held or ends a line, and that line is answered.
--- Assumes nothing.
 use mathlib.Core.Path.{sym, _∙_}
 use lib.Seq.{length-take-le}
 use mathlib.Core.List.{[]}

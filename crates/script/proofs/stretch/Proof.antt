@@ -1,5 +1,4 @@
 -- `stretch` meets its contract: the bytes before i are answered, and where it stops the chunk ends or there is no room.
--- Assumes nothing.
 use borrow.Author.Needs.{needs}
 use Prim.Native.Nat.{_-_}
 use mathlib.Core.Path.{_≡_, refl, sym, _∙_}

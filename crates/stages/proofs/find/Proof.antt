@@ -1,5 +1,4 @@
 -- The asker decides first; an open one goes on with its own number.
--- Assumes nothing.
 use Rattle.askers.proofs.Asked.{asks, asks-own}
 use mathlib.Core.Path.{sym, _∙_}
 use Rattle.stages.proofs.Found.{staging-refused}

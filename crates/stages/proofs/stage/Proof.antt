@@ -1,5 +1,4 @@
 -- STAGE's own tests, then what its session found; where that is its places, the record is stored and the value staged there.
--- Assumes nothing.
 use Rattle.outcome.proofs.Told.{gives}
 use mathlib.Core.Path.{sym, _∙_}
 use Rattle.stages.proofs.Staged.{staging-at}

@@ -1,5 +1,4 @@
 -- No row, a row of another kind, then what the session's record says of the step.
--- Assumes nothing.
 use mathlib.Core.Path.{sym, _∙_}
 use Rattle.stages.proofs.Found.{staging-rowless, staging-kind, staging-steps}
 use borrow.Author.Needs.{needs}

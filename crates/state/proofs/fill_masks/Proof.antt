@@ -1,5 +1,4 @@
 -- The invariant: the first half is 0, and what was passed of the second is ones.
--- Assumes nothing.
 use Prim.Native.Nat.{_+_, _-_, _≤_}
 use mathlib.Core.Path.{_≡_}
 use native.Mathlib.Omega.{arith}

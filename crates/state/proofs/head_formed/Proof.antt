@@ -1,5 +1,4 @@
 -- Each test is the next of the header's conditions; a next number of 32 bits is at most 2^32 - 1.
--- Assumes nothing.
 use native.Mathlib.Omega.{arith}
 use borrow.Author.Tests.{le-leb, lt-leb}
 use borrow.Author.Needs.{needs}

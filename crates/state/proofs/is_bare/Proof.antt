@@ -1,5 +1,4 @@
 -- The bytes joined, each under its mask, are 0 exactly if those passed from the n-th on are.
--- Assumes nothing.
 use Prim.Native.Nat.{_+_, _-_, _≤_}
 use mathlib.Core.Path.{_≡_, refl}
 use native.Mathlib.Omega.{arith}

@@ -1,5 +1,4 @@
 -- The length is at most 64, and then the result is that of the scan behind the value.
--- Assumes nothing.
 use native.Mathlib.Omega.{arith}
 use borrow.Author.Tests.{le-leb, lt-leb}
 use borrow.Author.Needs.{needs}

@@ -1,5 +1,4 @@
 -- By the mark.
--- Assumes nothing.
 use native.Mathlib.Omega.{arith}
 use borrow.Author.Tests.{eq-eqb, ne-eqb}
 use Rattle.state.proofs.is_marked.Statement.{statement}

@@ -1,5 +1,4 @@
 -- The length is the first of the 65 bytes, and the value is the rest.
--- Assumes nothing.
 use native.Mathlib.Omega.{arith}
 use lib.ListN.{getD}
 use borrow.Author.Tests.{eq-eqb, ne-eqb}

@@ -1,5 +1,4 @@
 -- A key is its value and its lease.
--- Assumes nothing.
 use borrow.Author.Needs.{needs}
 use Rattle.state.specs.Forms.{keyFormed}
 use Rattle.state.proofs.Tests.{failed, passed}

@@ -1,5 +1,4 @@
 -- After k turns each of the first k keys is formed, and their tokens are distinct and have their seats.
--- Assumes nothing.
 use mathlib.Core.Bool.{true, false, and-false}
 use Prim.Native.Nat.{_+_, _-_, _*_, _≤_}
 use mathlib.Core.Path.{_≡_, sym, _∙_}

@@ -1,5 +1,4 @@
 -- The token is 0 or not, and then each test is the next of the lease's conditions.
--- Assumes nothing.
 use Prim.Native.Nat.{ℕ}
 use mathlib.Core.Path.{ap}
 use native.Mathlib.Omega.{arith}

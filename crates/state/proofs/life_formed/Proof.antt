@@ -1,5 +1,4 @@
 -- The mark picks the case: sealed with no deadline, or open.
--- Assumes nothing.
 use Prim.Native.Nat.{ℕ}
 use mathlib.Core.Path.{ap}
 use native.Mathlib.Omega.{arith}

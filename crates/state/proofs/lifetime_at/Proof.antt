@@ -1,5 +1,4 @@
 -- The number is at least 1, and then the result is the other test of the range.
--- Assumes nothing.
 use Prim.Native.Nat.{ℕ}
 use mathlib.Core.Path.{ap}
 use native.Mathlib.Omega.{arith}

@@ -1,5 +1,4 @@
 -- A row is free, or its kind is 1 to 3 and the result is that of what is staged.
--- Assumes nothing.
 use mathlib.Core.Path.{ap, _∙_}
 use native.Mathlib.Omega.{arith}
 use lib.ListN.{getD}

@@ -1,5 +1,4 @@
 -- After i turns each of the first i rows is formed and joins, and all is known at row i that `join` asks.
--- Assumes nothing.
 use Prim.Native.Nat.{_+_, _-_, _*_, _≤_}
 use mathlib.Core.Path.{_≡_, sym, _∙_}
 use mathlib.Core.Bool.{true, false, and-false}

@@ -1,5 +1,4 @@
 -- A session is free, and its two words are 0, or each test is the next of its conditions.
--- Assumes nothing.
 use Prim.Native.Nat.{ℕ}
 use mathlib.Core.Path.{ap}
 use native.Mathlib.Omega.{arith}

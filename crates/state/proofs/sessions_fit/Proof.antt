@@ -1,5 +1,4 @@
 -- After j turns each of the first j sessions is formed, and their numbers are distinct and have their seats.
--- Assumes nothing.
 use mathlib.Core.Bool.{true, false, and-false}
 use Prim.Native.Nat.{_+_, _-_, _*_, _≤_}
 use mathlib.Core.Path.{_≡_, refl, sym, _∙_}

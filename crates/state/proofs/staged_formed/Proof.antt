@@ -1,5 +1,4 @@
 -- The mark picks the case, and mark and kind are tested before the bytes.
--- Assumes nothing.
 use native.Mathlib.Omega.{arith}
 use lib.Dec.{eqb}
 use lib.ListN.{getD}

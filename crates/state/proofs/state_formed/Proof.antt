@@ -1,5 +1,4 @@
 -- The header, then the tables; a clock that passed leaves room for a lifetime.
--- Assumes nothing.
 use borrow.Author.Needs.{needs}
 use Rattle.state.specs.Forms.{stateFormed}
 use Rattle.state.proofs.Tests.{failed, passed}

@@ -1,5 +1,4 @@
 -- Each test is the next of the definition; the sessions that fit have the seats by which the rows find them.
--- Assumes nothing.
 use mathlib.Core.Path.{refl}
 use borrow.Author.Tests.{not-false}
 use borrow.Author.Needs.{needs}

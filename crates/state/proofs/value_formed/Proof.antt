@@ -1,5 +1,4 @@
 -- By the three returns, each a law of `Values`.
--- Assumes nothing.
 use mathlib.Core.Path.{sym, _∙_}
 use Prim.Native.Nat.{_-_}
 use native.Mathlib.Omega.{arith}

@@ -1,5 +1,4 @@
 -- The length is tested first; of a buffer of the right length the tests say whether it is well formed.
--- Assumes nothing.
 use mathlib.Core.Path.{sym, _∙_}
 use native.Mathlib.Omega.{arith}
 use borrow.Author.Needs.{needs}

@@ -1,5 +1,4 @@
 -- A session that is not due stays and nothing is noted; one that is due is freed, and its number stands behind those noted before.
--- Assumes nothing.
 use mathlib.Core.Path.{_≡_, sym, _∙_}
 use mathlib.Core.Bool.{true, false}
 use mathlib.Core.List.{append-nil}

@@ -1,5 +1,4 @@
 -- A lease that has lapsed is dropped (`lease-goes`), any other stays (`lease-stays`).
--- Assumes nothing.
 use mathlib.Core.Path.{sym, _∙_}
 use borrow.Author.Needs.{needs}
 use Rattle.sweep.proofs.Steps.{lease-stays, lease-goes}

@@ -1,5 +1,4 @@
 -- After k turns the bytes hold the state after k steps of `lapseKey`; all of them are the map over the keys (`keys-lapsed`).
--- Assumes nothing.
 use Prim.Native.Nat.{_≤_, _-_}
 use mathlib.Core.Path.{_≡_}
 use native.Mathlib.Omega.{arith}

@@ -1,5 +1,4 @@
 -- `lapsing` is the one or the other, in this order.
--- Assumes nothing.
 use mathlib.Core.Path.{sym, _∙_}
 use borrow.Author.Needs.{needs}
 use Rattle.sweep.specs.Lapsing.{lapsing}

@@ -1,5 +1,4 @@
 -- As long as no lease passed has lapsed, none before key k has; one that has is a hit for all.
--- Assumes nothing.
 use Prim.Native.Nat.{_≤_, _-_}
 use mathlib.Core.Bool.{false}
 use mathlib.Core.Path.{_≡_, sym, _∙_}

@@ -1,5 +1,4 @@
 -- As long as no session passed is due, none before the place is; one that is due is a hit for all.
--- Assumes nothing.
 use Prim.Native.Nat.{_≤_, _-_}
 use mathlib.Core.Bool.{false}
 use mathlib.Core.Path.{_≡_, sym, _∙_}

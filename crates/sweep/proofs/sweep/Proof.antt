@@ -1,5 +1,4 @@
 -- Leases, sessions and rows one after the other are `expire` (`expire-whole`); where no session was due the rows stay as they are (`expire-none`).
--- Assumes nothing.
 use mathlib.Core.List.{[]}
 use mathlib.Core.Path.{_≡_, sym, ap, _∙_}
 use Prim.Native.Nat.{ℕ}

@@ -1,5 +1,4 @@
 -- The session is loaded and marked; its life and its row on the key decide.
--- Assumes nothing.
 use mathlib.Core.Path.{sym, _∙_}
 use borrow.Author.Tests.{not-true, not-false}
 use Rattle.writes.proofs.Written.{written-open, written-held, written-rowless}

@@ -1,5 +1,4 @@
 -- A buffer that is not well formed has no session; else the session is looked up in the state that it holds.
--- Assumes nothing.
 use mathlib.Core.Path.{_≡_, sym, _∙_}
 use mathlib.Core.Bool.{true}
 use Prim.Native.Nat.{_<_}

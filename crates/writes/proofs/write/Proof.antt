@@ -1,5 +1,4 @@
 -- The write is tested and marked, and then the register's note is written.
--- Assumes nothing.
 use Rattle.writes.proofs.Written.{write-says}
 use borrow.Author.Needs.{needs}
 use Rattle.writes.proofs.write.Statement.{statement}

@@ -1,5 +1,4 @@
 -- A token of 0 is no lease; any other lease is gone if it has lapsed.
--- Assumes nothing.
 use mathlib.Core.Path.{sym, _∙_}
 use Rattle.machine.specs.State.{leaseOn}
 use Rattle.layout.proofs.Held.{key-fits}

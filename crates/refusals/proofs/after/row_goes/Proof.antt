@@ -1,5 +1,4 @@
 -- The search for the row's session and that one's deadline decide.
--- Assumes nothing.
 use mathlib.Core.Path.{sym, ap, _∙_}
 use Rattle.machine.specs.Sizes.{sessionCount}
 use Rattle.machine.specs.State.{noSession, numbered}

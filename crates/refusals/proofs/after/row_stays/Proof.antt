@@ -1,5 +1,4 @@
 -- A free row and one on another key do not stay on the key; any other goes or stays.
--- Assumes nothing.
 use mathlib.Core.Bool.{not}
 use mathlib.Core.Path.{sym, ap, _∙_}
 use Rattle.machine.specs.State.{rowAt}

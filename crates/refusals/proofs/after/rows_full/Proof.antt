@@ -1,5 +1,4 @@
 -- A free row stays free; where there is none, one is free if a row goes.
--- Assumes nothing.
 use mathlib.Core.Path.{sym, _∙_}
 use Rattle.machine.specs.Sizes.{rowCount}
 use Rattle.machine.specs.State.{freeRow, noRow}

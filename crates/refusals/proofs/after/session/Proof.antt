@@ -1,5 +1,4 @@
 -- The search for the number and the deadline of the one found decide who is left.
--- Assumes nothing.
 use mathlib.Core.Bool.{true, false}
 use mathlib.Core.Path.{sym, ap, _∙_}
 use Rattle.machine.specs.State.{session}

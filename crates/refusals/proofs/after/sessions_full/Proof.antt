@@ -1,5 +1,4 @@
 -- A free place stays free; where there is none, one is free if a session goes.
--- Assumes nothing.
 use mathlib.Core.Path.{sym, _∙_}
 use Rattle.machine.specs.Sizes.{sessionCount}
 use Rattle.machine.specs.State.{free, noSession}

@@ -1,5 +1,4 @@
 -- As long as no row passed goes, none before the place does; one that goes is a hit for all.
--- Assumes nothing.
 use borrow.Author.Needs.{needs}
 use Prim.Native.Nat.{_≤_, _-_}
 use mathlib.Core.Bool.{false}

@@ -1,5 +1,4 @@
 -- As long as no row passed stays on the key, none before the place does; one that stays is a hit for all.
--- Assumes nothing.
 use borrow.Author.Needs.{needs}
 use Prim.Native.Nat.{_≤_, _-_}
 use mathlib.Core.Bool.{false}

@@ -1,5 +1,4 @@
 -- A row or a lease that stays decides against it; otherwise a row that goes drops the value, and without one the value decides.
--- Assumes nothing.
 use mathlib.Core.Bool.{not, Bool·not-not}
 use mathlib.Core.Path.{sym, ap, _∙_}
 use borrow.Author.Tests.{not-true, not-false}
