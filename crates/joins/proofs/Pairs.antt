@@ -9,9 +9,9 @@ use lib.ListN.{length, set, replicate, length-set, length-replicate}
 use lib.Seq.{getD-set-same, getD-set-other}
 use lib.Dec.{eqb, ltb}
 use borrow.Author.Tests.{eq-eqb, ne-eqb, ltb-true, ltb-false, lt-ltb, le-ltb}
-use Rattle.lent.specs.Bits.{hasBit, withBit}
+use Rattle.joins.specs.Bits.{hasBit, withBit}
 use Rattle.lent.specs.Tables.{if_then_else_}
-use Rattle.lent.proofs.Bits.{bit-none, bit-with}
+use Rattle.joins.proofs.Bits.{bit-none, bit-with}
 use Rattle.machine.specs.Sizes.{keyCount}
 use Rattle.joins.specs.Joins.{item, pairBit, Sized, Noted}
 use Rattle.joins.proofs.Numbers.{same-or, item-zeros}

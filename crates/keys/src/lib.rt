@@ -52,7 +52,7 @@ pub fn lease_until(s: &[u8], k: usize) -> u64
 }
 
 // A value on a key, in place of one that it may have: mark and length, and the 64 bytes of the value. The lease lies between them.
-pub fn put_value(s: &mut [u8], k: usize, v: &[u8])
+fn put_value(s: &mut [u8], k: usize, v: &[u8])
     requires { ⌜ (length (now s) ≡ stateSize) × ((k < keyCount) × (length (now v) ≤ valueMax)) ⌝ }
     ensures { λ _. ⌜ ((σ : State) → Holds (now (s .entry)) σ → Holds (now (s .exit)) (withKeys σ (setValue (σ .keys) k (some (now (v .entry)))))) ⌝ }
 {

@@ -1,4 +1,3 @@
-pub mod Bits
 pub mod Choices
 pub mod Equal
 pub mod Numbers

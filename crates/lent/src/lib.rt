@@ -1,9 +1,8 @@
-// Bytes of a lent buffer: numbers at a place, and the bits of a word. Stretches are cleared, copied and compared by the crate `blocks`.
+// Bytes of a lent buffer: numbers at a place. Stretches are cleared, copied and compared by the crate `blocks`.
 ghost use mathlib.Core.Path.{_≡_};
 ghost use mathlib.Core.List.{[], _∷_};
 ghost use Prim.Native.Nat.{_+_, _≤_, _<_};
 ghost use lib.ListN.{length};
-ghost use Rattle.lent.specs.Bits.{hasBit, withBit};
 ghost use Rattle.lent.specs.Bytes.{le16, bytes16, le32, bytes32, le64, bytes64, splice};
 
 // A byte as a number to calculate with, and as an index.
@@ -75,19 +74,4 @@ pub fn store_u64(s: &mut [u8], at: usize, v: u64)
 {
     store_u32(s, at, (v % 4294967296) as u32);
     store_u32(s, at + 4, (v / 4294967296) as u32);
-}
-
-// Bit b of m, counted from the least.
-pub fn bit_test(m: u64, b: u32) -> bool
-    requires { ⌜ b < 64 ⌝ }
-    ensures { λ r. ⌜ r ≡ hasBit m b ⌝ }
-{
-    (m >> b) % 2 == 1
-}
-
-pub fn bit_with(m: u64, b: u32) -> u64
-    requires { ⌜ b < 64 ⌝ }
-    ensures { λ r. ⌜ r ≡ withBit m b ⌝ }
-{
-    m | (1u64 << b)
 }

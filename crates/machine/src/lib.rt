@@ -132,7 +132,7 @@ impl Session {
         })
     }
 
-    pub fn seal(self) -> Session
+    fn seal(self) -> Session
         ensures { λ r. ⌜ r ≡ sealed self ⌝ }
     {
         Session {

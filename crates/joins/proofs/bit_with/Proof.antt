@@ -2,9 +2,9 @@
 use mathlib.Core.Path.{ap}
 use lib.Bits.{bitOr}
 use borrow.Author.Needs.{needs}
-use Rattle.lent.proofs.Bits.{one-shifted}
-use Rattle.lent.proofs.bit_with.Statement.{statement}
-use Rattle.lent.proofs.bit_with.Tie as tie
+use Rattle.joins.proofs.Bits.{one-shifted}
+use Rattle.joins.proofs.bit_with.Statement.{statement}
+use Rattle.joins.proofs.bit_with.Tie as tie
 
 shl-result : tie.Need-shl-result
 shl-result c = search needs
