@@ -8,7 +8,7 @@ use lib.ListN.{length}
 use Rattle.lent.specs.Tables.{if_then_else_}
 use Rattle.machine.specs.Sizes.{keyCount, sessionCount, rowCount, valueMax, stepMax, timeMax, numberMax, valueAt, stagedAt}
 use Rattle.machine.specs.Tables.{place, find, count, first, isNone}
-use Rattle.machine.specs.Words.{isKind, isOperation}
+use Rattle.machine.specs.Words.{CLOCK, ARG, LONG, NO-SESSION, SEALED, NOT-SEALED, NO-LEASE, KIND, AHEAD, FULL, ROOM, NUMBERS, INVALIDATE, REFRESH, INCREMENTAL, isKind, isOperation}
 use Rattle.machine.specs.Session.{isSealed}
 use Rattle.machine.specs.Decision.{decision, grants}
 use Rattle.machine.specs.Sound.{lifetime}
@@ -46,7 +46,7 @@ cachedSight k (some v) = some (record { at = valueAt k; value = v })
 -- by one's own row, at place i, on key k: its staged value; for kind 1 or DROP none; otherwise, and for anyone else, the cached value
 abbrev pub rowSight : ℕ → ℕ → Row → Option Value → Option Sight
 rowSight i k noRow c = cachedSight k c
-rowSight i k (row n j d nothing) c = if eqb d 1 then none else cachedSight k c
+rowSight i k (row n j d nothing) c = if eqb d INVALIDATE then none else cachedSight k c
 rowSight i k (row n j d (staged v)) c = some (record { at = stagedAt i; value = v })
 rowSight i k (row n j d DROP) c = none
 
@@ -92,60 +92,60 @@ sessionsFull s = leb sessionCount (count (λ e. not (free e)) (s .sessions))
 abbrev pub rowsFull : State → Bool
 rowsFull s = leb rowCount (count (λ r. not (freeRow r)) (s .rows))
 
--- 2 CLOCK
+-- CLOCK
 abbrev pub clockRefusal : State → ℕ → Bool × ℕ
-clockRefusal s now = (ltb now (s .head .clock) || ltb timeMax now, 2)
+clockRefusal s now = (ltb now (s .head .clock) || ltb timeMax now, CLOCK)
 
--- 5 to 10, of STAGE and DELTA
+-- NO SESSION to AHEAD, of STAGE and DELTA
 abbrev pub stagingRefusals : State → ℕ → ℕ → ℕ → ℕ → List (Bool × ℕ)
 stagingRefusals s n step k kind =
-    (notLive s n, 5)
-    ∷ (sealedIn s n, 6)
-    ∷ (freeRow (rowOf s n k), 8)
-    ∷ (not (eqb (kindOf (rowOf s n k)) kind), 9)
-    ∷ (ltb (countOf s n) step, 10)
+    (notLive s n, NO-SESSION)
+    ∷ (sealedIn s n, SEALED)
+    ∷ (freeRow (rowOf s n k), NO-LEASE)
+    ∷ (not (eqb (kindOf (rowOf s n k)) kind), KIND)
+    ∷ (ltb (countOf s n) step, AHEAD)
     ∷ []
 
 -- s is the state after expiry
 unfoldable pub refusals : State → Command → Value → List (Bool × ℕ)
 refusals s Begin v =
-    (sessionsFull s, 11)
-    ∷ (leb numberMax (s .head .nextSession), 13)
+    (sessionsFull s, FULL)
+    ∷ (leb numberMax (s .head .nextSession), NUMBERS)
     ∷ []
 refusals s (Get n k) v =
-    (badKey k, 3)
-    ∷ (not (eqb n 0) && notLive s n, 5)
-    ∷ (wouldLease s n k && leb numberMax (s .head .nextToken), 13)
+    (badKey k, ARG)
+    ∷ (not (eqb n 0) && notLive s n, NO-SESSION)
+    ∷ (wouldLease s n k && leb numberMax (s .head .nextToken), NUMBERS)
     ∷ []
 refusals s (Fill t k) v =
-    (badKey k, 3)
-    ∷ (long v, 4)
+    (badKey k, ARG)
+    ∷ (long v, LONG)
     ∷ []
 refusals s (Quar n k kind) v =
-    (badKey k || not (isKind kind), 3)
-    ∷ (notLive s n, 5)
-    ∷ (sealedIn s n, 6)
-    ∷ (wouldGrant s n k kind && rowsFull s, 12)
+    (badKey k || not (isKind kind), ARG)
+    ∷ (notLive s n, NO-SESSION)
+    ∷ (sealedIn s n, SEALED)
+    ∷ (wouldGrant s n k kind && rowsFull s, ROOM)
     ∷ []
 refusals s (Stage n step k) v =
-    (badKey k || leb stepMax step, 3)
-    ∷ (long v, 4)
-    ∷ stagingRefusals s n step k 2
+    (badKey k || leb stepMax step, ARG)
+    ∷ (long v, LONG)
+    ∷ stagingRefusals s n step k REFRESH
 refusals s (Delta n step k operation) v =
-    (badKey k || not (isOperation operation) || leb stepMax step, 3)
-    ∷ (long v, 4)
-    ∷ stagingRefusals s n step k 3
+    (badKey k || not (isOperation operation) || leb stepMax step, ARG)
+    ∷ (long v, LONG)
+    ∷ stagingRefusals s n step k INCREMENTAL
 refusals s (Validate n m) v =
-    (ltb stepMax m, 3)
-    ∷ (notLive s n, 5)
-    ∷ (sealedIn s n && not (eqb m (countOf s n)), 6)
+    (ltb stepMax m, ARG)
+    ∷ (notLive s n, NO-SESSION)
+    ∷ (sealedIn s n && not (eqb m (countOf s n)), SEALED)
     ∷ []
 refusals s (Done n) v =
-    (notLive s n, 5)
-    ∷ (not (sealedIn s n), 7)
+    (notLive s n, NO-SESSION)
+    ∷ (not (sealedIn s n), NOT-SEALED)
     ∷ []
-refusals s (Undo n) v = (notLive s n, 5) ∷ []
-refusals s (Evict k) v = (badKey k, 3) ∷ []
+refusals s (Undo n) v = (notLive s n, NO-SESSION) ∷ []
+refusals s (Evict k) v = (badKey k, ARG) ∷ []
 refusals s Tick v = []
 
 unfoldable pub refusal : State → ℕ → Command → Value → Option ℕ
@@ -154,7 +154,7 @@ refusal s now c v = first (clockRefusal s now ∷ refusals s c v)
 -- START and SHOW
 
 abbrev pub startRefusals : ℕ → ℕ → List (Bool × ℕ)
-startRefusals readLife writeLife = (not (lifetime readLife) || not (lifetime writeLife), 3) ∷ []
+startRefusals readLife writeLife = (not (lifetime readLife) || not (lifetime writeLife), ARG) ∷ []
 
 abbrev pub showRefusals : State → ℕ → ℕ → List (Bool × ℕ)
-showRefusals s n k = (badKey k, 3) ∷ (not (eqb n 0) && notLive s n, 5) ∷ []
+showRefusals s n k = (badKey k, ARG) ∷ (not (eqb n 0) && notLive s n, NO-SESSION) ∷ []

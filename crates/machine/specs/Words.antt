@@ -1,4 +1,4 @@
--- The words of document 01: each answer's word by number and what goes with it; kinds and operations.
+-- The words of document 01: each answer's word by number and what goes with it; refusal numbers; kinds and operations.
 use mathlib.Core.Bool.{Bool, _&&_}
 use mathlib.Core.List.{List, [], _∷_}
 use Prim.Native.Nat.{ℕ}
@@ -34,6 +34,31 @@ wordOf Answer.Ticked = 21
 wordOf (Answer.Value n) = 22
 wordOf Answer.None = 23
 
+-- the words that rules and printing ask for
+abbrev pub READY : ℕ
+READY = 1
+
+abbrev pub SESSION : ℕ
+SESSION = 2
+
+abbrev pub HIT : ℕ
+HIT = 3
+
+abbrev pub BACKOFF : ℕ
+BACKOFF = 5
+
+abbrev pub LEASE : ℕ
+LEASE = 6
+
+abbrev pub STORED : ℕ
+STORED = 7
+
+abbrev pub DONE : ℕ
+DONE = 17
+
+abbrev pub UNDONE : ℕ
+UNDONE = 18
+
 -- the session, token, wait, length or refusal number that goes with the word; 0 where nothing does
 abbrev pub detailOf : Answer → ℕ
 detailOf (Answer.Refused n) = n
@@ -61,13 +86,62 @@ detailOf Answer.Ticked = 0
 detailOf (Answer.Value n) = n
 detailOf Answer.None = 0
 
+-- 01, "Refusal numbers"
+abbrev pub STATE : ℕ
+STATE = 1
+
+abbrev pub CLOCK : ℕ
+CLOCK = 2
+
+abbrev pub ARG : ℕ
+ARG = 3
+
+abbrev pub LONG : ℕ
+LONG = 4
+
+abbrev pub NO-SESSION : ℕ
+NO-SESSION = 5
+
+abbrev pub SEALED : ℕ
+SEALED = 6
+
+abbrev pub NOT-SEALED : ℕ
+NOT-SEALED = 7
+
+abbrev pub NO-LEASE : ℕ
+NO-LEASE = 8
+
+abbrev pub KIND : ℕ
+KIND = 9
+
+abbrev pub AHEAD : ℕ
+AHEAD = 10
+
+abbrev pub FULL : ℕ
+FULL = 11
+
+abbrev pub ROOM : ℕ
+ROOM = 12
+
+abbrev pub NUMBERS : ℕ
+NUMBERS = 13
+
+-- the kinds of quarantine
+abbrev pub INVALIDATE : ℕ
+INVALIDATE = 1
+
+abbrev pub REFRESH : ℕ
+REFRESH = 2
+
+abbrev pub INCREMENTAL : ℕ
+INCREMENTAL = 3
+
 -- from low to high
 abbrev pub within : ℕ → ℕ → ℕ → Bool
 within low high n = leb low n && leb n high
 
--- 1 invalidate, 2 refresh, 3 incremental
 abbrev pub isKind : ℕ → Bool
-isKind d = within 1 3 d
+isKind d = within INVALIDATE INCREMENTAL d
 
 -- 1 append, 2 prepend, 3 increment, 4 decrement
 abbrev pub isOperation : ℕ → Bool

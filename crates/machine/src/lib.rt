@@ -4,6 +4,51 @@ ghost use Prim.Native.Nat.{_<_};
 ghost use Rattle.machine.specs.Session.{opened, stepOf, advanced, sealed, isSealed, isDue, validationOf};
 ghost use Rattle.machine.specs.Sizes.{stepMax};
 
+// 01, "Refusal numbers".
+pub const STATE: u8 = 1;
+
+pub const CLOCK: u8 = 2;
+
+pub const ARG: u8 = 3;
+
+pub const LONG: u8 = 4;
+
+pub const NO_SESSION: u8 = 5;
+
+pub const SEALED: u8 = 6;
+
+pub const NOT_SEALED: u8 = 7;
+
+pub const NO_LEASE: u8 = 8;
+
+pub const KIND: u8 = 9;
+
+pub const AHEAD: u8 = 10;
+
+pub const FULL: u8 = 11;
+
+pub const ROOM: u8 = 12;
+
+pub const NUMBERS: u8 = 13;
+
+// 01, "The state and its numbers": the most staging steps, a lifetime's ends in ms, the last time, the largest next number.
+pub const STEP_MAX: u64 = 1000;
+
+pub const LIFE_MIN: u64 = 1;
+
+pub const LIFE_MAX: u64 = 600000;
+
+pub const TIME_MAX: u64 = 281474976710655;
+
+pub const NUMBER_MAX: u32 = 4294967295;
+
+// Kinds of quarantine.
+pub const INVALIDATE: u8 = 1;
+
+pub const REFRESH: u8 = 2;
+
+pub const INCREMENTAL: u8 = 3;
+
 // A command with its numbers, each of 64 bits; the value of FILL, STAGE and DELTA stands beside it.
 pub enum Command {
     Begin,

@@ -16,20 +16,14 @@ use machine::Answer;
 use machine::Session;
 use machine::Validation;
 
-// The largest next number.
-const NUMBER_MAX: u32 = 4294967295;
-
-// The most staging steps.
-const STEP_MAX: u64 = 1000;
-
 // A session opens in the lowest free place.
 fn open(s: &mut [u8], time: u64, i: usize) -> Answer
     requires { ⌜ (length (now s) ≡ stateSize) × ((i < sessionCount) × (time ≤ timeMax)) ⌝ }
     ensures { λ r. ⌜ ((σ : State) → Holds (now (s .entry)) σ → sound σ ≡ true → place free (σ .sessions) ≡ i → Gives (tried σ time Begin []) r (now (s .exit))) ⌝ }
 {
     let n = header::next_session(s);
-    if NUMBER_MAX <= n {
-        return Answer::Refused(13);
+    if machine::NUMBER_MAX <= n {
+        return Answer::Refused(machine::NUMBERS);
     }
     let until = time + header::write_life(s);
     sessions::store(s, i, Session::open(n, until));
@@ -44,7 +38,7 @@ pub fn begin(s: &mut [u8], time: u64) -> Answer
     let f = sessions::free_place(s);
     match f {
         Found::At(i) => open(s, time, i),
-        Found::Nothing => Answer::Refused(11),
+        Found::Nothing => Answer::Refused(machine::FULL),
     }
 }
 
@@ -64,7 +58,7 @@ fn validate_at(s: &mut [u8], session: u64, n: u64, i: usize) -> Answer
             endings::leave(s, x.number, i);
             Answer::Lost
         }
-        Validation::Clashes => Answer::Refused(6),
+        Validation::Clashes => Answer::Refused(machine::SEALED),
     }
 }
 
@@ -72,13 +66,13 @@ pub fn validate(s: &mut [u8], session: u64, n: u64) -> Answer
     requires { ⌜ length (now s) ≡ stateSize ⌝ }
     ensures { λ r. ⌜ Does (now (s .entry)) (λ σ. tried σ 0 (Validate session n) []) r (now (s .exit)) ⌝ }
 {
-    if STEP_MAX < n {
-        return Answer::Refused(3);
+    if machine::STEP_MAX < n {
+        return Answer::Refused(machine::ARG);
     }
     let f = sessions::find(s, session);
     match f {
         Found::At(i) => validate_at(s, session, n, i),
-        Found::Nothing => Answer::Refused(5),
+        Found::Nothing => Answer::Refused(machine::NO_SESSION),
     }
 }
 
@@ -88,7 +82,7 @@ fn done_at(s: &mut [u8], session: u64, i: usize) -> Answer
 {
     let x = sessions::load(s, i);
     if !x.is_sealed() {
-        return Answer::Refused(7);
+        return Answer::Refused(machine::NOT_SEALED);
     }
     endings::finish(s, x.number, i);
     Answer::Done
@@ -101,7 +95,7 @@ pub fn done(s: &mut [u8], session: u64) -> Answer
     let f = sessions::find(s, session);
     match f {
         Found::At(i) => done_at(s, session, i),
-        Found::Nothing => Answer::Refused(5),
+        Found::Nothing => Answer::Refused(machine::NO_SESSION),
     }
 }
 
@@ -121,6 +115,6 @@ pub fn undo(s: &mut [u8], session: u64) -> Answer
     let f = sessions::find(s, session);
     match f {
         Found::At(i) => undo_at(s, session, i),
-        Found::Nothing => Answer::Refused(5),
+        Found::Nothing => Answer::Refused(machine::NO_SESSION),
     }
 }
