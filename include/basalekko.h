@@ -15,8 +15,9 @@
  *    each other, since the library keeps nothing between calls: no pointer, no variable of its own.
  *  - The state lies where the host likes and lives as long as the host likes. It is plain bytes: it may be copied, moved, saved and
  *    loaded; the place that a HIT tells counts from its first byte and holds until the next command.
- *  - 16 KiB of stack (tools/linked prints what each function needs at most), and the C library's
- *    memcpy and memset (libbasalekko-alone.a has them). Nothing else is called: no allocation, no system call, no floating point.
+ *  - 16 KiB of stack (tools/linked prints what each function needs at most).
+ *
+ * The library calls nothing of the host's: no allocation, no system call, no C library; and it has no floating point.
  */
 #ifndef BASALEKKO_H
 #define BASALEKKO_H

@@ -1,6 +1,6 @@
 //! The well-formed check: the same buffers to both.
 
-use crate::random::Random;
+use second::generate::Random;
 use crate::states::{at_last_step, at_last_time, at_the_end, crowded, fresh, full, used};
 use compare::proved;
 use second::lent::well_formed;
@@ -39,7 +39,7 @@ fn damages(tally: &mut Tally, random: &mut Random, states: &[Vec<u8>], rounds: u
         for _ in 0..=random.below(64) * u64::from(random.below(3) == 0) {
             let at = random.below(STATE_BYTES as u64) as usize;
             state[at] = match random.below(3) {
-                0 => random.next() as u8,
+                0 => random.any() as u8,
                 1 => random.below(4) as u8,
                 _ => state[random.below(STATE_BYTES as u64) as usize],
             };
@@ -70,7 +70,7 @@ fn shapes(tally: &mut Tally, random: &mut Random, state: &[u8]) {
     }
     for _ in 0..100 {
         let length = [STATE_BYTES, random.below(70_000) as usize][random.below(2) as usize];
-        let bytes: Vec<u8> = (0..length).map(|_| random.next() as u8).collect();
+        let bytes: Vec<u8> = (0..length).map(|_| random.any() as u8).collect();
         tally.look(&bytes);
     }
 }

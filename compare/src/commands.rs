@@ -1,6 +1,6 @@
 //! Commands to run: most of them fit the state, some are beside it.
 
-use crate::random::Random;
+use second::generate::Random;
 use second::lent::layout::*;
 use second::numbers::MOST_STEPS;
 use second::Command;
@@ -31,7 +31,7 @@ pub fn command(random: &mut Random, state: &[u8], near: u64) -> (Command, Vec<u8
 /// A session's number: most often a live one's, else one lately given, 0 or anything.
 fn session(random: &mut Random, state: &Bytes, near: u64) -> u64 {
     match random.below(30) {
-        0 => random.next(),
+        0 => random.any(),
         1 => 0,
         2..=6 => recent(random, u32_at(state, NEXT_SESSION), near),
         _ => taken(random, sessions(state), NUMBER).map_or(1, |record| u32_at(record, NUMBER)),
@@ -95,7 +95,7 @@ fn value(random: &mut Random) -> Vec<u8> {
     if random.below(2) == 0 {
         let count = match random.below(4) {
             0 => u64::MAX - random.below(3),
-            1 => random.next(),
+            1 => random.any(),
             _ => random.below(1_000),
         };
         let zeros = "0".repeat(if random.below(8) == 0 { random.below(4) as usize } else { 0 });
@@ -106,5 +106,5 @@ fn value(random: &mut Random) -> Vec<u8> {
         1 => 60 + random.below(5),
         _ => random.below(33),
     };
-    (0..length).map(|_| random.next() as u8).collect()
+    (0..length).map(|_| random.any() as u8).collect()
 }

@@ -2,7 +2,6 @@
 
 mod check;
 mod commands;
-mod random;
 mod run;
 mod show;
 mod start;

@@ -1,7 +1,7 @@
 //! The commands: the same sequences to both, the answer and all 65,536 bytes compared after every one.
 
 use crate::commands::{self, command};
-use crate::random::Random;
+use second::generate::Random;
 use crate::show;
 use crate::states::{at_last_step, at_last_time, at_the_end, crowded, fresh, full, stands_at, used, ENDS};
 use crate::tally::{told, wanted, Tally};
@@ -39,7 +39,7 @@ impl Pair<'_> {
     /// One command on both. The numbers that it doesn't have are anything.
     fn step(&mut self, now: u64, command: Command, value: &[u8]) {
         let mut numbers = proved::numbers(command);
-        numbers[Command::fields(command.number())..].fill_with(|| self.random.next());
+        numbers[Command::fields(command.number())..].fill_with(|| self.random.any());
         let proved = proved::run(&mut self.ours, now, command.number(), numbers, value);
         let second = told(lent::run(&mut self.theirs, now, command, value));
         self.tally.look((now, command, value), proved, second, self.ours == self.theirs);
@@ -51,7 +51,7 @@ impl Pair<'_> {
 
     /// A command whose number is none of the list: ARG, behind STATE and CLOCK, as of a key over 255.
     fn outside(&mut self, now: u64) {
-        let number = [0, 12, 13, u64::MAX, self.random.next()][self.random.below(5) as usize];
+        let number = [0, 12, 13, u64::MAX, self.random.any()][self.random.below(5) as usize];
         let proved = proved::run(&mut self.ours, now, number, [0; 4], b"");
         let second = told(lent::run(&mut self.theirs, now, Command::Evict { key: 256 }, b""));
         self.tally.look((now, number), proved, second, self.ours == self.theirs);
@@ -94,8 +94,8 @@ impl Pair<'_> {
             11 => (session, self.random.below(near)),
             12 => (0, key),
             13 => (u32_at(state, NEXT_SESSION), key),
-            14 => (self.random.next(), self.random.below(258)),
-            _ => (session, 256 + self.random.below(2) * self.random.next() / 2),
+            14 => (self.random.any(), self.random.below(258)),
+            _ => (session, 256 + self.random.below(2) * self.random.any() / 2),
         }
     }
 
@@ -128,7 +128,7 @@ impl Pair<'_> {
             2 => 4_999,
             3..=22 => return clock.wrapping_sub(1),
             23..=28 => return LAST_TIME + 1 + self.random.below(2),
-            29 => return self.random.next(),
+            29 => return self.random.any(),
             _ => self.random.below(30) / 20,
         };
         (clock + later).min(LAST_TIME)

@@ -1,6 +1,6 @@
 //! START: buffers of every kind and length, lifetimes in and out of range.
 
-use crate::random::Random;
+use second::generate::Random;
 use crate::states::full;
 use crate::tally::{told, wanted, Tally};
 use compare::proved;
@@ -19,7 +19,7 @@ fn lifetime(random: &mut Random) -> u64 {
         1 => 1,
         2 => LONGEST_LIFETIME,
         3 => LONGEST_LIFETIME + 1,
-        4 => random.next(),
+        4 => random.any(),
         5 => (1 << 32) + 1 + random.below(LONGEST_LIFETIME),
         _ => 1 + random.below(LONGEST_LIFETIME),
     }
@@ -34,8 +34,8 @@ fn buffer(random: &mut Random, full: &[u8]) -> Vec<u8> {
     };
     let mut buffer = match random.below(3) {
         0 => full.to_vec(),
-        1 => vec![random.next() as u8; length],
-        _ => (0..length.div_ceil(8)).flat_map(|_| random.next().to_le_bytes()).collect(),
+        1 => vec![random.any() as u8; length],
+        _ => (0..length.div_ceil(8)).flat_map(|_| random.any().to_le_bytes()).collect(),
     };
     buffer.resize(length, 0);
     buffer

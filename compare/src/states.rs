@@ -1,7 +1,7 @@
 //! Well-formed states to begin with: fresh, used by random commands, full, and at the ends of the numbers.
 
 use crate::commands::command;
-use crate::random::Random;
+use second::generate::Random;
 use second::lent::layout::{rows, sessions, u16_at, u32_at, u64_at, Bytes, CLOCK, COUNT, NEXT_SESSION, NEXT_TOKEN, NUMBER, ROW_SESSION};
 use second::lent::{decode, encode, run, start};
 use second::numbers::{KEYS, LAST_TIME, MOST_STEPS, ROWS, SESSIONS, STATE_BYTES, VALUE_BYTES};

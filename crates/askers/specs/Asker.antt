@@ -1,6 +1,7 @@
 -- The session that asks, as the refusals 5 NO SESSION and 6 SEALED leave it.
 use Prim.Native.Nat.{ℕ, _<_}
 use Rattle.lent.specs.Tables.{if_then_else_}
+use Rattle.machine.specs.Words.{NO-SESSION, SEALED}
 use Rattle.machine.specs.Sizes.{sessionCount}
 use Rattle.machine.specs.Session.{isSealed}
 use Rattle.machine.specs.State.{Slot, noSession, session, State, sessionPlace, sessionOf}
@@ -8,8 +9,8 @@ use Rattle.askers.specs.declared.Asker.{Asker}
 
 -- what stands at place i
 abbrev pub askerAt : ℕ → Slot → Asker
-askerAt i noSession = Asker.Refused 5
-askerAt i (session x) = if isSealed x then Asker.Refused 6 else Asker.Open i x
+askerAt i noSession = Asker.Refused NO-SESSION
+askerAt i (session x) = if isSealed x then Asker.Refused SEALED else Asker.Open i x
 
 -- the session of number n
 unfoldable pub askerOf : State → ℕ → Asker

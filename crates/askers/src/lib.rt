@@ -21,11 +21,11 @@ pub fn find(s: &[u8], n: u64) -> Asker
     ensures { λ r. ⌜ ((σ : State) → Holds (now (s .entry)) σ → r ≡ askerOf σ n) × Placed r ⌝ }
 {
     let Found::At(place) = sessions::find(s, n) else {
-        return Asker::Refused(5);
+        return Asker::Refused(machine::NO_SESSION);
     };
     let session = sessions::load(s, place);
     if session.is_sealed() {
-        return Asker::Refused(6);
+        return Asker::Refused(machine::SEALED);
     }
     Asker::Open { place, session }
 }

@@ -19,13 +19,6 @@ use counts::Count;
 use machine::Answer;
 use stages::Staging;
 
-// The kind whose row DELTA stages in, and what a row's mark says.
-const INCREMENTAL: u8 = 3;
-
-const VALUED: u8 = 1;
-
-const DROPPED: u8 = 2;
-
 // The operations; the fourth is decrement.
 const APPEND: u64 = 1;
 
@@ -100,10 +93,10 @@ fn work(s: &[u8], row: usize, k: usize, operation: u64, operand: &[u8], out: &mu
     ensures { λ r. ⌜ ((σ : State) → Holds (now (s .entry)) σ → orDrop (valueIn r (now (out .exit))) ≡ changedIn σ row k operation (now (operand .entry))) × Short r ⌝ }
 {
     let mark = rows::mark(s, row);
-    if mark == DROPPED {
+    if mark == layout::DROPPED {
         return Changed::Drop;
     }
-    if mark == VALUED {
+    if mark == layout::VALUED {
         let n = rows::staged_length(s, row);
         let at = layout::ROWS_FROM + row * layout::ROW_WIDTH + layout::ROW_VALUE;
         return operate(operation, operand, &s[at..at + n], out);
@@ -121,7 +114,7 @@ fn change(s: &mut [u8], row: usize, k: usize, operation: u64, operand: &[u8]) ->
     requires { ⌜ (length (now s) ≡ stateSize) × ((row < rowCount) × (k < keyCount)) ⌝ }
     ensures { λ r. ⌜ ((σ : State) → Holds (now (s .entry)) σ → freeRow (rowAt σ row) ≡ false → Gives (changes σ row k operation (now (operand .entry))) r (now (s .exit))) ⌝ }
 {
-    let mut out = [0u8; 64];
+    let mut out = [0u8; layout::VALUE_MAX];
     match work(s, row, k, operation, operand, &mut out) {
         Changed::To(n) => {
             stagings::stage(s, row, &out[..n]);
@@ -147,19 +140,19 @@ pub fn delta(
     ensures { λ r. ⌜ Does (now (s .entry)) (λ σ. tried σ 0 (Delta session step key operation) (now (operand .entry))) r (now (s .exit)) ⌝ }
 {
     if layout::KEY_COUNT as u64 <= key {
-        return Answer::Refused(3);
+        return Answer::Refused(machine::ARG);
     }
     if !decisions::is_operation(operation) {
-        return Answer::Refused(3);
+        return Answer::Refused(machine::ARG);
     }
-    if stages::STEP_MAX <= step {
-        return Answer::Refused(3);
+    if machine::STEP_MAX <= step {
+        return Answer::Refused(machine::ARG);
     }
     if layout::VALUE_MAX < operand.len() {
-        return Answer::Refused(4);
+        return Answer::Refused(machine::LONG);
     }
     let k = key as usize;
-    match stages::find(s, session, step, k, INCREMENTAL) {
+    match stages::find(s, session, step, k, machine::INCREMENTAL) {
         Staging::Refused(e) => Answer::Refused(e),
         Staging::Repeated => Answer::Repeated,
         Staging::At { place, row, next } => {

@@ -9,11 +9,6 @@ ghost use Rattle.machine.specs.Expiry.{withKeys, withRows, setValue, setLease};
 ghost use Rattle.machine.specs.Effects.{toCache};
 ghost use Rattle.layout.specs.Holds.{Holds};
 
-// A mark with the length behind it, in a key and in a row; a lease, its token and its deadline.
-const MARK_WIDTH: usize = 2;
-
-const LEASE_WIDTH: usize = 12;
-
 pub fn free_row(s: &mut [u8], i: usize)
     requires { ⌜ (length (now s) ≡ stateSize) × (i < rowCount) ⌝ }
     ensures { λ _. ⌜ ((σ : State) → Holds (now (s .entry)) σ → Holds (now (s .exit)) (withRows σ (set (σ .rows) i noRow))) ⌝ }
@@ -32,7 +27,7 @@ pub fn drop_lease(s: &mut [u8], k: usize)
     blocks::clear(
         s,
         layout::KEYS_FROM + k * layout::KEY_WIDTH + layout::KEY_TOKEN,
-        LEASE_WIDTH,
+        layout::LEASE_WIDTH,
     );
 }
 
@@ -42,7 +37,7 @@ pub fn drop_value(s: &mut [u8], k: usize)
     ensures { λ _. ⌜ ((σ : State) → Holds (now (s .entry)) σ → Holds (now (s .exit)) (withKeys σ (setValue (σ .keys) k none))) ⌝ }
 {
     let at = layout::KEYS_FROM + k * layout::KEY_WIDTH;
-    blocks::clear(s, at, MARK_WIDTH);
+    blocks::clear(s, at, layout::MARK_WIDTH);
     blocks::clear(s, at + layout::KEY_VALUE, layout::VALUE_MAX);
 }
 
@@ -57,7 +52,7 @@ pub fn cache_staged(s: &mut [u8], k: usize, i: usize)
     }
     let from = layout::ROWS_FROM + i * layout::ROW_WIDTH;
     let at = layout::KEYS_FROM + k * layout::KEY_WIDTH;
-    blocks::copy_within(s, from + layout::ROW_STAGED, at, MARK_WIDTH);
+    blocks::copy_within(s, from + layout::ROW_STAGED, at, layout::MARK_WIDTH);
     blocks::copy_within(
         s,
         from + layout::ROW_VALUE,

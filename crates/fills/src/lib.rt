@@ -14,10 +14,10 @@ pub fn fill(s: &mut [u8], token: u64, key: u64, value: &[u8]) -> Answer
     ensures { λ r. ⌜ Does (now (s .entry)) (λ σ. tried σ 0 (Command.Fill token key) (now (value .entry))) r (now (s .exit)) ⌝ }
 {
     if layout::KEY_COUNT as u64 <= key {
-        return Answer::Refused(3);
+        return Answer::Refused(machine::ARG);
     }
     if layout::VALUE_MAX < value.len() {
-        return Answer::Refused(4);
+        return Answer::Refused(machine::LONG);
     }
     let k = key as usize;
     let held = keys::lease_token(s, k) as u64;
@@ -37,7 +37,7 @@ pub fn evict(s: &mut [u8], key: u64) -> Answer
     ensures { λ r. ⌜ Does (now (s .entry)) (λ σ. tried σ 0 (Command.Evict key) []) r (now (s .exit)) ⌝ }
 {
     if layout::KEY_COUNT as u64 <= key {
-        return Answer::Refused(3);
+        return Answer::Refused(machine::ARG);
     }
     let k = key as usize;
     if !keys::has_value(s, k) {

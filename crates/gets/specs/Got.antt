@@ -4,6 +4,7 @@ use mathlib.Core.Option.{Option, none, some}
 use lib.Dec.{leb}
 use lib.ListN.{length}
 use Rattle.lent.specs.Tables.{if_then_else_}
+use Rattle.machine.specs.Words.{NUMBERS}
 use Rattle.machine.specs.Sizes.{numberMax}
 use Rattle.machine.specs.State.{State, cached}
 use Rattle.machine.specs.Refusals.{Sight as Seen, blocked, cachedSight}
@@ -20,7 +21,7 @@ asked Sight.Nothing = Answer.Ask
 unfoldable pub absent : State → ℕ → ℕ → Outcome
 absent s now k =
     if blocked s k then told (Answer.Backoff (wait s k now)) s
-    else if leb numberMax (s .head .nextToken) then told (Answer.Refused 13) s
+    else if leb numberMax (s .head .nextToken) then told (Answer.Refused NUMBERS) s
     else leased s now k
 
 -- anyone else: the cached value, HIT

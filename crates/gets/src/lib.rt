@@ -17,7 +17,7 @@ use sights::Sight;
 // The tokens that are given: the number after the last may stand as the next one, and is not given.
 const FIRST_TOKEN: u32 = 1;
 
-const LAST_TOKEN: u32 = 4294967294;
+const LAST_TOKEN: u32 = machine::NUMBER_MAX - 1;
 
 // The next token is given with an I lease.
 fn lease(s: &mut [u8], time: u64, k: usize, token: u32) -> Answer
@@ -41,7 +41,7 @@ fn absent(s: &mut [u8], time: u64, k: usize) -> Answer
     let token = header::next_token(s);
     match token {
         FIRST_TOKEN..=LAST_TOKEN => lease(s, time, k, token),
-        _ => Answer::Refused(13),
+        _ => Answer::Refused(machine::NUMBERS),
     }
 }
 
@@ -73,10 +73,10 @@ pub fn get(s: &mut [u8], time: u64, session: u64, key: u64) -> Answer
     ensures { λ r. ⌜ Does (now (s .entry)) (λ σ. tried σ time (Get session key) []) r (now (s .exit)) ⌝ }
 {
     if layout::KEY_COUNT as u64 <= key {
-        return Answer::Refused(3);
+        return Answer::Refused(machine::ARG);
     }
     if sights::is_unknown(s, session) {
-        return Answer::Refused(5);
+        return Answer::Refused(machine::NO_SESSION);
     }
     let k = key as usize;
     let row = lookups::find(s, session, k);

@@ -12,9 +12,6 @@ ghost use Rattle.machine.specs.Sound.{tokenIn};
 ghost use Rattle.layout.specs.Fields.{valueLength, leaseUntil};
 ghost use Rattle.layout.specs.Holds.{Holds};
 
-// The bytes of an I lease: token and deadline.
-const LEASE_WIDTH: usize = 12;
-
 pub fn has_value(s: &[u8], k: usize) -> bool
     requires { ⌜ (length (now s) ≡ stateSize) × (k < keyCount) ⌝ }
     ensures { λ r. ⌜ ((σ : State) → Holds (now (s .entry)) σ → r ≡ not (isNone (cached σ k))) ⌝ }
@@ -79,5 +76,5 @@ pub fn fill(s: &mut [u8], k: usize, v: &[u8])
 {
     put_value(s, k, v);
     let at = layout::KEYS_FROM + k * layout::KEY_WIDTH;
-    blocks::clear(s, at + layout::KEY_TOKEN, LEASE_WIDTH);
+    blocks::clear(s, at + layout::KEY_TOKEN, layout::LEASE_WIDTH);
 }

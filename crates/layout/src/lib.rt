@@ -38,6 +38,11 @@ pub const KEY_UNTIL: usize = 8;
 
 pub const KEY_VALUE: usize = 16;
 
+// Mark and length of a value, in a key and in a row; token and deadline of an I lease.
+pub const MARK_WIDTH: usize = 2;
+
+pub const LEASE_WIDTH: usize = 12;
+
 // A Q row: session, key, kind, what is staged, its length, the value.
 pub const ROWS_FROM: usize = 20544;
 
@@ -54,6 +59,11 @@ pub const ROW_STAGED: usize = 6;
 pub const ROW_LENGTH: usize = 7;
 
 pub const ROW_VALUE: usize = 8;
+
+// The marks of a row: a value is staged, or DROP.
+pub const VALUED: u8 = 1;
+
+pub const DROPPED: u8 = 2;
 
 // A session: number, 1 open or 2 sealed, count, deadline.
 pub const SESSIONS_FROM: usize = 48192;

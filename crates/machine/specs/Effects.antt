@@ -9,6 +9,7 @@ use Rattle.lent.specs.Tables.{if_then_else_}
 use Rattle.counts.specs.Count.{readCount, decimal, raised, lowered}
 use Rattle.counts.specs.declared.Count.{Count}
 use Rattle.machine.specs.Sizes.{valueMax}
+use Rattle.machine.specs.Words.{APPEND, PREPEND, INCREMENT}
 use Rattle.machine.specs.Tables.{putAt, isNone}
 use Rattle.machine.specs.Session.{opened, advanced, sealed}
 use Rattle.machine.specs.Decision.{grants}
@@ -109,13 +110,13 @@ fits v = if leb (length v) valueMax then some v else none
 abbrev pub counts : ℕ → Count → Count → Option Value
 counts operation Count.Not x = none
 counts operation (Count.Is a) Count.Not = none
-counts operation (Count.Is a) (Count.Is b) = some (decimal (if eqb operation 3 then raised a b else lowered a b))
+counts operation (Count.Is a) (Count.Is b) = some (decimal (if eqb operation INCREMENT then raised a b else lowered a b))
 
 -- 1 append, 2 prepend; the operand x on the value v
 unfoldable pub operate : ℕ → Value → Value → Option Value
 operate operation x v =
-    if eqb operation 1 then fits (v ++ x)
-    else if eqb operation 2 then fits (x ++ v)
+    if eqb operation APPEND then fits (v ++ x)
+    else if eqb operation PREPEND then fits (x ++ v)
     else counts operation (readCount v) (readCount x)
 
 abbrev pub orDrop : Option Value → Staged

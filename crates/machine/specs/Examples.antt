@@ -2,6 +2,7 @@
 use mathlib.Core.List.{List, [], _∷_, _++_}
 use Prim.Native.Nat.{ℕ}
 use lib.ListN.{replicate}
+use Rattle.machine.specs.Words.{CLOCK, ARG, NO-SESSION, AHEAD, FULL}
 use Rattle.machine.specs.State.{Value, State, fresh}
 use Rattle.machine.specs.Effects.{Outcome}
 use Rattle.machine.specs.Step.{step}
@@ -69,20 +70,20 @@ abbrev p1 : Example
 p1 = record {
   first = replicate 128 (bare 0 Begin);
   then = bare 0 Begin ∷ bare 0 (Undo 5) ∷ bare 0 Begin ∷ [];
-  gives = says (Answer.Refused 11) ∷ says Answer.Undone ∷ says (Answer.Session 129) ∷ [];
+  gives = says (Answer.Refused FULL) ∷ says Answer.Undone ∷ says (Answer.Session 129) ∷ [];
 }
 
 abbrev p2 : Example
 p2 = record { first = bare 0 Begin ∷ []; then = bare 4999 (Validate 1 0) ∷ []; gives = says Answer.Validated ∷ [] }
 
 abbrev p2-late : Example
-p2-late = record { first = bare 0 Begin ∷ []; then = bare 5000 (Validate 1 0) ∷ []; gives = says (Answer.Refused 5) ∷ [] }
+p2-late = record { first = bare 0 Begin ∷ []; then = bare 5000 (Validate 1 0) ∷ []; gives = says (Answer.Refused NO-SESSION) ∷ [] }
 
 abbrev p3 : Example
-p3 = record { first = []; then = bare 0 (Get 0 255) ∷ bare 0 (Get 0 256) ∷ []; gives = says (Answer.Lease 1) ∷ says (Answer.Refused 3) ∷ [] }
+p3 = record { first = []; then = bare 0 (Get 0 255) ∷ bare 0 (Get 0 256) ∷ []; gives = says (Answer.Lease 1) ∷ says (Answer.Refused ARG) ∷ [] }
 
 abbrev p4 : Example
-p4 = record { first = bare 9 Tick ∷ []; then = bare 9 Tick ∷ bare 8 Tick ∷ []; gives = says Answer.Ticked ∷ says (Answer.Refused 2) ∷ [] }
+p4 = record { first = bare 9 Tick ∷ []; then = bare 9 Tick ∷ bare 8 Tick ∷ []; gives = says Answer.Ticked ∷ says (Answer.Refused CLOCK) ∷ [] }
 
 abbrev p5 : Example
 p5 = counted largest 3 (49 ∷ []) Answer.Staged (staged 1 (48 ∷ []))
@@ -113,7 +114,7 @@ abbrev p11 : Example
 p11 = record {
   first = bare 0 Begin ∷ bare 0 (Quar 1 7 2) ∷ [];
   then = bare 0 (Stage 1 0 7) ∷ bare 0 (Stage 1 0 7) ∷ bare 0 (Stage 1 2 7) ∷ bare 0 (Validate 1 2) ∷ [];
-  gives = says Answer.Staged ∷ says Answer.Repeated ∷ says (Answer.Refused 10) ∷ says Answer.Lost ∷ [];
+  gives = says Answer.Staged ∷ says Answer.Repeated ∷ says (Answer.Refused AHEAD) ∷ says Answer.Lost ∷ [];
 }
 
 abbrev p12 : Example

@@ -7,7 +7,7 @@ use lib.ListN.{length, getD}
 use lib.Dec.{eqb, leb, ltb}
 use Rattle.lent.specs.Tables.{if_then_else_, every, some as someAt}
 use Rattle.machine.specs.Sizes.{keyCount, sessionCount, rowCount, valueMax, stepMax, lifeMax, timeMax, numberMax}
-use Rattle.machine.specs.Words.{within, isKind}
+use Rattle.machine.specs.Words.{INVALIDATE, INCREMENTAL, within, isKind}
 use Rattle.machine.specs.State.{Value, Head, Lease, Key, Slot, noSession, session, Staged, nothing, staged, DROP, Row, noRow, row, State, blank, keyOf, sessionAt, rowAt}
 use Rattle.machine.specs.declared.Life.{Life}
 use Rattle.machine.specs.declared.Session.{Session}
@@ -68,7 +68,7 @@ sessionSound h (session x) = given (h .nextSession) (x .number) && (leb (x .coun
 abbrev pub stagedSound : ℕ → Staged → Bool
 stagedSound d nothing = true
 stagedSound d (staged v) = leb 2 d && valueSound v
-stagedSound d DROP = eqb d 3
+stagedSound d DROP = eqb d INCREMENTAL
 
 -- a session number that is not 0, a key below 256, a kind 1 to 3
 unfoldable pub rowSound : Row → Bool
@@ -127,7 +127,7 @@ rowsOnce s = every (λ i. every (λ j. once (rowAt s j) (rowAt s i)) i) rowCount
 abbrev pub shares : Row → Row → Bool
 shares noRow r = true
 shares (row m j e u) noRow = true
-shares (row m j e u) (row n k d v) = if eqb j k then eqb e 1 && eqb d 1 else true
+shares (row m j e u) (row n k d v) = if eqb j k then eqb e INVALIDATE && eqb d INVALIDATE else true
 
 -- rows of kinds 2 and 3 are alone on their key
 unfoldable pub rowsAlone : State → Bool

@@ -143,9 +143,21 @@ within low high n = leb low n && leb n high
 abbrev pub isKind : ℕ → Bool
 isKind d = within INVALIDATE INCREMENTAL d
 
--- 1 append, 2 prepend, 3 increment, 4 decrement
+-- the operations of DELTA
+abbrev pub APPEND : ℕ
+APPEND = 1
+
+abbrev pub PREPEND : ℕ
+PREPEND = 2
+
+abbrev pub INCREMENT : ℕ
+INCREMENT = 3
+
+abbrev pub DECREMENT : ℕ
+DECREMENT = 4
+
 abbrev pub isOperation : ℕ → Bool
-isOperation o = within 1 4 o
+isOperation o = within APPEND DECREMENT o
 
 -- the words with which each accepted command can be answered
 abbrev pub wordsOf : Command → List ℕ

@@ -10,11 +10,7 @@ const NOTES_FROM: usize = 32;
 
 const NOTE_WIDTH: usize = 65;
 
-const KEY_COUNT: usize = 256;
-
-const KEYS_END: u64 = 256;
-
-const VALUE_MAX: usize = 64;
+const KEYS_END: u64 = layout::KEY_COUNT as u64;
 
 // The length of the value in note i.
 fn note_length(b: &[u8], i: usize) -> usize
@@ -22,10 +18,10 @@ fn note_length(b: &[u8], i: usize) -> usize
     ensures { λ r. ⌜ (r ≡ min (getD (now (b .entry)) (noteAt i) 0) valueMax) × (r ≤ valueMax) ⌝ }
 {
     let n = lent::index(b[NOTES_FROM + i * NOTE_WIDTH]);
-    if n <= VALUE_MAX {
+    if n <= layout::VALUE_MAX {
         return n;
     }
-    VALUE_MAX
+    layout::VALUE_MAX
 }
 
 // Whether note i is the value.
@@ -80,7 +76,7 @@ pub fn is_granted(b: &[u8], key: u64, v: &[u8]) -> bool
     if KEYS_END <= key {
         return v.len() == 0;
     }
-    note_is(b, KEY_COUNT + key as usize, v)
+    note_is(b, layout::KEY_COUNT + key as usize, v)
 }
 
 // The register writes the value to the key.
@@ -103,5 +99,5 @@ pub fn grant(b: &mut [u8], key: u64)
         return;
     }
     let k = key as usize;
-    copy_note(b, k, KEY_COUNT + k);
+    copy_note(b, k, layout::KEY_COUNT + k);
 }

@@ -5,6 +5,7 @@ use mathlib.Core.List.{[], _∷_}
 use mathlib.Core.Option.{none}
 use lib.Dec.{eqb}
 use Rattle.lent.specs.Tables.{if_then_else_}
+use Rattle.machine.specs.Words.{ROOM}
 use Rattle.machine.specs.Tables.{putAt}
 use Rattle.machine.specs.Decision.{grants}
 use Rattle.machine.specs.State.{State, row, nothing, freeRow, kindOf, rowOf}
@@ -17,7 +18,7 @@ abbrev pub granted : State → ℕ → ℕ → ℕ → Outcome
 granted s n k kind = told Answer.Granted (withKeys (withRows s (putAt freeRow (row n k kind nothing) (s .rows))) (setLease (s .keys) k none))
 
 abbrev pub grant : State → ℕ → ℕ → ℕ → Outcome
-grant s n k kind = if rowsFull s then told (Answer.Refused 12) s else granted s n k kind
+grant s n k kind = if rowsFull s then told (Answer.Refused ROOM) s else granted s n k kind
 
 abbrev pub abort : State → ℕ → Outcome
 abort s n = told Answer.Aborted (leave (n ∷ []) s)

@@ -52,7 +52,7 @@ fn grant(s: &mut [u8], n: u32, k: u8, kind: u8) -> Answer
     ensures { λ r. ⌜ ((σ : State) → Holds (now (s .entry)) σ → 1 ≤ n → Gives (grant σ n k kind) r (now (s .exit))) ⌝ }
 {
     let Found::At(i) = lookups::free_place(s) else {
-        return Answer::Refused(12);
+        return Answer::Refused(machine::ROOM);
     };
     stagings::put(s, i, n, k, kind);
     drops::drop_lease(s, k as usize);
@@ -97,10 +97,10 @@ pub fn quar(s: &mut [u8], session: u64, key: u64, kind: u64) -> Answer
     ensures { λ r. ⌜ Does (now (s .entry)) (λ σ. tried σ 0 (Quar session key kind) []) r (now (s .exit)) ⌝ }
 {
     if layout::KEY_COUNT as u64 <= key {
-        return Answer::Refused(3);
+        return Answer::Refused(machine::ARG);
     }
     if !decisions::is_kind(kind) {
-        return Answer::Refused(3);
+        return Answer::Refused(machine::ARG);
     }
     match askers::find(s, session) {
         Asker::Refused(e) => Answer::Refused(e),

@@ -21,17 +21,6 @@ use stages::Staging;
 
 mod after;
 
-// 2^48 - 1, the last time.
-const TIME_MAX: u64 = 281474976710655;
-
-// The largest next number, which is not given.
-const NUMBER_MAX: u32 = 4294967295;
-
-// The kinds in whose rows STAGE and DELTA stage.
-const REFRESH: u8 = 2;
-
-const INCREMENTAL: u8 = 3;
-
 // The number of a refusal, or none.
 pub enum Refusal {
     Is(u8),
@@ -43,10 +32,10 @@ fn begin(s: &[u8], time: u64) -> Refusal
     ensures { λ r. ⌜ Meets (now (s .entry)) time (λ σ. first (refusals σ Begin [])) r ⌝ }
 {
     if after::sessions_full(s, time) {
-        return Refusal::Is(11);
+        return Refusal::Is(machine::FULL);
     }
-    if NUMBER_MAX <= header::next_session(s) {
-        return Refusal::Is(13);
+    if machine::NUMBER_MAX <= header::next_session(s) {
+        return Refusal::Is(machine::NUMBERS);
     }
     Refusal::Nothing
 }
@@ -71,16 +60,16 @@ fn get(s: &[u8], time: u64, session: u64, key: u64) -> Refusal
     ensures { λ r. ⌜ Meets (now (s .entry)) time (λ σ. first (refusals σ (Get session key) [])) r ⌝ }
 {
     if layout::KEY_COUNT as u64 <= key {
-        return Refusal::Is(3);
+        return Refusal::Is(machine::ARG);
     }
     if is_unknown(s, session, time) {
-        return Refusal::Is(5);
+        return Refusal::Is(machine::NO_SESSION);
     }
-    if header::next_token(s) < NUMBER_MAX {
+    if header::next_token(s) < machine::NUMBER_MAX {
         return Refusal::Nothing;
     }
     if after::would_lease(s, key as usize, time) {
-        return Refusal::Is(13);
+        return Refusal::Is(machine::NUMBERS);
     }
     Refusal::Nothing
 }
@@ -89,10 +78,10 @@ fn fill(key: u64, value: &[u8]) -> Refusal
     ensures { λ r. ⌜ ((σ : State) (token : ℕ) → r ≡ refusalOf (first (refusals σ (Fill token key) (now (value .entry))))) ⌝ }
 {
     if layout::KEY_COUNT as u64 <= key {
-        return Refusal::Is(3);
+        return Refusal::Is(machine::ARG);
     }
     if layout::VALUE_MAX < value.len() {
-        return Refusal::Is(4);
+        return Refusal::Is(machine::LONG);
     }
     Refusal::Nothing
 }
@@ -103,22 +92,22 @@ fn quar(s: &[u8], time: u64, session: u64, key: u64, kind: u64) -> Refusal
     ensures { λ r. ⌜ Meets (now (s .entry)) time (λ σ. first (refusals σ (Quar session key kind) [])) r ⌝ }
 {
     if layout::KEY_COUNT as u64 <= key {
-        return Refusal::Is(3);
+        return Refusal::Is(machine::ARG);
     }
     if !decisions::is_kind(kind) {
-        return Refusal::Is(3);
+        return Refusal::Is(machine::ARG);
     }
     let Left::Is(x) = after::session(s, session, time) else {
-        return Refusal::Is(5);
+        return Refusal::Is(machine::NO_SESSION);
     };
     if x.is_sealed() {
-        return Refusal::Is(6);
+        return Refusal::Is(machine::SEALED);
     }
     if !after::rows_full(s, time) {
         return Refusal::Nothing;
     }
     if quars::would_grant(s, x.number, key as u8, kind as u8) {
-        return Refusal::Is(12);
+        return Refusal::Is(machine::ROOM);
     }
     Refusal::Nothing
 }
@@ -129,7 +118,7 @@ fn staging(s: &[u8], time: u64, session: u64, step: u64, k: usize, kind: u8) -> 
     ensures { λ r. ⌜ Meets (now (s .entry)) time (λ σ. first (stagingRefusals σ session step k kind)) r ⌝ }
 {
     if let Left::Nobody = after::session(s, session, time) {
-        return Refusal::Is(5);
+        return Refusal::Is(machine::NO_SESSION);
     }
     match stages::find(s, session, step, k, kind) {
         Staging::Refused(e) => Refusal::Is(e),
@@ -147,15 +136,15 @@ fn stage(s: &[u8], time: u64, session: u64, step: u64, key: u64, value: &[u8]) -
     ensures { λ r. ⌜ Meets (now (s .entry)) time (λ σ. first (refusals σ (Stage session step key) (now (value .entry)))) r ⌝ }
 {
     if layout::KEY_COUNT as u64 <= key {
-        return Refusal::Is(3);
+        return Refusal::Is(machine::ARG);
     }
-    if stages::STEP_MAX <= step {
-        return Refusal::Is(3);
+    if machine::STEP_MAX <= step {
+        return Refusal::Is(machine::ARG);
     }
     if layout::VALUE_MAX < value.len() {
-        return Refusal::Is(4);
+        return Refusal::Is(machine::LONG);
     }
-    staging(s, time, session, step, key as usize, REFRESH)
+    staging(s, time, session, step, key as usize, machine::REFRESH)
 }
 
 fn delta(
@@ -171,34 +160,34 @@ fn delta(
     ensures { λ r. ⌜ Meets (now (s .entry)) time (λ σ. first (refusals σ (Delta session step key operation) (now (operand .entry)))) r ⌝ }
 {
     if layout::KEY_COUNT as u64 <= key {
-        return Refusal::Is(3);
+        return Refusal::Is(machine::ARG);
     }
     if !decisions::is_operation(operation) {
-        return Refusal::Is(3);
+        return Refusal::Is(machine::ARG);
     }
-    if stages::STEP_MAX <= step {
-        return Refusal::Is(3);
+    if machine::STEP_MAX <= step {
+        return Refusal::Is(machine::ARG);
     }
     if layout::VALUE_MAX < operand.len() {
-        return Refusal::Is(4);
+        return Refusal::Is(machine::LONG);
     }
-    staging(s, time, session, step, key as usize, INCREMENTAL)
+    staging(s, time, session, step, key as usize, machine::INCREMENTAL)
 }
 
 fn validate(s: &[u8], time: u64, session: u64, count: u64) -> Refusal
     requires { ⌜ length (now s) ≡ stateSize ⌝ }
     ensures { λ r. ⌜ Meets (now (s .entry)) time (λ σ. first (refusals σ (Validate session count) [])) r ⌝ }
 {
-    if stages::STEP_MAX < count {
-        return Refusal::Is(3);
+    if machine::STEP_MAX < count {
+        return Refusal::Is(machine::ARG);
     }
     let Left::Is(x) = after::session(s, session, time) else {
-        return Refusal::Is(5);
+        return Refusal::Is(machine::NO_SESSION);
     };
     match x.validate(count) {
         Validation::Seals(_) => Refusal::Nothing,
         Validation::Loses => Refusal::Nothing,
-        Validation::Clashes => Refusal::Is(6),
+        Validation::Clashes => Refusal::Is(machine::SEALED),
     }
 }
 
@@ -207,10 +196,10 @@ fn done(s: &[u8], time: u64, session: u64) -> Refusal
     ensures { λ r. ⌜ Meets (now (s .entry)) time (λ σ. first (refusals σ (Done session) [])) r ⌝ }
 {
     let Left::Is(x) = after::session(s, session, time) else {
-        return Refusal::Is(5);
+        return Refusal::Is(machine::NO_SESSION);
     };
     if !x.is_sealed() {
-        return Refusal::Is(7);
+        return Refusal::Is(machine::NOT_SEALED);
     }
     Refusal::Nothing
 }
@@ -221,7 +210,7 @@ fn undo(s: &[u8], time: u64, session: u64) -> Refusal
 {
     match after::session(s, session, time) {
         Left::Is(_) => Refusal::Nothing,
-        Left::Nobody => Refusal::Is(5),
+        Left::Nobody => Refusal::Is(machine::NO_SESSION),
     }
 }
 
@@ -229,7 +218,7 @@ fn evict(key: u64) -> Refusal
     ensures { λ r. ⌜ ((σ : State) → r ≡ refusalOf (first (refusals σ (Evict key) []))) ⌝ }
 {
     if layout::KEY_COUNT as u64 <= key {
-        return Refusal::Is(3);
+        return Refusal::Is(machine::ARG);
     }
     Refusal::Nothing
 }
@@ -265,10 +254,10 @@ pub fn find(s: &[u8], time: u64, command: Command, value: &[u8]) -> Refusal
     ensures { λ r. ⌜ Meets (now (s .entry)) time (λ σ. refusal σ time command (now (value .entry))) r ⌝ }
 {
     if time < header::clock(s) {
-        return Refusal::Is(2);
+        return Refusal::Is(machine::CLOCK);
     }
-    if TIME_MAX < time {
-        return Refusal::Is(2);
+    if machine::TIME_MAX < time {
+        return Refusal::Is(machine::CLOCK);
     }
     of(s, time, command, value)
 }

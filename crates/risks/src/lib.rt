@@ -25,9 +25,6 @@ const UNDO_RULE: u64 = 3;
 
 const DONE_RULE: u64 = 4;
 
-// A value is staged.
-const STAGED: u8 = 1;
-
 // Rule 1: the value is neither what the register holds nor what it held at the grant.
 fn fill_risk(book: &[u8], key: u64, value: &[u8]) -> u64
     requires { ⌜ length (now book) ≡ bookSize ⌝ }
@@ -62,7 +59,7 @@ fn is_stale(cache: &[u8], book: &[u8], session: u64, i: usize) -> bool
     if rows::session(cache, i) as u64 != session {
         return false;
     }
-    if rows::mark(cache, i) != STAGED {
+    if rows::mark(cache, i) != layout::VALUED {
         return false;
     }
     let key = rows::key(cache, i) as u64;

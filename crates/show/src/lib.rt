@@ -10,7 +10,7 @@ pub fn show(s: &[u8], session: u64, key: u64) -> Answer
     ensures { λ r. ⌜ r ≡ showOf (now (s .entry)) session key .answer ⌝ }
 {
     if !state::well_formed(s) {
-        return Answer::Refused(1);
+        return Answer::Refused(machine::STATE);
     }
     stretches::show(s, session, key)
 }

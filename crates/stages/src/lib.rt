@@ -16,12 +16,6 @@ use machine::Answer;
 use machine::Session;
 use machine::Step;
 
-// A step is below this, the largest count.
-pub const STEP_MAX: u64 = 1000;
-
-// The kind whose row STAGE stages in.
-const REFRESH: u8 = 2;
-
 // A refusal, a step that was taken before, or where the session and its row stand and the session's next record.
 pub enum Staging {
     Refused(u8),
@@ -39,14 +33,14 @@ fn steps(s: &[u8], place: usize, session: Session, step: u64, k: usize, kind: u8
     ensures { λ r. ⌜ ((σ : State) → Holds (now (s .entry)) σ → askerOf σ (session .number) ≡ Asked.Open place session → r ≡ stagingOf σ (session .number) step k kind) × Placed r ⌝ }
 {
     let Found::At(row) = lookups::find(s, session.number as u64, k) else {
-        return Staging::Refused(8);
+        return Staging::Refused(machine::NO_LEASE);
     };
     if rows::kind(s, row) != kind {
-        return Staging::Refused(9);
+        return Staging::Refused(machine::KIND);
     }
     match session.step(step) {
         Step::Repeats => Staging::Repeated,
-        Step::Ahead => Staging::Refused(10),
+        Step::Ahead => Staging::Refused(machine::AHEAD),
         Step::Acts(next) => Staging::At { place, row, next },
     }
 }
@@ -72,15 +66,15 @@ pub fn stage(s: &mut [u8], session: u64, step: u64, key: u64, value: &[u8]) -> A
     ensures { λ r. ⌜ Does (now (s .entry)) (λ σ. tried σ 0 (Stage session step key) (now (value .entry))) r (now (s .exit)) ⌝ }
 {
     if layout::KEY_COUNT as u64 <= key {
-        return Answer::Refused(3);
+        return Answer::Refused(machine::ARG);
     }
-    if STEP_MAX <= step {
-        return Answer::Refused(3);
+    if machine::STEP_MAX <= step {
+        return Answer::Refused(machine::ARG);
     }
     if layout::VALUE_MAX < value.len() {
-        return Answer::Refused(4);
+        return Answer::Refused(machine::LONG);
     }
-    match find(s, session, step, key as usize, REFRESH) {
+    match find(s, session, step, key as usize, machine::REFRESH) {
         Staging::Refused(e) => Answer::Refused(e),
         Staging::Repeated => Answer::Repeated,
         Staging::At { place, row, next } => {

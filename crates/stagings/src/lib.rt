@@ -32,7 +32,7 @@ pub fn stage(s: &mut [u8], i: usize, v: &[u8])
 {
     let at = layout::ROWS_FROM + i * layout::ROW_WIDTH;
     let n = v.len() as u8;
-    layout::store_pair(s, at + layout::ROW_STAGED, 1, n);
+    layout::store_pair(s, at + layout::ROW_STAGED, layout::VALUED, n);
     layout::store_value(s, at + layout::ROW_VALUE, v);
 }
 
@@ -42,6 +42,6 @@ pub fn stage_drop(s: &mut [u8], i: usize)
     ensures { λ _. ⌜ ((σ : State) → Holds (now (s .entry)) σ → freeRow (rowAt σ i) ≡ false → Holds (now (s .exit)) (withRows σ (set (σ .rows) i (restaged DROP (rowAt σ i))))) ⌝ }
 {
     let at = layout::ROWS_FROM + i * layout::ROW_WIDTH;
-    layout::store_pair(s, at + layout::ROW_STAGED, 2, 0);
+    layout::store_pair(s, at + layout::ROW_STAGED, layout::DROPPED, 0);
     blocks::clear(s, at + layout::ROW_VALUE, layout::VALUE_MAX);
 }

@@ -9,18 +9,13 @@ ghost use Rattle.layout.specs.Layout.{encode};
 ghost use Rattle.startup.specs.Start.{startOf};
 use machine::Answer;
 
-// A lifetime, in ms.
-const LIFE_MIN: u64 = 1;
-
-const LIFE_MAX: u64 = 600000;
-
 fn is_lifetime(n: u64) -> bool
     ensures { λ r. ⌜ r ≡ lifetime n ⌝ }
 {
-    if n < LIFE_MIN {
+    if n < machine::LIFE_MIN {
         return false;
     }
-    n <= LIFE_MAX
+    n <= machine::LIFE_MAX
 }
 
 // Every byte is written: zero but for the lifetimes and the next numbers, which are 1.
@@ -39,13 +34,13 @@ pub fn start(s: &mut [u8], read: u64, write: u64) -> Answer
     ensures { λ r. ⌜ (r ≡ startOf (now (s .entry)) read write .answer) × (now (s .exit) ≡ startOf (now (s .entry)) read write .bytes) ⌝ }
 {
     if s.len() != layout::STATE_SIZE {
-        return Answer::Refused(1);
+        return Answer::Refused(machine::STATE);
     }
     if !is_lifetime(read) {
-        return Answer::Refused(3);
+        return Answer::Refused(machine::ARG);
     }
     if !is_lifetime(write) {
-        return Answer::Refused(3);
+        return Answer::Refused(machine::ARG);
     }
     write_fresh(s, read as u32, write as u32);
     Answer::Ready

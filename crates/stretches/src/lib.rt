@@ -37,10 +37,10 @@ pub fn show(s: &[u8], session: u64, key: u64) -> Answer
     ensures { λ r. ⌜ ((σ : State) → Holds (now (s .entry)) σ → r ≡ showOf σ session key .answer) ⌝ }
 {
     if layout::KEY_COUNT as u64 <= key {
-        return Answer::Refused(3);
+        return Answer::Refused(machine::ARG);
     }
     if sights::is_unknown(s, session) {
-        return Answer::Refused(5);
+        return Answer::Refused(machine::NO_SESSION);
     }
     let sight = look(s, session, key as usize);
     match sight {

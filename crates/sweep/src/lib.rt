@@ -102,7 +102,7 @@ pub fn sweep(s: &mut [u8], time: u64)
     ensures { λ _. ⌜ ((σ : State) → Holds (now (s .entry)) σ → sound σ ≡ true → Holds (now (s .exit)) (expire time σ)) ⌝ }
 {
     lapse_leases(s, time);
-    let mut ns: [u32; 128] = [0; 128];
+    let mut ns: [u32; layout::SESSION_COUNT] = [0; layout::SESSION_COUNT];
     let count = end_sessions(s, time, &mut ns);
     if count == 0 {
         return;

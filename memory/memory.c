@@ -1,5 +1,5 @@
-/* memcpy and memset of the C standard, for a host that has no C library: the two names that the compiler's back end puts in for copies and
- * clears of many bytes. They are built into libbasalekko-alone.a and seen by nobody else. Not proved: twenty lines to read. */
+/* memcpy and memset of the C standard: the two names that the compiler's back end puts in for copies and clears of many bytes. They are built
+ * into libbasalekko.a, seen by nobody else, so that it leaves no name to the host. Not proved: twenty lines to read. */
 #include <stddef.h>
 
 void *memcpy(void *restrict to, const void *restrict from, size_t count);
