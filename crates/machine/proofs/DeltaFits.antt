@@ -11,6 +11,7 @@ use lib.Dec.{eqb, leb, ltb}
 use lib.ListN.{length}
 use borrow.Author.Tests.{leb-true, ltb-true}
 use Rattle.lent.specs.Tables.{if_then_else_}
+use Rattle.lent.proofs.Choices.{case-of, if-ind}
 use Rattle.counts.specs.Count.{digits, decimal, readCount, raised, lowered}
 use Rattle.counts.specs.declared.Count.{Count}
 use Rattle.machine.specs.Sizes.{valueMax}
@@ -31,7 +32,7 @@ bytes-append (b ∷ v) x p q (suc i) = bytes-append v x (λ j. p (suc j)) q i
 -- at most f digits before v, each a byte
 digits-bytes : (f n : ℕ) (v : Value) → Bytes v → (length (digits f n v) ≤ f + length v) × Bytes (digits f n v)
 digits-bytes zero n v p = (omega arith, p)
-digits-bytes (suc f) n v p = go (Views.caseOf (ltb n 10)) (digits-bytes f (n / 10) ((48 + n % 10) ∷ v) (bytes-cons (48 + n % 10) v (omega arith) p))
+digits-bytes (suc f) n v p = go (case-of (ltb n 10)) (digits-bytes f (n / 10) ((48 + n % 10) ∷ v) (bytes-cons (48 + n % 10) v (omega arith) p))
   where
     more : Value
     more = (48 + n % 10) ∷ v
@@ -50,7 +51,7 @@ AllFine o = (v : Value) → o ≡ some v → Fine v
 
 fits-fine : (v : Value) → Bytes v → AllFine (fits v)
 unfolding AllFine
-fits-fine v p = Views.if-ind (λ (o : Option Value). (u : Value) → o ≡ some u → Fine u) (leb (length v) valueMax)
+fits-fine v p = if-ind (λ (o : Option Value). (u : Value) → o ≡ some u → Fine u) (leb (length v) valueMax)
     (λ q u e. subst Fine (Views.some-eq v u e) (record { short = leb-true (length v) valueMax q; bytes = p })) (λ q u e. Views.no-some u e)
 
 counts-fine : (operation : ℕ) (a b : Count) → AllFine (counts operation a b)
@@ -61,8 +62,8 @@ counts-fine operation (Count.Is a) (Count.Is b) v e = subst Fine (Views.some-eq 
 
 operate-fine : (operation : ℕ) (x v : Value) → Bytes x → Fine v → AllFine (operate operation x v)
 unfolding operate
-operate-fine operation x v px fv = Views.if-ind AllFine (eqb operation 1) (λ a. fits-fine (v ++ x) (bytes-append v x (fv .bytes) px)) (λ a.
-    Views.if-ind AllFine (eqb operation 2) (λ b. fits-fine (x ++ v) (bytes-append x v px (fv .bytes))) (λ b.
+operate-fine operation x v px fv = if-ind AllFine (eqb operation 1) (λ a. fits-fine (v ++ x) (bytes-append v x (fv .bytes) px)) (λ a.
+    if-ind AllFine (eqb operation 2) (λ b. fits-fine (x ++ v) (bytes-append x v px (fv .bytes))) (λ b.
     counts-fine operation (readCount v) (readCount x)))
 
 or-drop-fits : (o : Option Value) → AllFine o → StagedFits 3 (orDrop o)

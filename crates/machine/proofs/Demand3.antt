@@ -9,6 +9,7 @@ use mathlib.Core.Option.{Option, none, some}
 use Prim.Native.Nat.{ℕ}
 use native.Mathlib.Omega.{arith}
 use lib.Dec.{eqb}
+use Rattle.lent.proofs.Choices.{clash, if-ind}
 use Rattle.machine.specs.Tables.{first}
 use Rattle.machine.specs.Words.{wordOf}
 use Rattle.machine.specs.State.{Value, Row, noRow, State, freeRow, rowOf, rowPlace, cached}
@@ -41,13 +42,13 @@ Handed n k at size r = r .answer ≡ Answer.Hit at size → rowOf (r .after) n k
 -- another word is no hit
 another : (n k at size : ℕ) (r : Outcome) → eqb (wordOf (r .answer)) 3 ≡ false → Handed n k at size r
 unfolding Handed
-another n k at size r q e f = Views.clash (eqb (wordOf (r .answer)) 3) (rw e refl) q
+another n k at size r q e f = clash (eqb (wordOf (r .answer)) 3) (rw e refl) q
 
 looked-hit : (s : State) (now n k at size : ℕ) (o : Option Sight) → sight s n k ≡ o → Handed n k at size (looked s now n k o)
 unfolding Handed looked missed leased
 looked-hit s now n k at size (some x) p = λ e f. sight-cached s n k x f p
-looked-hit s now n k at size none p = Views.if-ind (Handed n k at size) (freeRow (rowOf s n k))
-    (λ q. Views.if-ind (Handed n k at size) (blocked s k) (λ b. another n k at size (told (Answer.Backoff (wait s k now)) s) refl) (λ b. another n k at size (leased s now k) refl))
+looked-hit s now n k at size none p = if-ind (Handed n k at size) (freeRow (rowOf s n k))
+    (λ q. if-ind (Handed n k at size) (blocked s k) (λ b. another n k at size (told (Answer.Backoff (wait s k now)) s) refl) (λ b. another n k at size (leased s now k) refl))
     (λ q. another n k at size (told Answer.Ask s) refl)
 
 settled-hit : (s t : State) (now n k at size : ℕ) (v : Value) (o : Option ℕ) → Handed n k at size (settled s now o (effect t now (Get n k) v))
@@ -76,7 +77,7 @@ unquarantined-key : (w : World) → Good w → (k : ℕ) → quarantined (w .sta
 unquarantined-key w g k e none p = inl refl
 unquarantined-key w g k e (some v) p = elim (g .current k v p) [
   | inl h ↦ inr (ap some h)
-  | inr h ↦ Views.clash (quarantined (w .state) k) (quarantined-by (w .state .rows) k (record { number = h .number; holds = h .holds })) e
+  | inr h ↦ clash (quarantined (w .state) k) (quarantined-by (w .state .rows) k (record { number = h .number; holds = h .holds })) e
 ]
 
 pub consistent : (w : World) → Good w → Consistent w

@@ -3,7 +3,7 @@
 -- value, since a leased key has no row and so is not written.
 -- Here: the invariant, the frame that a command's effect has to prove, that the frame gives the invariant, START, and a register write.
 use mathlib.Core.Path.{_≡_, refl, sym, ap, _∙_}
-use mathlib.Core.Bool.{Bool, true, false, not, _&&_, _||_}
+use mathlib.Core.Bool.{Bool, true, false, not, _&&_, _||_, or-true}
 use mathlib.Core.Logic.{_⊎_, inl, inr}
 use mathlib.Core.List.{List, List·Memᴰ, _∷_}
 use mathlib.Core.Option.{some}
@@ -13,6 +13,7 @@ use borrow.Author.Tests.{eqb-true, eq-eqb}
 use lib.Dec.{eqb}
 use lib.ListN.{getD}
 use Rattle.lent.specs.Tables.{if_then_else_}
+use Rattle.lent.proofs.Choices.{case-of, clash}
 use Rattle.machine.specs.Sizes.{keyCount}
 use Rattle.machine.specs.Tables.{any}
 use Rattle.machine.specs.State.{Value, Lease, Key, blank, Slot, noSession, session, Row, noRow, State, fresh, free, numbered, on, sessionOf, cached, leaseOn, sessionAt}
@@ -86,7 +87,7 @@ begun-good readLife writeLife = record {
   current = λ k v e. Views.no-some v (sym (ap (λ (x : Key). x .value) (Views.getD-same keyCount k blank)) ∙ e);
   older = λ k v e q. Views.no-some v (sym (ap (λ (x : Key). x .value) (Views.getD-same keyCount k blank)) ∙ e);
   unwritten = λ k l e u m. Views.no-some l (sym (ap (λ (x : Key). x .lease) (Views.getD-same keyCount k blank)) ∙ e);
-  writers = λ n e. Views.clash false e refl;
+  writers = λ n e. clash false e refl;
 }
 
 -- a session of number n is found by it
@@ -94,7 +95,7 @@ pub found-live : (s : State) (n i : ℕ) (x : Session) → sessionAt s i ≡ ses
 found-live s n i x e num = go (sessionOf s n) (Views.find-passes (numbered n) noSession (s .sessions) i refl (rw e (eq-eqb (x .number) n num)))
   where
     go : (y : Slot) → numbered n y ≡ true → free y ≡ false
-    go noSession p = Views.clash false p refl
+    go noSession p = clash false p refl
     go (session m) p = refl
 
 -- a register write, by rule 2
@@ -102,10 +103,10 @@ pub written-good : (w : World) → Good w → (n k : ℕ) (v : Value) → Sealed
 unfolding written
 written-good w g n k v live holds = record {
   orderly = g .orderly;
-  current = λ j u p. current j u (Views.caseOf (eqb j k)) (g .current j u p);
+  current = λ j u p. current j u (case-of (eqb j k)) (g .current j u p);
   older = g .older;
-  unwritten = λ j l p u m. unwritten j l p u m (Views.caseOf (eqb j k));
-  writers = λ m e. writers m e (Views.caseOf (eqb m n));
+  unwritten = λ j l p u m. unwritten j l p u m (case-of (eqb j k));
+  writers = λ m e. writers m e (case-of (eqb m n));
 }
   where
     wrote′ : ℕ → Bool
@@ -121,7 +122,7 @@ written-good w g n k v live holds = record {
     current : (j : ℕ) (u : Value) → (eqb j k ≡ true) ⊎ (eqb j k ≡ false) → (u ≡ w .register j) ⊎ Written (w .state .rows) (w .wrote) j → (u ≡ (if eqb j k then v else w .register j)) ⊎ Written (w .state .rows) wrote′ j
     current j u (inl e) q = inr (record { number = n; did = did; holds = held j e })
     current j u (inr e) (inl q) = inl (rw e q)
-    current j u (inr e) (inr q) = inr (record { number = q .number; holds = q .holds; did = rw (q .did) (Views.or-true (eqb (q .number) n && not (notLive (w .state) n))) })
+    current j u (inr e) (inr q) = inr (record { number = q .number; holds = q .holds; did = rw (q .did) (or-true (eqb (q .number) n && not (notLive (w .state) n))) })
 
     unwritten : (j : ℕ) (l : Lease) → leaseOn (w .state) j ≡ some l → (u : Value) → List·Memᴰ u (if eqb j k then v ∷ w .since (l .token) j else w .since (l .token) j) → (eqb j k ≡ true) ⊎ (eqb j k ≡ false) → u ≡ (if eqb j k then v else w .register j)
     unwritten j l p u m (inl e) = absurd (no-row-on (w .state) (g .orderly) j l p (record { number = n; holds = held j e }))

@@ -11,6 +11,7 @@ use native.Mathlib.Omega.{arith}
 use borrow.Author.Tests.{eqb-true}
 use lib.Dec.{eqb}
 use lib.ListN.{getD, set, List·getD-map}
+use Rattle.lent.proofs.Choices.{and-yes}
 use Rattle.machine.specs.Sizes.{keyCount, sessionCount, rowCount}
 use Rattle.machine.specs.Tables.{place, mem, putAt}
 use Rattle.machine.specs.Session.{opened, advanced, sealed, isDue}
@@ -87,8 +88,8 @@ was-staged s n k u i m j d v e = go (was-set (s .rows) at (restaged u (rowOf s n
     mine noRow p q a h = Views.no-row m j d v h
     mine (row b c y z) p (inl q) a h = Views.no-row b c y z (sym q)
     mine (row b c y z) p (inr q) a h =
-        let mine-n : b ≡ n = eqb-true b n (Views.and-true₁ (eqb b n) (eqb c k) q) in
-        let mine-k : c ≡ k = eqb-true c k (Views.and-true₂ (eqb b n) (eqb c k) q) in
+        let mine-n : b ≡ n = eqb-true b n (and-yes (eqb b n) (eqb c k) q .0) in
+        let mine-k : c ≡ k = eqb-true c k (and-yes (eqb b n) (eqb c k) q .1) in
         let there : rowAt s i ≡ row b c y z = sym (ap (rowAt s) a) ∙ p in
         (z, cc, inr (cc, cc, cc))
 

@@ -1,20 +1,20 @@
 -- Refusals: a refused command keeps nothing, a number is given exactly when its test is the first that holds, and the numbers
 -- stand in the order of the document's table. An accepted command is answered with one of its own words, so no effect looks like a refusal.
-use mathlib.Core.Path.{_≡_, refl, sym, ap, _∙_}
-use mathlib.Core.Bool.{Bool, true, false, not, _&&_, _||_}
+use mathlib.Core.Path.{_≡_, refl, ap, _∙_}
+use mathlib.Core.Bool.{Bool, true, false, _&&_}
 use mathlib.Core.Logic.{_⊎_, inl, inr}
 use mathlib.Core.List.{List, [], _∷_, map}
 use mathlib.Core.Option.{Option, none, some}
-use Prim.Native.Nat.{ℕ, zero, suc, _+_, _<_}
+use Prim.Native.Nat.{ℕ, zero, suc, _<_}
 use native.Mathlib.Omega.{arith}
 use lib.Dec.{eqb, ltb}
 use lib.ListN.{getD}
 use borrow.Author.Tests.{eqb-true}
-use Rattle.lent.specs.Tables.{if_then_else_}
+use Rattle.lent.proofs.Choices.{case-of, clash, if-ind}
 use Rattle.machine.specs.Tables.{mem, first, isNone}
 use Rattle.machine.specs.Words.{wordOf, wordsOf}
 use Rattle.machine.specs.Decision.{grants}
-use Rattle.machine.specs.State.{Value, Staged, nothing, staged, DROP, State, freeRow, kindOf, stagedIn, rowOf, cached, leaseOn, fresh}
+use Rattle.machine.specs.State.{Value, Staged, nothing, staged, DROP, State, freeRow, kindOf, stagedIn, rowOf, cached, leaseOn}
 use Rattle.machine.specs.Expiry.{expire}
 use Rattle.machine.specs.Refusals.{decide, blocked, Sight, sight, countOf, clockRefusal, refusals, refusal, startRefusals, showRefusals}
 use Rattle.machine.specs.Effects.{Outcome, begins, leased, missed, looked, matches, fills, asks, stagedAnswer, changed, stages, effect}
@@ -22,7 +22,7 @@ use Rattle.machine.specs.Step.{settled, step, started, start, showing, s
 use Rattle.machine.specs.declared.Answer.{Answer}
 use Rattle.machine.specs.declared.Command.{Command}
 use Rattle.machine.specs.declared.Command.the-variants.{Begin, Get, Fill, Quar, Stage, Delta, Validate, Done, Undo, Evict, Tick}
-use Rattle.machine.proofs.Views.{caseOf, clash, if-ind, some-eq}
+use Rattle.machine.proofs.Views.{some-eq}
 
 -- The first test that holds
 
@@ -35,7 +35,7 @@ pub record First (l : List (Bool × ℕ)) (e : ℕ) : Type 0 where
 
 pub first-is : (l : List (Bool × ℕ)) (e : ℕ) → first l ≡ some e → First l e
 first-is [] e p = absurd (let z : _≡_ {A = ℕ} 0 1 = cc in omega arith)
-first-is (x ∷ l) e p = go (caseOf (x .0)) (first-is l e)
+first-is (x ∷ l) e p = go (case-of (x .0)) (first-is l e)
   where
     up : (j : ℕ) (f : First l e) → x .0 ≡ false → j < suc (f .place) → getD (x ∷ l) j (false, 0) .0 ≡ false
     up zero f q h = q
@@ -100,7 +100,7 @@ no-refusal-word Tick = refl
 -- so an effect is never answered with one
 pub effect-accepts : (s : State) (now : ℕ) (c : Command) (v : Value) → eqb (wordOf (effect s now c v .answer)) 0 ≡ false
 unfolding Worded
-effect-accepts s now c v = go (caseOf (eqb (wordOf (effect s now c v .answer)) 0))
+effect-accepts s now c v = go (case-of (eqb (wordOf (effect s now c v .answer)) 0))
   where
     go : (eqb (wordOf (effect s now c v .answer)) 0 ≡ true) ⊎ (eqb (wordOf (effect s now c v .answer)) 0 ≡ false) → eqb (wordOf (effect s now c v .answer)) 0 ≡ false
     go (inr q) = q

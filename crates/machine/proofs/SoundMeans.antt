@@ -11,7 +11,7 @@ use lib.Dec.{eqb, leb, ltb}
 use lib.ListN.{length, getD}
 use borrow.Author.Tests.{eqb-true, eq-eqb, leb-true, le-leb, ltb-true, lt-ltb}
 use Rattle.lent.specs.Tables.{if_then_else_, every, some as someAt}
-use Rattle.lent.proofs.Choices.{and-yes}
+use Rattle.lent.proofs.Choices.{and-yes, case-of, clash}
 use Rattle.lent.proofs.Walks.{all-every, some-at, some-is}
 use Rattle.machine.specs.Sizes.{keyCount, sessionCount, rowCount, valueMax, stepMax, lifeMax, timeMax, numberMax}
 use Rattle.machine.specs.Words.{within, isKind}
@@ -20,7 +20,7 @@ use Rattle.machine.specs.Sound.{clockSound, lifetime, nextSound, headSou
 use Rattle.machine.specs.Sound.{tokenIn, numberIn, numberAt, tokenAt, distinct, numbersDistinct, tokensDistinct, liveRow, rowsLive, once, rowsOnce, shares, rowsAlone, leaseless, rowsLeaseless, joined, sized, sound}
 use Rattle.machine.specs.declared.Life.{Life}
 use Rattle.machine.specs.declared.Session.{Session}
-use Rattle.machine.proofs.Views.{caseOf, clash, no-some, no-row, no-session}
+use Rattle.machine.proofs.Views.{no-some, no-row, no-session}
 use Rattle.machine.proofs.Ranges.{within-inside}
 use Rattle.machine.proofs.Every.{pairs-all, all-pairs, distinct-same, same-distinct, place-inside, every-place, order}
 use Rattle.machine.proofs.WellFormed.{Fine, Within, LeaseFits, SessionFits, StagedFits, RowFits, LiveAs, WellFormed}
@@ -137,7 +137,7 @@ once-means r t {n} {k} h p q = clash false (rw (p, q, eq-eqb n n refl, eq-eqb k 
 means-once : (r t : Row) → ((n k d e : ℕ) (u v : Staged) → r ≡ row n k d u → t ≡ row n k e v → ⊥) → once r t ≡ true
 means-once noRow t f = refl
 means-once (row m j d u) noRow f = refl
-means-once (row m j d u) (row n k e v) f = go (caseOf (eqb m n && eqb j k))
+means-once (row m j d u) (row n k e v) f = go (case-of (eqb m n && eqb j k))
   where
     go : ((eqb m n && eqb j k) ≡ true) ⊎ ((eqb m n && eqb j k) ≡ false) → not (eqb m n && eqb j k) ≡ true
     go (inl h) = let r = and-yes (eqb m n) (eqb j k) h in
@@ -150,7 +150,7 @@ shares-means r t {k} {d} {e} h p q = let x = and-yes (eqb d 1) (eqb e 1) (rw (p,
 means-shares : (r t : Row) → ((m n k d e : ℕ) (u v : Staged) → r ≡ row m k d u → t ≡ row n k e v → (d ≡ 1) × (e ≡ 1)) → shares r t ≡ true
 means-shares noRow t f = refl
 means-shares (row m j d u) noRow f = refl
-means-shares (row m j d u) (row n k e v) f = go (caseOf (eqb j k))
+means-shares (row m j d u) (row n k e v) f = go (case-of (eqb j k))
   where
     go : (eqb j k ≡ true) ⊎ (eqb j k ≡ false) → (if eqb j k then eqb d 1 && eqb e 1 else true) ≡ true
     go (inl h) = let p : row n k e v ≡ row n j e v = rw (eqb-true j k h) in let x = f m n j d e u v refl p in rw h (both (eq-eqb d 1 (x .0)) (eq-eqb e 1 (x .1)))

@@ -10,6 +10,7 @@ use native.Mathlib.Omega.{arith}
 use lib.Dec.{eqb, leb}
 use lib.ListN.{getD, List·getD-map}
 use borrow.Author.Tests.{eqb-true, eqb-false, eq-eqb, leb-true, leb-false}
+use Rattle.lent.proofs.Choices.{case-of, clash}
 use Rattle.machine.specs.Tables.{place, find, mem}
 use Rattle.machine.specs.Session.{isDue}
 use Rattle.machine.specs.Decision.{decision}
@@ -54,7 +55,7 @@ pub data Waits (t : State) (now k w : ℕ) : Type 0 where
 module _ (now : ℕ) (s : State) where
   lapsed-rest : (o : Option Lease) (l : Lease) → unlapsed now o ≡ some l → now < l .until
   lapsed-rest none l e = Views.no-some l e
-  lapsed-rest (some m) l e = go (Views.caseOf (leb (m .until) now))
+  lapsed-rest (some m) l e = go (case-of (leb (m .until) now))
     where
       go : (leb (m .until) now ≡ true) ⊎ (leb (m .until) now ≡ false) → now < l .until
       go (inl q) = Views.no-some l (rw q at e)
@@ -69,10 +70,10 @@ module _ (now : ℕ) (s : State) where
   -- and no open session
   pub expired-sessions : (i : ℕ) (x : Session) (until : ℕ) → sessionAt (expire now s) i ≡ session x → x .life ≡ Life.Open until → now < until
   unfolding expire finish leave
-  expired-sessions i x until e q = let r = Orderly.was-session (those (isDue now) (s .sessions)) (s .sessions) i x e in go (r .0) (r .1) (Views.caseOf (leb until now))
+  expired-sessions i x until e q = let r = Orderly.was-session (those (isDue now) (s .sessions)) (s .sessions) i x e in go (r .0) (r .1) (case-of (leb until now))
     where
       go : sessionAt s i ≡ session x → mem (x .number) (those (isDue now) (s .sessions)) ≡ false → (leb until now ≡ true) ⊎ (leb until now ≡ false) → now < until
-      go p m (inl d) = Views.clash _ (Views.those-has (isDue now) (s .sessions) i x p (rw q d)) m
+      go p m (inl d) = clash _ (Views.those-has (isDue now) (s .sessions) i x p (rw q d)) m
       go p m (inr d) = leb-false until now d
 
 -- The latest deadline
@@ -110,7 +111,7 @@ module _ (s : State) (k : ℕ) where
   unfolding LatestOr End
   counted-in n d u rs none b p x = (n, record { place = 0; kind = d; what = u; is = refl }, p)
   counted-in n d u rs (some t) none p x = held-cons (row n k d u) rs none x
-  counted-in n d u rs (some t) (some until) p x = record { each = each; one = one (Views.caseOf (leb until t)) }
+  counted-in n d u rs (some t) (some until) p x = record { each = each; one = one (case-of (leb until t)) }
     where
       each : (i m c : ℕ) (v : Staged) → getD (row n k d u ∷ rs) i noRow ≡ row m k c v → (t′ : ℕ) × (slotEnd (sessionOf s m) ≡ some t′) × (t′ ≤ max t until)
       each zero m c v e = let q : n ≡ m = cc in (t, rw (← q) p, omega arith)
@@ -124,7 +125,7 @@ module _ (s : State) (k : ℕ) where
   unfolding LatestOr
   latest-is [] = record { each = λ i n d u e. Views.no-row n k d u e; one = inl refl }
   latest-is (noRow ∷ rs) = passed-over noRow rs (λ n d u e. Views.no-row n k d u e) (latest s k rs) (latest-is rs)
-  latest-is (row n j d u ∷ rs) = go (Views.caseOf (eqb j k)) (latest-is rs)
+  latest-is (row n j d u ∷ rs) = go (case-of (eqb j k)) (latest-is rs)
     where
       go : (eqb j k ≡ true) ⊎ (eqb j k ≡ false) → LatestOr rs (latest s k rs) → LatestOr (row n j d u ∷ rs) (latest s k (row n j d u ∷ rs))
       go (inl q) x = rw (q, eqb-true j k q) (counted-in n d u rs (slotEnd (sessionOf s n)) (latest s k rs) refl x)
@@ -164,7 +165,7 @@ module _ (t : State) (now k : ℕ) (h : WellFormed t now) where
   blocked-row b e = go (find (on k) noRow (t .rows)) refl (Views.find-test (on k) noRow (t .rows))
     where
       go : (r : Row) → find (on k) noRow (t .rows) ≡ r → (r ≡ noRow) ⊎ (on k r ≡ true) → (n : ℕ) × Holds (t .rows) n k
-      go noRow p q = Views.clash false (rw (p, e) at b) refl
+      go noRow p q = clash false (rw (p, e) at b) refl
       go (row n j d u) p (inl q) = Views.no-row n j d u (sym q)
       go (row n j d u) p (inr q) = (n, record { place = place (on k) (t .rows); kind = d; what = u; is = p ∙ ap (λ (x : ℕ). row n x d u) (eqb-true j k q) })
 
@@ -202,7 +203,7 @@ module _ (t : State) (now k : ℕ) (h : WellFormed t now) where
 looked-backoff : (t : State) (now n k w : ℕ) (o : Option Sight) → looked t now n k o .answer ≡ Answer.Backoff w → (blocked t k ≡ true) × (wait t k now ≡ w)
 unfolding looked missed leased
 looked-backoff t now n k w (some x) e = absurd (let z : _≡_ {A = ℕ} 0 1 = cc in omega arith)
-looked-backoff t now n k w none e = go (Views.caseOf (freeRow (rowOf t n k))) (Views.caseOf (blocked t k))
+looked-backoff t now n k w none e = go (case-of (freeRow (rowOf t n k))) (case-of (blocked t k))
   where
     go : (freeRow (rowOf t n k) ≡ true) ⊎ (freeRow (rowOf t n k) ≡ false) → (blocked t k ≡ true) ⊎ (blocked t k ≡ false) → (blocked t k ≡ true) × (wait t k now ≡ w)
     go (inl p) (inl q) = let z : Answer.Backoff (wait t k now) ≡ Answer.Backoff w = rw (p, q) at e in (q, cc)

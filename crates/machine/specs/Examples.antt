@@ -4,11 +4,10 @@ use Prim.Native.Nat.{ℕ}
 use lib.ListN.{replicate}
 use Rattle.machine.specs.Words.{CLOCK, ARG, NO-SESSION, AHEAD, FULL}
 use Rattle.machine.specs.State.{Value, State, fresh}
-use Rattle.machine.specs.Effects.{Outcome}
 use Rattle.machine.specs.Step.{step}
 use Rattle.machine.specs.declared.Answer.{Answer}
 use Rattle.machine.specs.declared.Command.{Command}
-use Rattle.machine.specs.declared.Command.the-variants.{Begin, Get, Fill, Quar, Stage, Delta, Validate, Done, Undo, Evict, Tick}
+use Rattle.machine.specs.declared.Command.the-variants.{Begin, Get, Fill, Quar, Stage, Delta, Validate, Undo, Tick}
 
 -- a command at a time, with its value
 pub record Line : Type 0 where

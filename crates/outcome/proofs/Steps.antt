@@ -6,6 +6,7 @@ use mathlib.Core.Path.{_≡_, refl, sym, ap, _∙_}
 use mathlib.Core.Bool.{Bool, true, false, _||_}
 use mathlib.Core.Option.{Option, none, some}
 use lib.Dec.{eqb, ltb}
+use Rattle.lent.proofs.Choices.{clash}
 use Rattle.machine.specs.Sizes.{timeMax}
 use Rattle.machine.specs.Tables.{first}
 use Rattle.machine.specs.Words.{wordOf, wordsOf}
@@ -16,7 +17,6 @@ use Rattle.machine.specs.Effects.{Outcome, told, effect}
 use Rattle.machine.specs.Step.{settled, step}
 use Rattle.machine.specs.declared.Answer.{Answer}
 use Rattle.machine.specs.declared.Command.{Command}
-use Rattle.machine.proofs.Views.{clash}
 use Rattle.machine.proofs.Refused.{effect-accepts}
 use Rattle.outcome.specs.Outcome.{unless, tried, acted, isRefused}
 

@@ -8,11 +8,11 @@ use native.Mathlib.Omega.{arith}
 use lib.Dec.{ltb}
 use borrow.Author.Tests.{ltb-true}
 use lib.ListN.{length, take, drop, take-append-drop}
+use Rattle.lent.proofs.Choices.{and-yes}
 use Rattle.machine.specs.Sizes.{stateSize}
 use Rattle.machine.specs.State.{Value, State}
 use Rattle.machine.specs.World.{Event, command, write, World, begun, AllKept, Consistent, AllBytes}
 use Rattle.machine.specs.declared.Answer.{Answer}
-use Rattle.machine.proofs.Views.{and-true₁, and-true₂}
 use Rattle.machine.proofs.WellFormed.{Bytes}
 use Rattle.machine.proofs.Witness.{events, witness-kept}
 use Rattle.layout.specs.WellFormed.{wellFormed}
@@ -38,8 +38,8 @@ byteTest (x ∷ v) = ltb x 256 && byteTest v
 
 pub byte-test : (v : Value) → byteTest v ≡ true → Bytes v
 byte-test [] e i = omega arith
-byte-test (x ∷ v) e zero = ltb-true x 256 (and-true₁ (ltb x 256) (byteTest v) e)
-byte-test (x ∷ v) e (suc i) = byte-test v (and-true₂ (ltb x 256) (byteTest v) e) i
+byte-test (x ∷ v) e zero = ltb-true x 256 (and-yes (ltb x 256) (byteTest v) e .0)
+byte-test (x ∷ v) e (suc i) = byte-test v (and-yes (ltb x 256) (byteTest v) e .1) i
 
 abbrev pub valuesTest : List Event → Bool
 valuesTest [] = true
@@ -48,7 +48,7 @@ valuesTest (write n k v ∷ es) = valuesTest es
 
 pub values-test : (es : List Event) → valuesTest es ≡ true → AllBytes es
 values-test [] e = tt
-values-test (command now c v ∷ es) e = (byte-test v (and-true₁ (byteTest v) (valuesTest es) e), values-test es (and-true₂ (byteTest v) (valuesTest es) e))
+values-test (command now c v ∷ es) e = (byte-test v (and-yes (byteTest v) (valuesTest es) e .0), values-test es (and-yes (byteTest v) (valuesTest es) e .1))
 values-test (write n k v ∷ es) e = (tt, values-test es e)
 
 witness-values : AllBytes events

@@ -10,6 +10,7 @@ use lib.Dec.{eqb}
 use lib.ListN.{length, getD, length-map, List·getD-map}
 use borrow.Author.Tests.{eqb-true, eqb-false, eq-eqb, ne-eqb}
 use Rattle.lent.specs.Tables.{if_then_else_}
+use Rattle.lent.proofs.Choices.{case-of, clash}
 use Rattle.machine.specs.Sizes.{sessionCount, rowCount}
 use Rattle.machine.specs.Tables.{place, find, mem}
 use Rattle.machine.specs.Session.{isDue}
@@ -17,7 +18,7 @@ use Rattle.machine.specs.State.{Slot, noSession, session, Row, noRow, row, Stat
 use Rattle.machine.specs.Expiry.{freeIfOf, leave, finish, those, expire}
 use Rattle.machine.specs.Sound.{sound}
 use Rattle.machine.specs.declared.Session.{Session}
-use Rattle.machine.proofs.Views.{caseOf, clash, find-test, find-passes, among-those, no-session}
+use Rattle.machine.proofs.Views.{find-test, find-passes, among-those, no-session}
 use Rattle.machine.proofs.SoundFacts as facts
 use Rattle.layout.specs.Fields.{rowSession}
 use Rattle.deadlines.specs.Deadlines.{dueSlot}
@@ -29,7 +30,7 @@ use Rattle.refusals.specs.Left.{goes}
 -- a place that is taken after expiry was taken, by a session that is not due
 pub stays : (now : ℕ) (e : Slot) (y : Session) → freeDue now e ≡ session y → (e ≡ session y) × (isDue now y ≡ false)
 stays now noSession y q = no-session y q
-stays now (session x) y q = go (caseOf (isDue now x))
+stays now (session x) y q = go (case-of (isDue now x))
   where
     go : (isDue now x ≡ true) ⊎ (isDue now x ≡ false) → (session x ≡ session y) × (isDue now y ≡ false)
     go (inl d) = no-session y (rw d at q)
@@ -63,7 +64,7 @@ module _ (s : State) (ok : sound s ≡ true) (now : ℕ) where
 
   module _ (n : ℕ) where
     pub due-is : mem n due ≡ dueSlot now (sessionOf s n)
-    due-is = go (caseOf (mem n due)) (sessionOf s n) refl (find-test (numbered n) noSession (s .sessions))
+    due-is = go (case-of (mem n due)) (sessionOf s n) refl (find-test (numbered n) noSession (s .sessions))
       where
         go : (mem n due ≡ true) ⊎ (mem n due ≡ false) → (e : Slot) → sessionOf s n ≡ e → (e ≡ noSession) ⊎ (numbered n e ≡ true) → mem n due ≡ dueSlot now e
         go (inl m) e q t =
@@ -86,7 +87,7 @@ module _ (s : State) (ok : sound s ≡ true) (now : ℕ) where
         go noSession (session y) p q t (inr u) =
             clash false (rw p at (find-passes (numbered n) noSession (s .sessions) (sessionPlace (expire now s) n) refl (rw (had y q .0) u))) refl
         go (session x) f p q (inl t) u = no-session x (sym t)
-        go (session x) noSession p q (inr t) u = gone (caseOf (isDue now x))
+        go (session x) noSession p q (inr t) u = gone (case-of (isDue now x))
           where
             gone : (isDue now x ≡ true) ⊎ (isDue now x ≡ false) → noSession ≡ freeDue now (session x)
             gone (inl d) = rw d
@@ -116,7 +117,7 @@ module _ (s : State) (ok : sound s ≡ true) (now : ℕ) where
 
         same : (r : Row) → ofOn n k (freeIfOf due r) ≡ ofOn n k r
         same noRow = refl
-        same (row m j d u) = go (caseOf (mem m due)) (caseOf (eqb m n))
+        same (row m j d u) = go (case-of (mem m due)) (case-of (eqb m n))
           where
             go : (mem m due ≡ true) ⊎ (mem m due ≡ false) → (eqb m n ≡ true) ⊎ (eqb m n ≡ false) → ofOn n k (freeIfOf due (row m j d u)) ≡ ofOn n k (row m j d u)
             go (inl q) (inl e) = clash (mem n due) (rw (eqb-true m n e) at q) free
@@ -126,7 +127,7 @@ module _ (s : State) (ok : sound s ≡ true) (now : ℕ) where
         kept : (r : Row) → (r ≡ noRow) ⊎ (ofOn n k r ≡ true) → freeIfOf due r ≡ r
         kept noRow t = refl
         kept (row m j d u) (inl t) = absurd (let z : _≡_ {A = ℕ} 0 1 = cc in omega arith)
-        kept (row m j d u) (inr t) = go (caseOf (eqb m n))
+        kept (row m j d u) (inr t) = go (case-of (eqb m n))
           where
             go : (eqb m n ≡ true) ⊎ (eqb m n ≡ false) → freeIfOf due (row m j d u) ≡ row m j d u
             go (inl e) = rw (eqb-true m n e, free)

@@ -11,6 +11,7 @@ use lib.Dec.{eqb, leb}
 use lib.ListN.{length, getD, List·getD-map}
 use borrow.Author.Tests.{eq-eqb, ne-eqb}
 use Rattle.lent.specs.Tables.{if_then_else_}
+use Rattle.lent.proofs.Choices.{and-yes, case-of, clash}
 use Rattle.machine.specs.Sizes.{keyCount}
 use Rattle.machine.specs.Tables.{place, find, any, mem, isNone}
 use Rattle.machine.specs.Decision.{decision, grants}
@@ -18,7 +19,7 @@ use Rattle.machine.specs.State.{Value, Lease, Key, blank, Row, noRow, row, Stat
 use Rattle.machine.specs.Expiry.{setValue, freeIfOf, settle, lapsedValue, unlapsed, lapsedLease, leave, finish, expire}
 use Rattle.machine.specs.Sound.{sound, tokenIn}
 use Rattle.machine.specs.Refusals.{decide, blocked, cachedSight, rowSight, sight, wouldLease}
-use Rattle.machine.proofs.Views.{AfterSet, other, here, out, after-set, caseOf, clash, find-test, find-passes, any-at, any-place, and-true₂, settle-lease}
+use Rattle.machine.proofs.Views.{AfterSet, other, here, out, after-set, find-test, find-passes, any-at, any-place, settle-lease}
 use Rattle.layout.specs.Fields.{rowSession, rowKey}
 use Rattle.layout.specs.Holds.{LeaseFits, RowFits}
 use Rattle.deadlines.specs.Deadlines.{lapsed, dueSlot}
@@ -83,7 +84,7 @@ module _ (s : State) (n k : ℕ) where
         where
           by : (rowOf s n k ≡ noRow) ⊎ (ofOn n k (rowOf s n k) ≡ true) → rowOf s n k ≡ noRow
           by (inl e) = e
-          by (inr e) = clash (any (on k) (s .rows)) (any-at (on k) noRow (s .rows) (rowPlace s n k) refl (and-true₂ (of n (rowOf s n k)) (on k (rowOf s n k)) e)) h
+          by (inr e) = clash (any (on k) (s .rows)) (any-at (on k) noRow (s .rows) (rowPlace s n k) refl (and-yes (of n (rowOf s n k)) (on k (rowOf s n k)) e .1)) h
 
       go : (c t : Bool) → c && true && not (not (grants (decision (if t then 0 else 1) 0))) ≡ t && c
       go true true = rw nothing-blocks-not

@@ -6,6 +6,7 @@ use mathlib.Core.List.{List, [], _∷_, map}
 use Prim.Native.Nat.{ℕ, suc, _≤_, _<_}
 use lib.Dec.{eqb}
 use lib.ListN.{length, length-map}
+use borrow.Author.Tests.{not-true}
 use Rattle.lent.specs.Tables.{if_then_else_}
 use Rattle.lent.proofs.Choices.{or-no}
 use Rattle.machine.specs.Sizes.{sessionCount, rowCount}
@@ -16,7 +17,6 @@ use Rattle.machine.specs.State.{Slot, noSession, session, Row, noRow, row, Stat
 use Rattle.machine.specs.Expiry.{freeIfOf, expire}
 use Rattle.machine.specs.Sound.{sound}
 use Rattle.machine.specs.Refusals.{decide, sessionsFull, rowsFull, wouldGrant}
-use Rattle.machine.proofs.Views.{not-true′}
 use Rattle.machine.proofs.Table.{free-grants, Q-voids-I}
 use Rattle.machine.proofs.SoundFacts as facts
 use Rattle.deadlines.specs.Deadlines.{dueSlot}
@@ -68,7 +68,7 @@ module _ (s : State) (ok : sound s ≡ true) (now : ℕ) where
     rows-stay = rows-expired s ok now ∙ unmapped (goes now s) (freeIfOf (due s ok now)) same (s .rows) (none .1)
       where
         none : (any freeRow (s .rows) ≡ false) × (any (goes now s) (s .rows) ≡ false)
-        none = or-no (any freeRow (s .rows)) (any (goes now s) (s .rows)) (not-true′ (any freeRow (s .rows) || any (goes now s) (s .rows)) (sym rows-full-expired ∙ full))
+        none = or-no (any freeRow (s .rows)) (any (goes now s) (s .rows)) (not-true (any freeRow (s .rows) || any (goes now s) (s .rows)) (sym rows-full-expired ∙ full))
 
         same : (r : Row) → goes now s r ≡ false → freeIfOf (due s ok now) r ≡ r
         same noRow g = refl

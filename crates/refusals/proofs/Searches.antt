@@ -7,11 +7,10 @@ use Prim.Native.Nat.{ℕ, zero, suc, _+_, _≤_, _<_}
 use native.Mathlib.Omega.{arith}
 use lib.Dec.{leb, leb·suc-suc}
 use lib.ListN.{length, getD}
-use borrow.Author.Tests.{lt-leb}
+use borrow.Author.Tests.{lt-leb, not-true}
 use Rattle.lent.specs.Tables.{if_then_else_}
 use Rattle.lent.proofs.Choices.{clash, or-no}
 use Rattle.machine.specs.Tables.{place, any, count}
-use Rattle.machine.proofs.Views.{not-true′}
 use Rattle.layout.specs.Search.{found}
 use Rattle.layout.specs.declared.Found.{Found}
 use Rattle.layout.proofs.Search.{found-at, found-passes, found-full}
@@ -55,7 +54,7 @@ module _ {A : Type 0} (p : A → Bool) where
     found-any i f = let q = found-at n (place p l) i f in any-hit p d l i (omega arith) (found-passes p d l n i e f)
 
     pub nothing-any : found n (place p l) ≡ Found.Nothing → any p l ≡ false
-    nothing-any f = not-true′ (any p l) (sym (full-any l n e) ∙ found-full p d l n e f)
+    nothing-any f = not-true (any p l) (sym (full-any l n e) ∙ found-full p d l n e f)
 
   -- ---- every entry put through f
 

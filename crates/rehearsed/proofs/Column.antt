@@ -11,6 +11,7 @@ use lib.ListN.{length-replicate}
 use borrow.Author.Tests.{lt-ltb}
 use Rattle.lent.specs.Bytes.{zeros}
 use Rattle.lent.specs.Tables.{same, allZero}
+use Rattle.lent.proofs.Choices.{clash}
 use Rattle.machine.specs.Sizes.{keyCount, sessionCount}
 use Rattle.machine.specs.Tables.{any}
 use Rattle.machine.specs.Words.{wordOf}
@@ -173,7 +174,7 @@ recorded-new b readLife writeLife h = record {
   grants = λ k l e. Views.no-some l (sym (ap (λ (x : Key). x .lease) (Views.getD-same keyCount k blank)) ∙ e);
   marks = λ i x e. Views.no-session x (sym (Views.getD-same sessionCount i noSession) ∙ e);
   below = λ i f. let z = h .unmarked i f in omega arith;
-  wrote = λ n e. Views.clash false e refl;
+  wrote = λ n e. clash false e refl;
 }
 
 module _ (x b : List ℕ) (readLife writeLife : ℕ) (ready : startOf x readLife writeLife .answer ≡ Answer.Ready) (new : NewBook b) where

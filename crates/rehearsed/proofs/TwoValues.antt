@@ -12,6 +12,7 @@ use borrow.Author.Tests.{eqb-true, eq-eqb, ne-eqb}
 use lib.Dec.{eqb}
 use lib.ListN.{length}
 use Rattle.lent.specs.Tables.{if_then_else_, same, allZero}
+use Rattle.lent.proofs.Choices.{and-yes, clash, if-ind}
 use Rattle.machine.specs.Sizes.{keyCount}
 use Rattle.machine.specs.Tables.{any}
 use Rattle.machine.specs.Words.{wordOf}
@@ -40,8 +41,8 @@ pub allKeptTwo-of : (w : World) (es : List Event) → allZero (verdictsTwo w es)
 unfolding allZero
 allKeptTwo-of w [] e = tt
 allKeptTwo-of w (x ∷ es) e = (
-  kept-of (twoValues w) x (eqb-true (brokenTwo w x) 0 (Views.and-true₁ (eqb (brokenTwo w x) 0) (allZero (verdictsTwo (next w x) es)) e)),
-  allKeptTwo-of (next w x) es (Views.and-true₂ (eqb (brokenTwo w x) 0) (allZero (verdictsTwo (next w x) es)) e),
+  kept-of (twoValues w) x (eqb-true (brokenTwo w x) 0 (and-yes (eqb (brokenTwo w x) 0) (allZero (verdictsTwo (next w x) es)) e .0)),
+  allKeptTwo-of (next w x) es (and-yes (eqb (brokenTwo w x) 0) (allZero (verdictsTwo (next w x) es)) e .1),
 )
 
 pub allKeptTwo-unbroken : (w : World) (es : List Event) → Orderly (w .state) → AllKeptTwo w es → allZero (verdictsTwo w es) ≡ true
@@ -76,9 +77,9 @@ Stores s t k r = eqb (wordOf (r .answer)) 7 ≡ true → (l : Lease) × (leaseOn
 
 stores-settled : (s : State) (now t k : ℕ) (v : Value) (o : Option ℕ) → Stores (expire now s) t k (settled s now o (effect (expire now s) now (Fill t k) v))
 unfolding Stores settled effect fills
-stores-settled s now t k v (some e) = λ p. Views.clash false p refl
-stores-settled s now t k v none = Views.if-ind (λ (r : Outcome). eqb (wordOf (r .answer)) 7 ≡ true → (l : Lease) × (leaseOn (expire now s) k ≡ some l) × (l .token ≡ t)) (matches t (leaseOn (expire now s) k))
-    (λ m p. matched t (leaseOn (expire now s) k) m) (λ m p. Views.clash false p refl)
+stores-settled s now t k v (some e) = λ p. clash false p refl
+stores-settled s now t k v none = if-ind (λ (r : Outcome). eqb (wordOf (r .answer)) 7 ≡ true → (l : Lease) × (leaseOn (expire now s) k ≡ some l) × (l .token ≡ t)) (matches t (leaseOn (expire now s) k))
+    (λ m p. matched t (leaseOn (expire now s) k) m) (λ m p. clash false p refl)
 
 pub stored-lease : (s : State) (now t k : ℕ) (v : Value) → eqb (wordOf (step s now (Fill t k) v .answer)) 7 ≡ true → (l : Lease) × (leaseOn s k ≡ some l) × (l .token ≡ t)
 unfolding Stores step

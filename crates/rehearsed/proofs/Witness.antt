@@ -10,6 +10,7 @@ use lib.ListN.{length, take, drop, take-append-drop, length-replicate}
 use borrow.Author.Tests.{leb-true, ltb-true}
 use Rattle.lent.specs.Bytes.{Bytes, zeros}
 use Rattle.lent.specs.Tables.{same, allZero}
+use Rattle.lent.proofs.Choices.{and-yes}
 use Rattle.counts.specs.Count.{readCount}
 use Rattle.machine.specs.Sizes.{keyCount, valueMax, stateSize}
 use Rattle.machine.specs.Decision.{decision}
@@ -22,7 +23,6 @@ use Rattle.machine.specs.World.{Event, command, write, begun, commanded, writte
 use Rattle.machine.specs.Test.{verdicts}
 use Rattle.machine.specs.declared.Answer.{Answer}
 use Rattle.machine.specs.declared.Command.the-variants.{Begin, Get, Fill, Quar, Stage, Validate, Done, Undo}
-use Rattle.machine.proofs.Views.{and-true₁, and-true₂}
 use Rattle.machine.proofs.Witness.{events}
 use Rattle.startup.specs.Start.{Reply, startOf}
 use Rattle.startup.proofs.Started.{started-ready}
@@ -49,16 +49,16 @@ readTest (write n k v ∷ es) = (ltb k keyCount && leb (length v) valueMax) && r
 
 read-bytes : (es : List Event) → readTest es ≡ true → AllBytes es
 read-bytes [] e = tt
-read-bytes (command now c v ∷ es) e = (byte-test v (and-true₁ (byteTest v) (readTest es) e), read-bytes es (and-true₂ (byteTest v) (readTest es) e))
-read-bytes (write n k v ∷ es) e = (tt, read-bytes es (and-true₂ (ltb k keyCount && leb (length v) valueMax) (readTest es) e))
+read-bytes (command now c v ∷ es) e = (byte-test v (and-yes (byteTest v) (readTest es) e .0), read-bytes es (and-yes (byteTest v) (readTest es) e .1))
+read-bytes (write n k v ∷ es) e = (tt, read-bytes es (and-yes (ltb k keyCount && leb (length v) valueMax) (readTest es) e .1))
 
 read-readable : (es : List Event) → readTest es ≡ true → AllReadable es
 read-readable [] e = tt
-read-readable (command now c v ∷ es) e = (tt, read-readable es (and-true₂ (byteTest v) (readTest es) e))
+read-readable (command now c v ∷ es) e = (tt, read-readable es (and-yes (byteTest v) (readTest es) e .1))
 read-readable (write n k v ∷ es) e =
-    let x = and-true₁ (ltb k keyCount && leb (length v) valueMax) (readTest es) e in (
-      (ltb-true k keyCount (and-true₁ (ltb k keyCount) (leb (length v) valueMax) x), leb-true (length v) valueMax (and-true₂ (ltb k keyCount) (leb (length v) valueMax) x)),
-      read-readable es (and-true₂ (ltb k keyCount && leb (length v) valueMax) (readTest es) e),
+    let x = and-yes (ltb k keyCount && leb (length v) valueMax) (readTest es) e .0 in (
+      (ltb-true k keyCount (and-yes (ltb k keyCount) (leb (length v) valueMax) x .0), leb-true (length v) valueMax (and-yes (ltb k keyCount) (leb (length v) valueMax) x .1)),
+      read-readable es (and-yes (ltb k keyCount && leb (length v) valueMax) (readTest es) e .1),
     )
 
 -- then its column is what is computed

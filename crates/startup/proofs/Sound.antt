@@ -8,13 +8,13 @@ use Prim.Native.Nat.{ℕ}
 use lib.Dec.{eqb}
 use lib.ListN.{length}
 use borrow.Author.Tests.{eqb-true, eqb-false}
+use Rattle.lent.proofs.Choices.{case-of, clash}
 use Rattle.machine.specs.Sizes.{stateSize}
 use Rattle.machine.specs.Words.{wordOf}
 use Rattle.machine.specs.State.{State, fresh}
 use Rattle.machine.specs.Sound.{lifetime, sound}
 use Rattle.machine.specs.World.{Event, World, begun, run, AllKept, Consistent, AllBytes}
 use Rattle.machine.specs.declared.Answer.{Answer}
-use Rattle.machine.proofs.Views.{caseOf, clash}
 use Rattle.machine.proofs.KeepsSound.{fresh-sound, reached-sound}
 use Rattle.machine.proofs.Demand3.{demand-3}
 use Rattle.layout.specs.Layout.{encode, decode}
@@ -36,7 +36,7 @@ module _ (b : List ℕ) (readLife writeLife : ℕ) where
   refusing e p q = clash (eqb (wordOf (startOf b readLife writeLife .answer)) 1) (rw q refl) (rw p refl)
 
   pub ready-started : startOf b readLife writeLife .answer ≡ Answer.Ready → Started b readLife writeLife
-  ready-started q = sized (caseOf (eqb (length b) stateSize))
+  ready-started q = sized (case-of (eqb (length b) stateSize))
     where
       told : length b ≡ stateSize → (lifetime readLife ≡ true) ⊎ (lifetime readLife ≡ false) → (lifetime writeLife ≡ true) ⊎ (lifetime writeLife ≡ false) → Started b readLife writeLife
       told e (inl r) (inl w) = record { size = e; read = r; write = w }
@@ -44,7 +44,7 @@ module _ (b : List ℕ) (readLife writeLife : ℕ) where
       told e (inr r) w = refusing 3 (started-read b readLife writeLife e r) q
 
       sized : (eqb (length b) stateSize ≡ true) ⊎ (eqb (length b) stateSize ≡ false) → Started b readLife writeLife
-      sized (inl e) = told (eqb-true (length b) stateSize e) (caseOf (lifetime readLife)) (caseOf (lifetime writeLife))
+      sized (inl e) = told (eqb-true (length b) stateSize e) (case-of (lifetime readLife)) (case-of (lifetime writeLife))
       sized (inr e) = refusing 1 (started-size b readLife writeLife (eqb-false (length b) stateSize e)) q
 
   module _ (ready : startOf b readLife writeLife .answer ≡ Answer.Ready) where

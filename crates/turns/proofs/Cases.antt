@@ -21,9 +21,9 @@ use Rattle.machine.specs.declared.Session.{Session}
 use Rattle.machine.specs.declared.Validation.{Validation}
 use Rattle.machine.specs.declared.Answer.{Answer}
 use Rattle.machine.specs.declared.Command.the-variants.{Begin, Validate, Done, Undo}
-use Rattle.machine.proofs.Views.{clash}
 use Rattle.machine.proofs.SoundFacts as facts
 use Rattle.lent.specs.Tables.{if_then_else_}
+use Rattle.lent.proofs.Choices.{clash}
 use Rattle.layout.specs.Fields.{sessionIn}
 use Rattle.layout.specs.Holds.{Holds}
 use Rattle.layout.specs.Search.{found}
