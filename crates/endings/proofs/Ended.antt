@@ -5,7 +5,8 @@ use mathlib.Core.Bool.{Bool, true, false}
 use mathlib.Core.List.{List, [], _∷_}
 use Prim.Native.Nat.{ℕ}
 use lib.ListN.{length}
-use Rattle.lent.specs.Tables.{if_then_else_, iter}
+use Rattle.lent.specs.Tables.{if_then_else_}
+use Rattle.lent.proofs.Walks.{iter}
 use Rattle.machine.specs.Sizes.{rowCount}
 use Rattle.machine.specs.Tables.{mem}
 use Rattle.machine.specs.State.{Key, Row, noRow, row, State}

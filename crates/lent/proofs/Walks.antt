@@ -7,7 +7,7 @@ use Prim.Native.Nat.{ℕ, zero, suc, _+_, _-_, _≤_, _<_}
 use native.Mathlib.Nat.{eq-or-lt-of-le, le-of-suc-le-suc, not-suc-le-zero}
 use native.Mathlib.Omega.{arith}
 use native.Mathlib.Numerals.{add-one}
-use Rattle.lent.specs.Tables.{if_then_else_, every, some, first, iter}
+use Rattle.lent.specs.Tables.{if_then_else_, every, some, first}
 use Rattle.lent.proofs.Choices.{and-swap, and-yes, or-no, clash}
 
 -- ---- each index
@@ -152,13 +152,11 @@ first-cong p q hit miss (suc n) i e =
 
 -- ---- a step for each index
 
+-- step 0, then step 1, and so on, n of them
+unfoldable pub iter : {A : Type 0} → (ℕ → A → A) → ℕ → A → A
+iter step zero a = a
+iter step (suc n) a = step n (iter step n a)
+
 pub iter-more : {A : Type 0} (step : ℕ → A → A) (i : ℕ) (a : A) → iter step (i + 1) a ≡ step i (iter step i a)
 unfolding iter
 iter-more step i a = rw add-one
-
--- two walks whose steps keep to a relation
-pub iter-both : {A B : Type 0} (R : A → B → Type 0) (f : ℕ → A → A) (g : ℕ → B → B) (n : ℕ) (a : A) (b : B)
-    → ((i : ℕ) (x : A) (y : B) → i < n → R x y → R (f i x) (g i y)) → R a b → R (iter f n a) (iter g n b)
-unfolding iter
-iter-both R f g zero a b k r = r
-iter-both R f g (suc n) a b k r = k n _ _ (omega arith) (iter-both R f g n a b (λ i x y h. k i x y (omega arith)) r)

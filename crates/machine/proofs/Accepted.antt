@@ -18,12 +18,12 @@ use Rattle.machine.specs.Decision.{decision, grants}
 use Rattle.machine.specs.State.{Value, Lease, Slot, noSession, session, Staged, Row, noRow, row, State, free, freeRow, numbered, on, ofOn, kindOf, sessionOf, rowPlace, rowOf, rowAt}
 use Rattle.machine.specs.Refusals.{decide, blocked, sight, wouldLease, clockRefusal, refusals, refusal}
 use Rattle.machine.specs.Effects.{matches}
+use Rattle.machine.specs.WellFormed.{Orderly}
 use Rattle.machine.specs.declared.Session.{Session}
 use Rattle.machine.specs.declared.Command.{Command}
 use Rattle.machine.specs.declared.Command.the-variants.{Get}
 use Rattle.machine.proofs.Views
 use Rattle.machine.proofs.Table.{only-Q1-shares, quarantined-backs-off}
-use Rattle.machine.proofs.Orderly.{Orderly}
 
 -- each test of an accepted command was false
 pub passed : (s : State) (now : ℕ) (c : Command) (v : Value) → refusal s now c v ≡ none → (i : ℕ) → getD (clockRefusal s now ∷ refusals s c v) i (false, 0) .0 ≡ false

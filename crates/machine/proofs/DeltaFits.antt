@@ -11,14 +11,15 @@ use lib.Dec.{eqb, leb, ltb}
 use lib.ListN.{length}
 use borrow.Author.Tests.{leb-true, ltb-true}
 use Rattle.lent.specs.Tables.{if_then_else_}
+use Rattle.lent.specs.Bytes.{Bytes}
 use Rattle.lent.proofs.Choices.{case-of, if-ind}
 use Rattle.counts.specs.Count.{digits, decimal, readCount, raised, lowered}
 use Rattle.counts.specs.declared.Count.{Count}
 use Rattle.machine.specs.Sizes.{valueMax}
 use Rattle.machine.specs.State.{Value, Staged, nothing, staged, DROP}
 use Rattle.machine.specs.Effects.{fits, counts, operate, orDrop, changed}
+use Rattle.machine.specs.WellFormed.{Fine, StagedFits}
 use Rattle.machine.proofs.Views
-use Rattle.machine.proofs.WellFormed.{Bytes, Fine, StagedFits}
 
 bytes-cons : (b : ℕ) (v : Value) → b < 256 → Bytes v → Bytes (b ∷ v)
 bytes-cons b v p q zero = p

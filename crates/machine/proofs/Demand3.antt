@@ -17,11 +17,11 @@ use Rattle.machine.specs.Expiry.{expire}
 use Rattle.machine.specs.Refusals.{blocked, Sight, cachedSight, rowSight, sight, refusal, showRefusals}
 use Rattle.machine.specs.Effects.{Outcome, told, wait, leased, missed, looked, effect}
 use Rattle.machine.specs.Step.{settled, step, showing, show}
-use Rattle.machine.specs.World.{Event, command, World, quarantined, begun, commanded, next, run, AllKept, Consistent}
+use Rattle.machine.specs.World.{Event, command, World, quarantined, freshWorld, commanded, next, run, AllKept, Consistent}
 use Rattle.machine.specs.declared.Answer.{Answer}
 use Rattle.machine.specs.declared.Command.the-variants.{Get}
 use Rattle.machine.proofs.Views
-use Rattle.machine.proofs.Invariant.{Good, begun-good, quarantined-by, quarantining}
+use Rattle.machine.proofs.Invariant.{Good, fresh-good, quarantined-by, quarantining}
 use Rattle.machine.proofs.Promise.{next-good, run-good}
 
 -- without a row, what is in sight is the cached value
@@ -91,13 +91,13 @@ consistent w g = record {
 -- The theorem
 
 -- of a whole run
-pub demand-3-whole : (readLife writeLife : ℕ) (es : List Event) → AllKept (begun readLife writeLife) es → Consistent (run (begun readLife writeLife) es)
-demand-3-whole readLife writeLife es h = consistent (run (begun readLife writeLife) es) (run-good (begun readLife writeLife) es (begun-good readLife writeLife) h)
+pub demand-3-whole : (readLife writeLife : ℕ) (es : List Event) → AllKept (freshWorld readLife writeLife) es → Consistent (run (freshWorld readLife writeLife) es)
+demand-3-whole readLife writeLife es h = consistent (run (freshWorld readLife writeLife) es) (run-good (freshWorld readLife writeLife) es (fresh-good readLife writeLife) h)
 
 kept-before : (w : World) (es fs : List Event) → AllKept w (es ++ fs) → AllKept w es
 kept-before w [] fs h = tt
 kept-before w (e ∷ es) fs h = (h .0, kept-before (next w e) es fs (h .1))
 
 -- at each moment of each run: after each first part of it
-pub demand-3 : (readLife writeLife : ℕ) (es fs : List Event) → AllKept (begun readLife writeLife) (es ++ fs) → Consistent (run (begun readLife writeLife) es)
-demand-3 readLife writeLife es fs h = demand-3-whole readLife writeLife es (kept-before (begun readLife writeLife) es fs h)
+pub demand-3 : (readLife writeLife : ℕ) (es fs : List Event) → AllKept (freshWorld readLife writeLife) (es ++ fs) → Consistent (run (freshWorld readLife writeLife) es)
+demand-3 readLife writeLife es fs h = demand-3-whole readLife writeLife es (kept-before (freshWorld readLife writeLife) es fs h)

@@ -18,22 +18,23 @@ use Rattle.machine.specs.Sizes.{keyCount}
 use Rattle.machine.specs.Tables.{any}
 use Rattle.machine.specs.State.{Value, Lease, Key, blank, Slot, noSession, session, Row, noRow, State, fresh, free, numbered, on, sessionOf, cached, leaseOn, sessionAt}
 use Rattle.machine.specs.Refusals.{notLive}
-use Rattle.machine.specs.World.{World, begun, sinceGrant, written, Holds, Sealed}
+use Rattle.machine.specs.World.{World, freshWorld, sinceGrant, written, HasRow, Sealed}
+use Rattle.machine.specs.WellFormed.{Orderly}
 use Rattle.machine.specs.declared.Life.{Life}
 use Rattle.machine.specs.declared.Session.{Session}
 use Rattle.machine.specs.declared.Answer.{Answer}
 use Rattle.machine.proofs.Views
-use Rattle.machine.proofs.Orderly.{Orderly, orderly-fresh}
+use Rattle.machine.proofs.Orderly.{orderly-fresh}
 
 -- a row on the key
 pub record RowOn (rows : List Row) (k : ℕ) : Type 0 where
   pub number : ℕ
-  pub holds : Holds rows number k
+  pub holds : HasRow rows number k
 
 -- a row on it of a session for which the register has written
 pub record Written (rows : List Row) (wrote : ℕ → Bool) (k : ℕ) : Type 0 where
   pub number : ℕ
-  pub holds : Holds rows number k
+  pub holds : HasRow rows number k
   pub did : wrote number ≡ true
 
 pub record Good (w : World) : Type 0 where
@@ -80,9 +81,9 @@ pub no-row-on : (s : State) → Orderly s → (k : ℕ) (l : Lease) → leaseOn 
 no-row-on s h k l e q = h .leases k l e .1 (q .holds .place) (q .number) (q .holds .kind) (q .holds .what) (q .holds .is)
 
 -- START
-pub begun-good : (readLife writeLife : ℕ) → Good (begun readLife writeLife)
+pub fresh-good : (readLife writeLife : ℕ) → Good (freshWorld readLife writeLife)
 unfolding fresh
-begun-good readLife writeLife = record {
+fresh-good readLife writeLife = record {
   orderly = orderly-fresh readLife writeLife;
   current = λ k v e. Views.no-some v (sym (ap (λ (x : Key). x .value) (Views.getD-same keyCount k blank)) ∙ e);
   older = λ k v e q. Views.no-some v (sym (ap (λ (x : Key). x .value) (Views.getD-same keyCount k blank)) ∙ e);
@@ -99,7 +100,7 @@ found-live s n i x e num = go (sessionOf s n) (Views.find-passes (numbered n) no
     go (session m) p = refl
 
 -- a register write, by rule 2
-pub written-good : (w : World) → Good w → (n k : ℕ) (v : Value) → Sealed (w .state) n → Holds (w .state .rows) n k → Good (written w n k v)
+pub written-good : (w : World) → Good w → (n k : ℕ) (v : Value) → Sealed (w .state) n → HasRow (w .state .rows) n k → Good (written w n k v)
 unfolding written
 written-good w g n k v live holds = record {
   orderly = g .orderly;
@@ -116,7 +117,7 @@ written-good w g n k v live holds = record {
     did = rw (eq-eqb n n refl, found-live (w .state) n (live .place) (live .live) (live .is) (live .number))
 
     -- the session's row, as one on j
-    held : (j : ℕ) → eqb j k ≡ true → Holds (w .state .rows) n j
+    held : (j : ℕ) → eqb j k ≡ true → HasRow (w .state .rows) n j
     held j e = record { place = holds .place; kind = holds .kind; what = holds .what; is = rw (eqb-true j k e) (holds .is) }
 
     current : (j : ℕ) (u : Value) → (eqb j k ≡ true) ⊎ (eqb j k ≡ false) → (u ≡ w .register j) ⊎ Written (w .state .rows) (w .wrote) j → (u ≡ (if eqb j k then v else w .register j)) ⊎ Written (w .state .rows) wrote′ j

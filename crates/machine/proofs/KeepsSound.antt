@@ -9,6 +9,7 @@ use native.Mathlib.Omega.{arith}
 use lib.Dec.{eqb, leb, ltb}
 use lib.ListN.{length, getD, length-replicate}
 use borrow.Author.Tests.{eqb-true, eqb-false, eq-eqb, leb-false, ltb-false, not-false}
+use Rattle.lent.specs.Bytes.{Bytes}
 use Rattle.lent.proofs.Choices.{if-ind, or-no}
 use Rattle.machine.specs.Sizes.{keyCount, sessionCount, rowCount, valueMax, stepMax, lifeMax, timeMax, numberMax}
 use Rattle.machine.specs.Tables.{first, isNone}
@@ -20,7 +21,8 @@ use Rattle.machine.specs.Expiry.{withClock, leave, finish, expire}
 use Rattle.machine.specs.Refusals.{decide, blocked, Sight, sight, badKey, long, countIn, countOf, refusals, refusal, startRefusals}
 use Rattle.machine.specs.Effects.{Outcome, looked, missed, matches, asks, changed, stages, toCache, effect}
 use Rattle.machine.specs.Step.{settled, step, started, start}
-use Rattle.machine.specs.World.{Event, command, write, World, begun, commanded, written, next, run, EventBytes, AllBytes}
+use Rattle.machine.specs.World.{Event, command, write, World, freshWorld, commanded, written, next, run, EventBytes, AllBytes}
+use Rattle.machine.specs.WellFormed.{Fine, StagedFits, LiveAs, WellFormed}
 use Rattle.machine.specs.declared.Session.{Session}
 use Rattle.machine.specs.declared.Answer.{Answer}
 use Rattle.machine.specs.declared.Command.{Command}
@@ -28,7 +30,6 @@ use Rattle.machine.specs.declared.Command.the-variants.{Begin, Get, Fill
 use Rattle.machine.proofs.Views
 use Rattle.machine.proofs.Orderly
 use Rattle.machine.proofs.Accepted
-use Rattle.machine.proofs.WellFormed.{Bytes, Fine, StagedFits, LiveAs, WellFormed}
 use Rattle.machine.proofs.SoundMeans.{within-means, sound-means, means-sound}
 use Rattle.machine.proofs.WellKept
 use Rattle.machine.proofs.DeltaFits.{changed-fits}
@@ -190,5 +191,5 @@ run-sound w [] b h = h
 run-sound w (e ∷ es) b h = run-sound (next w e) es (b .1) (next-sound w e (b .0) h)
 
 -- each state that a run from START reaches
-pub reached-sound : (readLife writeLife : ℕ) (es : List Event) → lifetime readLife ≡ true → lifetime writeLife ≡ true → AllBytes es → sound (run (begun readLife writeLife) es .state) ≡ true
-reached-sound readLife writeLife es r w b = run-sound (begun readLife writeLife) es b (fresh-sound readLife writeLife r w)
+pub reached-sound : (readLife writeLife : ℕ) (es : List Event) → lifetime readLife ≡ true → lifetime writeLife ≡ true → AllBytes es → sound (run (freshWorld readLife writeLife) es .state) ≡ true
+reached-sound readLife writeLife es r w b = run-sound (freshWorld readLife writeLife) es b (fresh-sound readLife writeLife r w)

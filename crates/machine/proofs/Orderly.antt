@@ -18,19 +18,9 @@ use Rattle.machine.specs.Session.{opened, advanced, sealed, isDue}
 use Rattle.machine.specs.State.{Value, Lease, Key, blank, Slot, noSession, session, Staged, nothing, staged, Row, noRow, row, State, fresh, free, freeRow, numbered, ofOn, sessionOf, rowOf, leaseOn, sessionAt, rowAt}
 use Rattle.machine.specs.Expiry.{withKeys, withSessions, withRows, withClock, setValue, setLease, freeIfOf, freeSession, settle, leave, finish, lapsedValue, lapsedLease, those, expire}
 use Rattle.machine.specs.Effects.{begins, leased, fills, onSlot, restaged, withSession, withStaged}
+use Rattle.machine.specs.WellFormed.{Orderly}
 use Rattle.machine.specs.declared.Session.{Session}
 use Rattle.machine.proofs.Views
-
-pub record Orderly (s : State) : Type 0 where
-  -- a lease's token was given, and no row is on its key
-  pub leases : (k : ℕ) (l : Lease) → leaseOn s k ≡ some l → (l .token < s .head .nextToken) × ((i n d : ℕ) (v : Staged) → rowAt s i ≡ row n k d v → ⊥)
-  -- a session's number was given, and to it alone
-  pub numbers : (i : ℕ) (x : Session) → sessionAt s i ≡ session x → x .number < s .head .nextSession
-  pub unique : (i j : ℕ) (x y : Session) → sessionAt s i ≡ session x → sessionAt s j ≡ session y → x .number ≡ y .number → i ≡ j
-  -- a row's kind; two rows on one key are invalidations, which stage nothing
-  pub kinds : (i n k d : ℕ) (v : Staged) → rowAt s i ≡ row n k d v → (1 ≤ d) × (d ≤ 3)
-  pub alone : (i j n m k d e : ℕ) (u v : Staged) → rowAt s i ≡ row n k d u → rowAt s j ≡ row m k e v → (d ≡ 1) ⊎ (i ≡ j)
-  pub plain : (i n k : ℕ) (v : Value) → rowAt s i ≡ row n k 1 (staged v) → ⊥
 
 -- One place set
 

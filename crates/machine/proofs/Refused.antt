@@ -1,7 +1,7 @@
 -- Refusals: a refused command keeps nothing, a number is given exactly when its test is the first that holds, and the numbers
 -- stand in the order of the document's table. An accepted command is answered with one of its own words, so no effect looks like a refusal.
 use mathlib.Core.Path.{_≡_, refl, ap, _∙_}
-use mathlib.Core.Bool.{Bool, true, false, _&&_}
+use mathlib.Core.Bool.{Bool, true, false}
 use mathlib.Core.Logic.{_⊎_, inl, inr}
 use mathlib.Core.List.{List, [], _∷_, map}
 use mathlib.Core.Option.{Option, none, some}
@@ -16,22 +16,16 @@ use Rattle.machine.specs.Words.{wordOf, wordsOf}
 use Rattle.machine.specs.Decision.{grants}
 use Rattle.machine.specs.State.{Value, Staged, nothing, staged, DROP, State, freeRow, kindOf, stagedIn, rowOf, cached, leaseOn}
 use Rattle.machine.specs.Expiry.{expire}
-use Rattle.machine.specs.Refusals.{decide, blocked, Sight, sight, countOf, clockRefusal, refusals, refusal, startRefusals, showRefusals}
+use Rattle.machine.specs.Refusals.{decide, blocked, Sight, sight, countOf, refusals, refusal, startRefusals, showRefusals}
 use Rattle.machine.specs.Effects.{Outcome, begins, leased, missed, looked, matches, fills, asks, stagedAnswer, changed, stages, effect}
 use Rattle.machine.specs.Step.{settled, step, started, start, showing, show}
+use Rattle.machine.specs.Statements.{First, tests, ascend}
 use Rattle.machine.specs.declared.Answer.{Answer}
 use Rattle.machine.specs.declared.Command.{Command}
 use Rattle.machine.specs.declared.Command.the-variants.{Begin, Get, Fill, Quar, Stage, Delta, Validate, Done, Undo, Evict, Tick}
 use Rattle.machine.proofs.Views.{some-eq}
 
 -- The first test that holds
-
--- e is the number of the test at some place, which holds, and no test before it does
-pub record First (l : List (Bool × ℕ)) (e : ℕ) : Type 0 where
-  pub place : ℕ
-  pub holds : getD l place (false, 0) .0 ≡ true
-  pub number : getD l place (false, 0) .1 ≡ e
-  pub before : (j : ℕ) → j < place → getD l j (false, 0) .0 ≡ false
 
 pub first-is : (l : List (Bool × ℕ)) (e : ℕ) → first l ≡ some e → First l e
 first-is [] e p = absurd (let z : _≡_ {A = ℕ} 0 1 = cc in omega arith)
@@ -111,10 +105,6 @@ not-refused s now c v e p = clash (eqb (wordOf (effect s now c v .answer)) 0) (r
 
 -- The theorems
 
--- the tests of a command, on the state after expiry, in order
-abbrev pub tests : State → ℕ → Command → Value → List (Bool × ℕ)
-tests s now c v = clockRefusal (expire now s) now ∷ refusals (expire now s) c v
-
 module _ (s : State) (now : ℕ) (c : Command) (v : Value) where
   -- a refusal, by its number
   refused-by : (o : Option ℕ) (r : Outcome) (e : ℕ) → ((d : ℕ) → r .answer ≡ Answer.Refused d → ⊥) → settled s now o r .answer ≡ Answer.Refused e → o ≡ some e
@@ -141,10 +131,6 @@ module _ (s : State) (now : ℕ) (c : Command) (v : Value) where
   accepted-word p = rw p (effect-worded (expire now s) now v c)
 
 -- The order of the table: each command's numbers ascend
-
-abbrev pub ascend : ℕ → List ℕ → Bool
-ascend n [] = true
-ascend n (m ∷ l) = ltb n m && ascend m l
 
 pub in-order : (s : State) (now : ℕ) (c : Command) (v : Value) → ascend 1 (map (λ x. x .1) (tests s now c v)) ≡ true
 unfolding refusals

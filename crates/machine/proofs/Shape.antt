@@ -18,10 +18,10 @@ use Rattle.machine.specs.Refusals.{decide, blocked, Sight, sight, badKey
 use Rattle.machine.specs.Effects.{Outcome, missed, looked, matches, asks, changed, stages, toCache, effect}
 use Rattle.machine.specs.Step.{settled, step}
 use Rattle.machine.specs.World.{Event, command, write, World, commanded, written, next}
+use Rattle.machine.specs.WellFormed.{Orderly}
 use Rattle.machine.specs.declared.Command.{Command}
 use Rattle.machine.specs.declared.Command.the-variants.{Begin, Get, Fill, Quar, Stage, Delta, Validate, Done, Undo, Evict, Tick}
 use Rattle.machine.proofs.Orderly
-use Rattle.machine.proofs.Orderly.{Orderly}
 use Rattle.machine.proofs.Accepted.{passed, is-kind, sharing, unblocked, row-of}
 
 module _ (s : State) (h : Orderly s) where

@@ -9,9 +9,9 @@ use lib.ListN.{length}
 use Rattle.machine.specs.Sizes.{keyCount, sessionCount, rowCount, stepMax, lifeMax, timeMax, numberMax}
 use Rattle.machine.specs.State.{Value, Lease, session, Staged, row, State, sessionAt, rowAt, cached, leaseOn}
 use Rattle.machine.specs.Sound.{sound}
+use Rattle.machine.specs.WellFormed.{Fine, Within, StagedFits, LiveAs}
 use Rattle.machine.specs.declared.Life.{Life}
 use Rattle.machine.specs.declared.Session.{Session}
-use Rattle.machine.proofs.WellFormed.{Fine, Within, StagedFits, LiveAs}
 use Rattle.machine.proofs.SoundMeans.{session-inside, row-inside, sound-means}
 
 module _ (s : State) (e : sound s ≡ true) where

@@ -18,12 +18,12 @@ use Rattle.machine.specs.Words.{within, isKind}
 use Rattle.machine.specs.State.{Value, Head, Lease, Key, blank, Slot, noSession, session, Staged, nothing, staged, DROP, Row, noRow, row, State, keyOf, sessionAt, rowAt, leaseOn}
 use Rattle.machine.specs.Sound.{clockSound, lifetime, nextSound, headSound, valueSound, cachedSound, given, leaseSound, keySound, lifeSound, sessionSound, stagedSound, rowSound}
 use Rattle.machine.specs.Sound.{tokenIn, numberIn, numberAt, tokenAt, distinct, numbersDistinct, tokensDistinct, liveRow, rowsLive, once, rowsOnce, shares, rowsAlone, leaseless, rowsLeaseless, joined, sized, sound}
+use Rattle.machine.specs.WellFormed.{Fine, Within, LeaseFits, SessionFits, StagedFits, RowFits, LiveAs, WellFormed}
 use Rattle.machine.specs.declared.Life.{Life}
 use Rattle.machine.specs.declared.Session.{Session}
 use Rattle.machine.proofs.Views.{no-some, no-row, no-session}
 use Rattle.machine.proofs.Ranges.{within-inside}
 use Rattle.machine.proofs.Every.{pairs-all, all-pairs, distinct-same, same-distinct, place-inside, every-place, order}
-use Rattle.machine.proofs.WellFormed.{Fine, Within, LeaseFits, SessionFits, StagedFits, RowFits, LiveAs, WellFormed}
 
 both : {a b : Bool} → a ≡ true → b ≡ true → (a && b) ≡ true
 both p q = rw (p, q)

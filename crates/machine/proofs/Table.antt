@@ -8,22 +8,12 @@ use native.Mathlib.Omega.{arith}
 use lib.Dec.{eqb}
 use borrow.Author.Tests.{eqb-true, ne-eqb}
 use lib.ListN.{length, getD, length-map, List·getD-map}
-use Rattle.lent.specs.Tables.{if_then_else_}
 use Rattle.machine.specs.Decision.{decisions, decision, grants}
 use Rattle.machine.specs.declared.Verdict.{Verdict}
 use Rattle.machine.specs.declared.Verdict.the-variants.{Grant, Void, BackOff, Abort}
 use mathlib.Core.Logic.{_⊎_, inl, inr}
 use Rattle.lent.proofs.Choices.{and-yes, case-of, clash}
-
--- nothing held: granted; an I lease asked where anything is held: back off; a Q where an I lease is held: granted and the I lease voided;
--- Q1 where Q1 is held: granted; every other Q: the asker is aborted
-abbrev pub verdictBy : ℕ → ℕ → Verdict
-verdictBy held asked =
-    if eqb held 0 then Grant
-    else if eqb asked 0 then BackOff
-    else if eqb held 1 then Void
-    else if eqb held 2 && eqb asked 1 then Grant
-    else Abort
+use Rattle.machine.specs.Statements.{verdictBy}
 
 abbrev from : ℕ → ℕ → List ℕ
 from i zero = []

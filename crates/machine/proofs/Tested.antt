@@ -21,15 +21,15 @@ use Rattle.machine.specs.Refusals.{sealedIn, sealedSlot, refusal}
 use Rattle.machine.specs.Expiry.{expire}
 use Rattle.machine.specs.Effects.{Outcome, matches, fills, effect}
 use Rattle.machine.specs.Step.{settled, step}
-use Rattle.machine.specs.World.{Event, command, write, World, next, Holds, Sealed, Rules, expired, Kept, AllKept}
+use Rattle.machine.specs.World.{Event, command, write, World, next, HasRow, Sealed, Rules, expired, Kept, AllKept}
 use Rattle.machine.specs.Test.{differs, brokenBy, broken, verdicts}
+use Rattle.machine.specs.WellFormed.{Orderly}
 use Rattle.machine.specs.declared.Life.{Life}
 use Rattle.machine.specs.declared.Session.{Session}
 use Rattle.machine.specs.declared.Answer.{Answer}
 use Rattle.machine.specs.declared.Command.{Command}
 use Rattle.machine.specs.declared.Command.the-variants.{Begin, Get, Fill, Quar, Stage, Delta, Validate, Done, Undo, Evict, Tick}
 use Rattle.machine.proofs.Views
-use Rattle.machine.proofs.Orderly.{Orderly}
 use Rattle.machine.proofs.Accepted.{row-of}
 use Rattle.machine.proofs.Shape.{orderly-next}
 
@@ -137,7 +137,7 @@ is-sealed s n h w = go (sessionOf s n) refl (Views.find-passes (numbered n) noSe
         let it : x ≡ w .live = cc in
         rw (ap (λ (y : Session). y .life) it ∙ w .life)
 
-holds-row : (s : State) (n k : ℕ) → Holds (s .rows) n k → freeRow (rowOf s n k) ≡ false
+holds-row : (s : State) (n k : ℕ) → HasRow (s .rows) n k → freeRow (rowOf s n k) ≡ false
 holds-row s n k w = go (rowOf s n k) (Views.find-passes (ofOn n k) noRow (s .rows) (w .place) refl (rw (w .is, eq-eqb n n refl, eq-eqb k k refl)))
   where
     go : (r : Row) → ofOn n k r ≡ true → freeRow r ≡ false
@@ -163,7 +163,7 @@ pub kept-of : (w : World) (e : Event) → broken w e ≡ 0 → Kept w e
 kept-of w (command now c v) e = rules-of (expired w now) c v (step (w .state) now c v .answer) e
 kept-of w (write n k v) e = go (case-of (sealedIn (w .state) n)) (case-of (freeRow (rowOf (w .state) n k)))
   where
-    go : (sealedIn (w .state) n ≡ true) ⊎ (sealedIn (w .state) n ≡ false) → (freeRow (rowOf (w .state) n k) ≡ true) ⊎ (freeRow (rowOf (w .state) n k) ≡ false) → Sealed (w .state) n × Holds (w .state .rows) n k
+    go : (sealedIn (w .state) n ≡ true) ⊎ (sealedIn (w .state) n ≡ false) → (freeRow (rowOf (w .state) n k) ≡ true) ⊎ (freeRow (rowOf (w .state) n k) ≡ false) → Sealed (w .state) n × HasRow (w .state .rows) n k
     go (inl p) (inr q) = (sealed-is (w .state) n p, (let r = row-of (w .state) n k q in record { place = r .0; kind = _; what = r .1; is = r .2 }))
     go (inl p) (inl q) = absurd (let z : _≡_ {A = ℕ} 2 0 = rw (p, q) at e in omega arith)
     go (inr p) q = absurd (let z : _≡_ {A = ℕ} 2 0 = rw p at e in omega arith)

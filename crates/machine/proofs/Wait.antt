@@ -20,7 +20,9 @@ use Rattle.machine.specs.Expiry.{leave, finish, lapsedValue, unlapsed, l
 use Rattle.machine.specs.Refusals.{decide, blocked, Sight, sight, refusal}
 use Rattle.machine.specs.Effects.{lifeEnd, slotEnd, later, latest, leaseEnd, lessNow, wait, leased, missed, looked, effect}
 use Rattle.machine.specs.Step.{settled, step}
-use Rattle.machine.specs.World.{Holds, Sealed}
+use Rattle.machine.specs.World.{HasRow, Sealed}
+use Rattle.machine.specs.WellFormed.{Within, WellFormed}
+use Rattle.machine.specs.Statements.{OpenUntil, Waits, for-lease, for-sealed, for-open}
 use Rattle.machine.specs.declared.Life.{Life}
 use Rattle.machine.specs.declared.Session.{Session}
 use Rattle.machine.specs.declared.Answer.{Answer}
@@ -28,27 +30,7 @@ use Rattle.machine.specs.declared.Command.the-variants.{Get}
 use Rattle.machine.proofs.Views
 use Rattle.machine.proofs.Orderly
 use Rattle.machine.proofs.Accepted
-use Rattle.machine.proofs.WellFormed.{Within, WellFormed}
 use Rattle.machine.proofs.KeepsSound.{well-expired}
-
--- session n is live and open until a deadline
-pub record OpenUntil (s : State) (n until : ℕ) : Type 0 where
-  pub place : ℕ
-  pub live : Session
-  pub is : sessionAt s place ≡ session live
-  pub number : live .number ≡ n
-  pub life : live .life ≡ Life.Open until
-
--- "w is 0 if a sealed session blocks, else the latest blocking deadline less now, so from 1 to the lifetime of the blocking lease"
-pub data Waits (t : State) (now k w : ℕ) : Type 0 where
-  -- an I lease is on the key
-  for-lease : (l : Lease) → leaseOn t k ≡ some l → w + now ≡ l .until → Within 1 (t .head .readLife) w → Waits t now k w
-  -- a sealed session has a row on it
-  for-sealed : (n : ℕ) → Holds (t .rows) n k → Sealed t n → w ≡ 0 → Waits t now k w
-  -- each session with a row on it is open, and n ends last
-  for-open : (n : ℕ) → Holds (t .rows) n k → OpenUntil t n (w + now)
-      → ((m : ℕ) → Holds (t .rows) m k → (until : ℕ) × OpenUntil t m until × (until ≤ w + now))
-      → Within 1 (t .head .writeLife) w → Waits t now k w
 
 -- After expiry
 
@@ -81,7 +63,7 @@ module _ (now : ℕ) (s : State) where
 module _ (s : State) (k : ℕ) where
   -- the deadline of the session with a row, or none
   End : List Row → Option ℕ → Type 0
-  End rs o = (n : ℕ) × Holds rs n k × (slotEnd (sessionOf s n) ≡ o)
+  End rs o = (n : ℕ) × HasRow rs n k × (slotEnd (sessionOf s n) ≡ o)
 
   -- each session with a row on the key ends by then, and one of them then; or there is none
   record Latest (rs : List Row) (until : ℕ) : Type 0 where
@@ -149,7 +131,7 @@ open-of s n t e = go (sessionOf s n) refl e
     go (session x) p q = let r = Accepted.session-of s n (rw p refl) in record { place = sessionPlace s n; live = x; is = p; number = (let z : session x ≡ session (r .0) = sym p ∙ r .1 in cc); life = ended-open (x .life) t q }
 
 module _ (t : State) (now k : ℕ) (h : WellFormed t now) where
-  sealed-of : (n : ℕ) → Holds (t .rows) n k → slotEnd (sessionOf t n) ≡ none → Sealed t n
+  sealed-of : (n : ℕ) → HasRow (t .rows) n k → slotEnd (sessionOf t n) ≡ none → Sealed t n
   sealed-of n r e =
       let x = h .live (r .place) (r .is) in
       let y = Accepted.session-of t n (live (sessionOf t n) (Views.find-passes (numbered n) noSession (t .sessions) (x .place) refl (rw (x .is) (eq-eqb (x .live .number) n (x .number))))) in
@@ -160,11 +142,11 @@ module _ (t : State) (now k : ℕ) (h : WellFormed t now) where
       live (session x) p = refl
 
   -- a key that is blocked with no I lease on it has a row on it
-  blocked-row : blocked t k ≡ true → leaseOn t k ≡ none → (n : ℕ) × Holds (t .rows) n k
+  blocked-row : blocked t k ≡ true → leaseOn t k ≡ none → (n : ℕ) × HasRow (t .rows) n k
   unfolding blocked decide decision
   blocked-row b e = go (find (on k) noRow (t .rows)) refl (Views.find-test (on k) noRow (t .rows))
     where
-      go : (r : Row) → find (on k) noRow (t .rows) ≡ r → (r ≡ noRow) ⊎ (on k r ≡ true) → (n : ℕ) × Holds (t .rows) n k
+      go : (r : Row) → find (on k) noRow (t .rows) ≡ r → (r ≡ noRow) ⊎ (on k r ≡ true) → (n : ℕ) × HasRow (t .rows) n k
       go noRow p q = clash false (rw (p, e) at b) refl
       go (row n j d u) p (inl q) = Views.no-row n j d u (sym q)
       go (row n j d u) p (inr q) = (n, record { place = place (on k) (t .rows); kind = d; what = u; is = p ∙ ap (λ (x : ℕ). row n x d u) (eqb-true j k q) })
@@ -179,11 +161,11 @@ module _ (t : State) (now k : ℕ) (h : WellFormed t now) where
       go none p none x = for-sealed (x .0) (x .1) (sealed-of (x .0) (x .1) (x .2)) refl
       go none p (some until) x = last (x .one)
         where
-          held : (n : ℕ) × Holds (t .rows) n k
+          held : (n : ℕ) × HasRow (t .rows) n k
           held = blocked-row b p
 
           -- what a session with a row on the key is open until
-          ends : (m : ℕ) → Holds (t .rows) m k → (u : ℕ) × OpenUntil t m u × (u ≤ until) × (now < u)
+          ends : (m : ℕ) → HasRow (t .rows) m k → (u : ℕ) × OpenUntil t m u × (u ≤ until) × (now < u)
           ends m r = let y = x .each (r .place) m (r .kind) (r .what) (r .is) in let z = open-of t m (y .0) (y .1) in (y .0, z, y .2, sessions (z .place) (z .live) (y .0) (z .is) (z .life))
 
           after : now < until
@@ -192,7 +174,7 @@ module _ (t : State) (now k : ℕ) (h : WellFormed t now) where
           back : until - now + now ≡ until
           back = omega (arith, after)
 
-          last : (until ≡ 0) ⊎ ((n : ℕ) × Holds (t .rows) n k × (slotEnd (sessionOf t n) ≡ some until)) → Waits t now k (until - now)
+          last : (until ≡ 0) ⊎ ((n : ℕ) × HasRow (t .rows) n k × (slotEnd (sessionOf t n) ≡ some until)) → Waits t now k (until - now)
           last (inl z) = absurd (omega (arith, after))
           last (inr z) = let y = open-of t (z .0) until (z .2) in let a = h .sessions .each (y .place) (y .is) .deadline until (y .life) in
               for-open (z .0) (z .1) (rw back y) (λ m r. let v = ends m r in (v .0, v .1, rw back (v .2))) (omega (arith, after), omega (arith, after))

@@ -15,10 +15,10 @@ use Rattle.machine.specs.Session.{opened, advanced, sealed, isDue}
 use Rattle.machine.specs.State.{Value, Lease, Key, blank, noSession, session, Staged, nothing, staged, DROP, Row, noRow, row, State, free, freeRow, sessionPlace, sessionOf, rowPlace, rowOf, sessionAt, rowAt, cached, leaseOn}
 use Rattle.machine.specs.Expiry.{withKeys, withRows, withClock, setValue, setLease, freeIfOf, freeSession, settle, leave, finish, lapsedValue, lapsedLease, those, expire}
 use Rattle.machine.specs.Effects.{begins, leased, fills, toCache, onSlot, restaged, withSession, withStaged}
+use Rattle.machine.specs.WellFormed.{Fine, LeaseFits, SessionFits, StagedFits, RowFits, LiveAs, WellFormed, Orderly}
 use Rattle.machine.specs.declared.Session.{Session}
 use Rattle.machine.proofs.Views
 use Rattle.machine.proofs.Orderly
-use Rattle.machine.proofs.WellFormed.{Fine, LeaseFits, SessionFits, StagedFits, RowFits, LiveAs, WellFormed}
 
 -- time passes
 pub well-later : (s : State) (a b : ℕ) → a ≤ b → b ≤ timeMax → WellFormed s a → WellFormed s b
@@ -265,7 +265,7 @@ module _ (s : State) (now : ℕ) (h : WellFormed s now) where
       two i j m q d c u v (inr x) (inr y) = sym (x .0) ∙ y .0
 
   -- what is staged in the row of session n on key k becomes u, which fits its kind
-  pub well-restaged : (n k : ℕ) (u : Staged) → ((i d : ℕ) (v : Staged) → rowAt s i ≡ row n k d v → StagedFits d u) → Orderly.Orderly (withStaged s n k u) → WellFormed (withStaged s n k u) now
+  pub well-restaged : (n k : ℕ) (u : Staged) → ((i d : ℕ) (v : Staged) → rowAt s i ≡ row n k d v → StagedFits d u) → Orderly (withStaged s n k u) → WellFormed (withStaged s n k u) now
   well-restaged n k u fits o = record {
     orderly = o;
     head = h .head;

@@ -8,13 +8,14 @@ use native.Mathlib.Omega.{arith}
 use lib.Dec.{ltb}
 use borrow.Author.Tests.{ltb-true}
 use lib.ListN.{length, take, drop, take-append-drop}
+use Rattle.lent.specs.Bytes.{Bytes}
 use Rattle.lent.proofs.Choices.{and-yes}
 use Rattle.machine.specs.Sizes.{stateSize}
 use Rattle.machine.specs.State.{Value, State}
-use Rattle.machine.specs.World.{Event, command, write, World, begun, AllKept, Consistent, AllBytes}
+use Rattle.machine.specs.World.{Event, command, write, World, freshWorld, AllKept, Consistent, AllBytes}
+use Rattle.machine.specs.Witness.{events}
 use Rattle.machine.specs.declared.Answer.{Answer}
-use Rattle.machine.proofs.WellFormed.{Bytes}
-use Rattle.machine.proofs.Witness.{events, witness-kept}
+use Rattle.machine.proofs.Witness.{witness-kept}
 use Rattle.layout.specs.WellFormed.{wellFormed}
 use Rattle.startup.specs.Start.{Reply, startOf}
 use Rattle.startup.proofs.Started.{started-ready}
@@ -54,10 +55,10 @@ values-test (write n k v ∷ es) e = (tt, values-test es e)
 witness-values : AllBytes events
 witness-values = values-test events refl
 
-begun-bytes : (b : List ℕ) → startOf b 1000 5000 .answer ≡ Answer.Ready → worldOf (begunOn (startOf b 1000 5000 .bytes)) ≡ begun 1000 5000
+begun-bytes : (b : List ℕ) → startOf b 1000 5000 .answer ≡ Answer.Ready → worldOf (begunOn (startOf b 1000 5000 .bytes)) ≡ freshWorld 1000 5000
 begun-bytes b ready = ap (λ (s : State). record { state = s; register = λ k. []; began = λ k. []; since = λ t k. []; wrote = λ n. false }) (ready-decodes b 1000 5000 ready)
 
-kept-begun : (b : List ℕ) → startOf b 1000 5000 .answer ≡ Answer.Ready → (es : List Event) → AllKept (begun 1000 5000) es → AllKept (worldOf (begunOn (startOf b 1000 5000 .bytes))) es
+kept-begun : (b : List ℕ) → startOf b 1000 5000 .answer ≡ Answer.Ready → (es : List Event) → AllKept (freshWorld 1000 5000) es → AllKept (worldOf (begunOn (startOf b 1000 5000 .bytes))) es
 kept-begun b ready es h = rw (begun-bytes b ready) h
 
 module _ (b : List ℕ) (size : length b ≡ stateSize) where

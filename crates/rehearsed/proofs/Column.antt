@@ -20,7 +20,7 @@ use Rattle.machine.specs.Sound.{sound}
 use Rattle.machine.specs.Refusals.{notLive}
 use Rattle.machine.specs.Expiry.{expire}
 use Rattle.machine.specs.Step.{step}
-use Rattle.machine.specs.World.{Event, command, write, World, begun, commanded, written, next, run, EventBytes, AllBytes}
+use Rattle.machine.specs.World.{Event, command, write, World, freshWorld, commanded, written, next, run, EventBytes, AllBytes}
 use Rattle.machine.specs.Test.{differs}
 use Rattle.machine.specs.declared.Answer.{Answer}
 use Rattle.machine.specs.declared.Command.{Command}
@@ -166,7 +166,7 @@ new-started b h = record {
   unmarked = λ i f. Laws.mark-started b (h .size) i ∙ h .unmarked i f;
 }
 
-recorded-new : (b : List ℕ) (readLife writeLife : ℕ) → NewBook b → Recorded b (begun readLife writeLife)
+recorded-new : (b : List ℕ) (readLife writeLife : ℕ) → NewBook b → Recorded b (freshWorld readLife writeLife)
 unfolding fresh
 recorded-new b readLife writeLife h = record {
   size = h .size;
@@ -182,7 +182,7 @@ module _ (x b : List ℕ) (readLife writeLife : ℕ) (ready : startOf x readLife
   p₀ = startedPair x b readLife writeLife
 
   abbrev w₀ : World
-  w₀ = begun readLife writeLife
+  w₀ = freshWorld readLife writeLife
 
   pub tied-started : Tied p₀ w₀
   unfolding begins

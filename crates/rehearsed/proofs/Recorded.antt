@@ -20,12 +20,12 @@ use Rattle.machine.specs.Sound.{sound}
 use Rattle.machine.specs.Refusals.{notLive}
 use Rattle.machine.specs.Effects.{Outcome}
 use Rattle.machine.specs.World.{World, sinceGrant, commanded, written}
+use Rattle.machine.specs.WellFormed.{Orderly}
 use Rattle.machine.specs.declared.Session.{Session}
 use Rattle.machine.specs.declared.Answer.{Answer}
 use Rattle.machine.specs.declared.Command.{Command}
 use Rattle.machine.specs.declared.Command.the-variants.{Begin, Get, Fill, Quar, Stage, Delta, Validate, Done, Undo, Evict, Tick}
 use Rattle.machine.proofs.Views
-use Rattle.machine.proofs.Orderly.{Orderly}
 use Rattle.machine.proofs.Accepted.{session-of}
 use Rattle.machine.proofs.Every.{place-inside}
 use Rattle.machine.proofs.SoundMeans.{sound-means}

@@ -21,13 +21,14 @@ use Rattle.machine.specs.Expiry.{expire}
 use Rattle.machine.specs.Refusals.{refusal}
 use Rattle.machine.specs.Effects.{Outcome, matches, fills, effect}
 use Rattle.machine.specs.Step.{settled, step}
-use Rattle.machine.specs.World.{Event, command, write, World, begun, sinceGrant, commanded, written, next, run, Holds, Kept, AllKept}
+use Rattle.machine.specs.World.{Event, command, write, World, freshWorld, sinceGrant, commanded, written, next, run, HasRow, Kept, AllKept}
 use Rattle.machine.specs.Test.{broken}
+use Rattle.machine.specs.WellFormed.{Orderly}
 use Rattle.machine.specs.declared.Answer.{Answer}
 use Rattle.machine.specs.declared.Command.{Command}
 use Rattle.machine.specs.declared.Command.the-variants.{Begin, Get, Fill, Quar, Stage, Delta, Validate, Done, Undo, Evict, Tick}
 use Rattle.machine.proofs.Views
-use Rattle.machine.proofs.Orderly.{Orderly, orderly-fresh}
+use Rattle.machine.proofs.Orderly.{orderly-fresh}
 use Rattle.machine.proofs.Shape.{orderly-next, orderly-step}
 use Rattle.machine.proofs.Accepted.{matched}
 use Rattle.machine.proofs.Frames.{expire-lease}
@@ -97,7 +98,7 @@ pub record Steady (w : World) : Type 0 where
   pub noted : (k : ℕ) (l : Lease) → leaseOn (w .state) k ≡ some l → 1 ≤ length (w .since (l .token) k)
   pub level : (k : ℕ) (l : Lease) → leaseOn (w .state) k ≡ some l → Level (w .register k) (w .since (l .token) k)
 
-begun-steady : (readLife writeLife : ℕ) → Steady (begun readLife writeLife)
+begun-steady : (readLife writeLife : ℕ) → Steady (freshWorld readLife writeLife)
 unfolding fresh
 begun-steady readLife writeLife = record {
   orderly = orderly-fresh readLife writeLife;
@@ -105,7 +106,7 @@ begun-steady readLife writeLife = record {
   level = λ k l e. none-fresh k l e;
 }
   where
-    none-fresh : {A : Type 0} (k : ℕ) (l : Lease) → leaseOn (begun readLife writeLife .state) k ≡ some l → A
+    none-fresh : {A : Type 0} (k : ℕ) (l : Lease) → leaseOn (freshWorld readLife writeLife .state) k ≡ some l → A
     none-fresh k l e = Views.no-some l (sym (ap (λ (x : Key). x .lease) (Views.getD-same keyCount k blank)) ∙ e)
 
 -- what is remembered of a token after an answer
@@ -150,7 +151,7 @@ commanded-steady w g c r h m = record {
     level k l (granted q) = rw q (λ u x. List·Memᴰ·eq-of-singleton x)
 
 -- rule 2: a key that is written has a row, and so no lease
-written-steady : (w : World) → Steady w → (n k : ℕ) (v : Value) → Holds (w .state .rows) n k → Steady (written w n k v)
+written-steady : (w : World) → Steady w → (n k : ℕ) (v : Value) → HasRow (w .state .rows) n k → Steady (written w n k v)
 unfolding written
 written-steady w g n k v held = record {
   orderly = g .orderly;
@@ -198,16 +199,16 @@ steady-two w g (write n k v) = refl
 
 module _ (readLife writeLife : ℕ) where
   -- the theorem: after a run from START in which rule 2 was kept, the two-value form is rule 1
-  pub two-values-rule-1 : (es : List Event) → WritesKept (begun readLife writeLife) es → (e : Event) → brokenTwo (run (begun readLife writeLife) es) e ≡ broken (run (begun readLife writeLife) es) e
-  two-values-rule-1 es rules = steady-two (run (begun readLife writeLife) es) (run-steady (begun readLife writeLife) es (begun-steady readLife writeLife) rules)
+  pub two-values-rule-1 : (es : List Event) → WritesKept (freshWorld readLife writeLife) es → (e : Event) → brokenTwo (run (freshWorld readLife writeLife) es) e ≡ broken (run (freshWorld readLife writeLife) es) e
+  two-values-rule-1 es rules = steady-two (run (freshWorld readLife writeLife) es) (run-steady (freshWorld readLife writeLife) es (begun-steady readLife writeLife) rules)
 
-  pub kept-two : (es : List Event) → WritesKept (begun readLife writeLife) es → (e : Event) → KeptTwo (run (begun readLife writeLife) es) e → Kept (run (begun readLife writeLife) es) e
-  kept-two es rules e h = let g = run-steady (begun readLife writeLife) es (begun-steady readLife writeLife) rules in
-      kept-of (run (begun readLife writeLife) es) e (sym (steady-two _ g e) ∙ kept-unbroken (twoValues (run (begun readLife writeLife) es)) e (g .orderly) h)
+  pub kept-two : (es : List Event) → WritesKept (freshWorld readLife writeLife) es → (e : Event) → KeptTwo (run (freshWorld readLife writeLife) es) e → Kept (run (freshWorld readLife writeLife) es) e
+  kept-two es rules e h = let g = run-steady (freshWorld readLife writeLife) es (begun-steady readLife writeLife) rules in
+      kept-of (run (freshWorld readLife writeLife) es) e (sym (steady-two _ g e) ∙ kept-unbroken (twoValues (run (freshWorld readLife writeLife) es)) e (g .orderly) h)
 
-  pub two-kept : (es : List Event) → WritesKept (begun readLife writeLife) es → (e : Event) → Kept (run (begun readLife writeLife) es) e → KeptTwo (run (begun readLife writeLife) es) e
-  two-kept es rules e h = let g = run-steady (begun readLife writeLife) es (begun-steady readLife writeLife) rules in
-      kept-of (twoValues (run (begun readLife writeLife) es)) e (steady-two _ g e ∙ kept-unbroken (run (begun readLife writeLife) es) e (g .orderly) h)
+  pub two-kept : (es : List Event) → WritesKept (freshWorld readLife writeLife) es → (e : Event) → Kept (run (freshWorld readLife writeLife) es) e → KeptTwo (run (freshWorld readLife writeLife) es) e
+  two-kept es rules e h = let g = run-steady (freshWorld readLife writeLife) es (begun-steady readLife writeLife) rules in
+      kept-of (twoValues (run (freshWorld readLife writeLife) es)) e (steady-two _ g e ∙ kept-unbroken (run (freshWorld readLife writeLife) es) e (g .orderly) h)
 
 -- So a whole run that keeps the two-value form keeps the rules, and the other way round
 
@@ -228,8 +229,8 @@ all-two w (e ∷ es) g h =
     let two : KeptTwo w e = kept-of (twoValues w) e (steady-two w g e ∙ kept-unbroken w e (g .orderly) (h .0)) in
     (two, all-two (next w e) es (next-steady w e g (write-kept w e two)) (h .1))
 
-pub allKept-two : (readLife writeLife : ℕ) (es : List Event) → AllKeptTwo (begun readLife writeLife) es → AllKept (begun readLife writeLife) es
-allKept-two readLife writeLife es = all-kept (begun readLife writeLife) es (begun-steady readLife writeLife)
+pub allKept-two : (readLife writeLife : ℕ) (es : List Event) → AllKeptTwo (freshWorld readLife writeLife) es → AllKept (freshWorld readLife writeLife) es
+allKept-two readLife writeLife es = all-kept (freshWorld readLife writeLife) es (begun-steady readLife writeLife)
 
-pub two-allKept : (readLife writeLife : ℕ) (es : List Event) → AllKept (begun readLife writeLife) es → AllKeptTwo (begun readLife writeLife) es
-two-allKept readLife writeLife es = all-two (begun readLife writeLife) es (begun-steady readLife writeLife)
+pub two-allKept : (readLife writeLife : ℕ) (es : List Event) → AllKept (freshWorld readLife writeLife) es → AllKeptTwo (freshWorld readLife writeLife) es
+two-allKept readLife writeLife es = all-two (freshWorld readLife writeLife) es (begun-steady readLife writeLife)

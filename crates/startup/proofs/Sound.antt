@@ -13,7 +13,7 @@ use Rattle.machine.specs.Sizes.{stateSize}
 use Rattle.machine.specs.Words.{wordOf}
 use Rattle.machine.specs.State.{State, fresh}
 use Rattle.machine.specs.Sound.{lifetime, sound}
-use Rattle.machine.specs.World.{Event, World, begun, run, AllKept, Consistent, AllBytes}
+use Rattle.machine.specs.World.{Event, World, freshWorld, run, AllKept, Consistent, AllBytes}
 use Rattle.machine.specs.declared.Answer.{Answer}
 use Rattle.machine.proofs.KeepsSound.{fresh-sound, reached-sound}
 use Rattle.machine.proofs.Demand3.{demand-3}
@@ -64,14 +64,14 @@ module _ (b : List ℕ) (readLife writeLife : ℕ) where
     abbrev pub world : World
     world = record { state = decode (startOf b readLife writeLife .bytes); register = λ k. []; began = λ k. []; since = λ t k. []; wrote = λ n. false }
 
-    world-begun : world ≡ begun readLife writeLife
-    world-begun = ap (λ (s : State). record { state = s; register = λ k. []; began = λ k. []; since = λ t k. []; wrote = λ n. false }) ready-decodes
+    world-fresh : world ≡ freshWorld readLife writeLife
+    world-fresh = ap (λ (s : State). record { state = s; register = λ k. []; began = λ k. []; since = λ t k. []; wrote = λ n. false }) ready-decodes
 
     -- theorem 3 from these bytes
     pub ready-sound : (es : List Event) → AllBytes es → sound (run world es .state) ≡ true
     ready-sound es h = let x = ready-started ready in
-        ap (λ (w : World). sound (run w es .state)) world-begun ∙ reached-sound readLife writeLife es (x .read) (x .write) h
+        ap (λ (w : World). sound (run w es .state)) world-fresh ∙ reached-sound readLife writeLife es (x .read) (x .write) h
 
     -- demand 3 from these bytes
     pub ready-demand-3 : (es fs : List Event) → AllKept world (es ++ fs) → Consistent (run world es)
-    ready-demand-3 es fs h = rw world-begun (demand-3 readLife writeLife es fs (rw world-begun at h))
+    ready-demand-3 es fs h = rw world-fresh (demand-3 readLife writeLife es fs (rw world-fresh at h))

@@ -5,8 +5,7 @@ use native.Mathlib.Omega.{arith}
 use lib.ListN.{length, take}
 use lib.Seq.{take-all}
 use borrow.Author.Needs.{needs}
-use Rattle.lent.specs.Tables.{iter}
-use Rattle.lent.proofs.Walks.{iter-more}
+use Rattle.lent.proofs.Walks.{iter-more, iter}
 use Rattle.machine.specs.State.{State}
 use Rattle.machine.specs.Sizes.{stateSize, sessionCount}
 use Rattle.machine.specs.Session.{isDue}
