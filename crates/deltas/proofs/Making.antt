@@ -1,20 +1,19 @@
 -- What DELTA makes of a value: two values copied one behind the other are the longer value, if they fit, and a count that is written stands
 -- at the front of its buffer. Where there is no result nothing is said of the buffer.
-use mathlib.Core.Path.{_≡_, refl, sym, ap, _∙_}
-use mathlib.Core.Bool.{true, false}
+use mathlib.Core.Path.{_≡_, refl, sym, ap}
 use mathlib.Core.List.{List, _++_}
 use mathlib.Core.Option.{Option, none, some}
 use Prim.Native.Nat.{ℕ, _+_, _≤_, _<_}
 use native.Mathlib.Nat.{zero-add}
 use native.Mathlib.Omega.{arith}
 use lib.Dec.{eqb}
-use lib.ListN.{length, take, drop, length-append}
+use lib.ListN.{length, length-append}
 use lib.Seq.{take-append-seam}
-use borrow.Author.Tests.{eq-eqb, ne-eqb, le-leb, lt-leb}
+use borrow.Author.Tests.{ne-eqb, le-leb, lt-leb}
 use Rattle.lent.specs.Bytes.{splice}
 use Rattle.lent.specs.Tables.{if_then_else_}
 use Rattle.lent.proofs.Splice.{splice-next}
-use Rattle.counts.specs.Count.{digitsMax, decimal, readCount, written, raised, lowered}
+use Rattle.counts.specs.Count.{readCount, written, raised, lowered}
 use Rattle.counts.specs.declared.Count.{Count}
 use Rattle.counts.proofs.Decimal.{decimal-most}
 use Rattle.counts.proofs.Laws.{written-room, written-front}

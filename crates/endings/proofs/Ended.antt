@@ -1,12 +1,11 @@
 -- The loop over the rows is a pass that hands the keys along. The rows and keys after the last are those of `finish` and of `leave`, which
 -- settle the keys along the rows in the same order.
 use mathlib.Core.Path.{_≡_, refl, sym, _∙_}
-use mathlib.Core.Bool.{Bool, true, false}
 use mathlib.Core.List.{List, [], _∷_}
 use Prim.Native.Nat.{ℕ}
 use lib.ListN.{length}
-use Rattle.lent.specs.Tables.{if_then_else_}
 use Rattle.lent.proofs.Walks.{iter}
+use Rattle.lent.proofs.Choices.{if-same}
 use Rattle.machine.specs.Sizes.{rowCount}
 use Rattle.machine.specs.Tables.{mem}
 use Rattle.machine.specs.State.{Key, Row, noRow, row, State}
@@ -14,10 +13,6 @@ use Rattle.machine.specs.Expiry.{withKeys, withRows, freeIfOf}
 use Rattle.endings.specs.Ends.{settled, rowSettles, endRow, endRows}
 use Rattle.endings.specs.declared.Ending.{Ending}
 use Rattle.endings.proofs.Passes.{along, pass-whole}
-
-if-same : {A : Type 0} (t : Bool) (a : A) → (if t then a else a) ≡ a
-if-same true a = refl
-if-same false a = refl
 
 module _ (e : Ending) (ns : List ℕ) where
   -- one row more in front

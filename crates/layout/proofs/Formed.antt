@@ -1,12 +1,12 @@
 -- What is well formed: bytes that hold a sound state, and no others. A state that fits is read back from its bytes as it was, so its bytes
 -- are well formed exactly if it is sound.
 use mathlib.Core.Path.{_≡_, refl, sym, ap, _∙_}
-use mathlib.Core.Bool.{Bool, true, _&&_}
+use mathlib.Core.Bool.{true}
 use mathlib.Core.List.{List}
 use Prim.Native.Nat.{ℕ}
 use lib.Dec.{eqb}
 use lib.ListN.{length}
-use borrow.Author.Tests.{eq-eqb, eqb-true}
+use borrow.Author.Tests.{eqb-true}
 use Rattle.lent.specs.Bytes.{Bytes}
 use Rattle.lent.specs.Tables.{same}
 use Rattle.lent.proofs.Choices.{and-yes}

@@ -1,8 +1,8 @@
 -- Each record is read from its bytes as it was written: field by field, where the bytes of a number say it and a value is as long as its
 -- length byte says; so the whole record.
-use mathlib.Core.Path.{_≡_, refl, sym, ap, ap₂, _∙_}
-use mathlib.Core.Bool.{Bool, true, false, not}
-use mathlib.Core.List.{List, [], _∷_, _++_}
+use mathlib.Core.Path.{_≡_, refl, ap}
+use mathlib.Core.Bool.{false, not}
+use mathlib.Core.List.{List, _++_}
 use mathlib.Core.Option.{Option, none, some}
 use Prim.Native.Nat.{ℕ, _≤_, _<_, _^_}
 use native.Mathlib.Omega.{arith}
@@ -10,18 +10,16 @@ use lib.Dec.{eqb}
 use lib.ListN.{length, getD}
 use lib.Seq.{take-at}
 use borrow.Author.Tests.{ne-eqb}
-use Rattle.lent.specs.Bytes.{le16, le32, le64, win, zeros}
+use Rattle.lent.specs.Bytes.{le32, le64, win}
 use Rattle.lent.specs.Tables.{if_then_else_}
 use Rattle.lent.proofs.Numbers.{le16-bytes, le32-bytes, le64-bytes}
-use Rattle.machine.specs.Sizes.{valueMax}
 use Rattle.machine.specs.Tables.{isNone}
 use Rattle.machine.specs.State.{Value, Head, Lease, Key, Slot, noSession, session, Staged, nothing, staged, DROP, Row, noRow, row, kindOf, stagedIn}
 use Rattle.machine.specs.Sound.{tokenIn, numberIn}
 use Rattle.machine.specs.declared.Life.{Life}
-use Rattle.machine.specs.declared.Session.{Session}
 use Rattle.layout.specs.Layout.{encHead, decHead, valueMark, valueBytes, leaseBytes, encKey, decValue, decLease, decKey, encRow, decStaged, decRow, lifeTime, encSession, decLife, sessionFrom, decSession}
 use Rattle.layout.specs.Fields.{valueLength, leaseUntil, rowSession, rowKey, stagedMark, stagedLength, sessionIn}
-use Rattle.layout.specs.Holds.{HeadFits, LeaseFits, KeyFits, Live, SlotFits, StagedFits, RowFits}
+use Rattle.layout.specs.Holds.{HeadFits, LeaseFits, KeyFits, SlotFits, RowFits}
 
 -- a number that is not 0 is told from 0
 given-not-zero : (n : ℕ) → 1 ≤ n → eqb n 0 ≡ false

@@ -1,19 +1,17 @@
 -- What a search of a table tells of the table: the first place at which a test holds is the table's `place`, and where there is none, every
 -- entry fails the test. So the lowest free place also tells whether a table is full.
-use mathlib.Core.Path.{_≡_, refl, sym, ap, _∙_}
+use mathlib.Core.Path.{_≡_, refl, sym, _∙_}
 use mathlib.Core.Bool.{Bool, true, false, not}
 use mathlib.Core.List.{List, [], _∷_}
 use Prim.Native.Nat.{ℕ, zero, suc, _+_, _≤_, _<_}
-use native.Mathlib.Nat.{zero-add, suc-add}
 use native.Mathlib.Omega.{arith}
 use lib.Dec.{leb, ltb, leb·suc-suc}
 use lib.ListN.{length, getD, List·getD-eq-default}
 use borrow.Author.Tests.{le-leb, le-ltb, lt-leb, lt-ltb, ltb-false, ltb-true}
 use Rattle.lent.specs.Tables.{if_then_else_, first}
-use Rattle.lent.proofs.Choices.{clash}
 use Rattle.lent.proofs.Walks.{Search, found, nowhere, first-search}
 use Rattle.machine.specs.Tables.{place, find, count}
-use Rattle.layout.specs.Search.{found as foundAt, Below}
+use Rattle.layout.specs.Search.{found as foundAt}
 use Rattle.layout.specs.declared.Found.{Found}
 
 -- ---- what is found

@@ -47,11 +47,6 @@ module _ {A : Type 0} (P : A → Type 0) where
   each-map Q [] f e = tt
   each-map Q (x ∷ xs) f e = (f x (e .0), each-map Q xs f (e .1))
 
-  pub each-same : (n : ℕ) (x : A) → P x → Each P (replicate n x)
-  unfolding Each
-  each-same zero x p = tt
-  each-same (suc n) x p = (p, each-same n x p)
-
 -- ---- records to bytes
 
 module _ {A : Type 0} (enc : A → List ℕ) (w : ℕ) where
@@ -77,11 +72,6 @@ module _ {A : Type 0} (enc : A → List ℕ) (w : ℕ) where
   put-tab (x ∷ xs) q y zero e l h = rw (zero-mul, l, zero-add, append-assoc, drop-at (enc x) _ w (e .0), append-assoc)
   put-tab (x ∷ xs) q y (suc i) e l h =
       rw (append-assoc, place-next i w, append-assoc) (splice-append (enc x) (tabOf enc xs ++ q) (enc y) w (i * w) (e .0) ∙ ap (λ (r : List ℕ). enc x ++ r) (put-tab xs q y i (e .1) l (le-of-suc-le-suc h)))
-
-  pub tab-append : (xs ys : List A) → tabOf enc (xs ++ ys) ≡ tabOf enc xs ++ tabOf enc ys
-  unfolding tabOf
-  tab-append [] ys = refl
-  tab-append (x ∷ xs) ys = rw (tab-append xs ys, append-assoc)
 
   -- records that are all zeros
   pub tab-zeros : (n : ℕ) (x : A) → enc x ≡ zeros w → tabOf enc (replicate n x) ≡ zeros (n * w)

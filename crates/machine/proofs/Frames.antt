@@ -13,7 +13,7 @@ use lib.Dec.{eqb, ltb}
 use lib.ListN.{getD, set, List·getD-map}
 use Rattle.lent.proofs.Choices.{case-of, clash, if-ind}
 use Rattle.machine.specs.Tables.{place, mem, putAt, isNone}
-use Rattle.machine.specs.Words.{wordOf}
+use Rattle.machine.specs.Words.{wordOf, LEASE, INVALIDATE}
 use Rattle.machine.specs.Session.{opened, advanced, sealed, isDue}
 use Rattle.machine.specs.Decision.{grants}
 use Rattle.machine.specs.State.{Value, Lease, Key, blank, noSession, session, Staged, nothing, staged, DROP, Row, noRow, row, State, free, freeRow, kindOf, stagedIn, sessionPlace, sessionOf, rowOf, cached, leaseOn, sessionAt, rowAt}
@@ -63,7 +63,7 @@ still-written ns rs wrote k f q = record {
 }
 
 -- the answer that stages grants no lease
-staged-quiet : (u : Staged) → eqb (wordOf (stagedAnswer u)) 6 ≡ false
+pub staged-quiet : (u : Staged) → eqb (wordOf (stagedAnswer u)) LEASE ≡ false
 staged-quiet nothing = refl
 staged-quiet (staged v) = refl
 staged-quiet DROP = refl
@@ -73,7 +73,7 @@ module _ (w : World) (g : Good w) where
   Framed r = Frame w (r .answer) (r .after)
 
   -- nothing changes
-  pub stays : (a : Answer) → eqb (wordOf a) 6 ≡ false → Frame w a (w .state)
+  pub stays : (a : Answer) → eqb (wordOf a) LEASE ≡ false → Frame w a (w .state)
   stays a quiet = record {
     keeps = λ k v p q. p;
     value = λ k v p. inr (p, λ q. q);
@@ -83,7 +83,7 @@ module _ (w : World) (g : Good w) where
   }
 
   -- values and leases change, nothing else: no lease is new, and no value but the register's, on a key with no row
-  keyed : (a : Answer) (ks : List Key) → eqb (wordOf a) 6 ≡ false
+  keyed : (a : Answer) (ks : List Key) → eqb (wordOf a) LEASE ≡ false
       → ((k : ℕ) (v : Value) → getD ks k blank .value ≡ some v → (cached (w .state) k ≡ some v) ⊎ ((v ≡ w .register k) × (RowOn (w .state .rows) k → ⊥)))
       → ((k : ℕ) (l : Lease) → getD ks k blank .lease ≡ some l → leaseOn (w .state) k ≡ some l)
       → Frame w a (withKeys (w .state) ks)
@@ -96,7 +96,7 @@ module _ (w : World) (g : Good w) where
   }
 
   -- sessions end, and no value or lease is new; a value stays only where no writer among them has a row
-  ends : (a : Answer) (ns : List ℕ) (ks : List Key) → eqb (wordOf a) 6 ≡ false
+  ends : (a : Answer) (ns : List ℕ) (ks : List Key) → eqb (wordOf a) LEASE ≡ false
       → ((k : ℕ) (v : Value) → getD ks k blank .value ≡ some v → (cached (w .state) k ≡ some v) × ((i n d : ℕ) (u : Staged) → rowAt (w .state) i ≡ row n k d u → w .wrote n ≡ true → mem n ns ≡ false))
       → ((k : ℕ) (l : Lease) → getD ks k blank .lease ≡ some l → leaseOn (w .state) k ≡ some l)
       → Frame w a (leave ns (withKeys (w .state) ks))
@@ -153,7 +153,7 @@ module _ (w : World) (g : Good w) where
           was : (rowAt s (q .holds .place) ≡ row (q .number) k (q .holds .kind) (q .holds .what)) × (mem (q .number) (n ∷ []) ≡ false)
           was = Orderly.was-row (n ∷ []) (s .rows) (q .holds .place) (q .number) k (q .holds .kind) (q .holds .what) (q .holds .is)
 
-          apart : (h .kind ≡ 1) ⊎ (h .place ≡ q .holds .place) → ⊥
+          apart : (h .kind ≡ INVALIDATE) ⊎ (h .place ≡ q .holds .place) → ⊥
           apart (inl e) = g .orderly .plain (h .place) (h .number) k v (had k v h ∙ ap (λ (x : ℕ). row (h .number) k x (staged v)) e)
           apart (inr e) =
               let same : row (h .number) k (h .kind) (h .what) ≡ row (q .number) k (q .holds .kind) (q .holds .what) = sym (h .is) ∙ ap (rowAt s) e ∙ was .0 in
@@ -161,7 +161,7 @@ module _ (w : World) (g : Good w) where
               clash (mem (q .number) (n ∷ [])) (rw who at (h .among)) (was .1)
 
   -- UNDO, by rule 3, ABORTED and LOST: the session has not written
-  leaves : (a : Answer) (n : ℕ) → eqb (wordOf a) 6 ≡ false → w .wrote n ≡ false → Frame w a (leave (n ∷ []) (w .state))
+  leaves : (a : Answer) (n : ℕ) → eqb (wordOf a) LEASE ≡ false → w .wrote n ≡ false → Frame w a (leave (n ∷ []) (w .state))
   leaves a n quiet never = ends a (n ∷ []) (w .state .keys) quiet (λ k v p. (p, λ i m d u r did. spared m did)) (λ k l p. p)
     where
       spared : (m : ℕ) → w .wrote m ≡ true → mem m (n ∷ []) ≡ false

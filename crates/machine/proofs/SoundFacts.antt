@@ -1,30 +1,19 @@
--- What a sound state promises, by name: sizes and bounds of each field, so that code which finds an entry knows its numbers' ranges.
+-- What a sound state promises, by name: bounds of each field, so that code which finds an entry knows its numbers' ranges.
 -- Each law is a field of the record that `sound-means` gives; a place that is not free lies inside its table.
-use mathlib.Core.Path.{_≡_, refl}
+use mathlib.Core.Path.{_≡_}
 use mathlib.Core.Bool.{true}
-use mathlib.Core.Option.{Option, none, some}
+use mathlib.Core.Option.{some}
 use Prim.Native.Nat.{ℕ, _+_, _≤_, _<_}
 use native.Mathlib.Omega.{arith}
-use lib.ListN.{length}
 use Rattle.machine.specs.Sizes.{keyCount, sessionCount, rowCount, stepMax, lifeMax, timeMax, numberMax}
 use Rattle.machine.specs.State.{Value, Lease, session, Staged, row, State, sessionAt, rowAt, cached, leaseOn}
 use Rattle.machine.specs.Sound.{sound}
 use Rattle.machine.specs.WellFormed.{Fine, Within, StagedFits, LiveAs}
 use Rattle.machine.specs.declared.Life.{Life}
 use Rattle.machine.specs.declared.Session.{Session}
-use Rattle.machine.proofs.SoundMeans.{session-inside, row-inside, sound-means}
+use Rattle.machine.proofs.SoundMeans.{session-inside, row-inside, sessions-length, rows-length, sound-means}
 
 module _ (s : State) (e : sound s ≡ true) where
-  -- 256 keys, 128 sessions, 384 Q rows
-  pub keys-length : length (s .keys) ≡ keyCount
-  keys-length = sound-means s e .keys .length
-
-  pub sessions-length : length (s .sessions) ≡ sessionCount
-  sessions-length = sound-means s e .sessions .length
-
-  pub rows-length : length (s .rows) ≡ rowCount
-  rows-length = sound-means s e .rows .length
-
   -- the head
   pub clock-bound : s .head .clock ≤ timeMax
   clock-bound = sound-means s e .head .time
@@ -51,12 +40,9 @@ module _ (s : State) (e : sound s ≡ true) where
   pub lease-until : (k : ℕ) {l : Lease} → leaseOn s k ≡ some l → l .until ≤ s .head .clock + s .head .readLife
   lease-until k p = sound-means s e .keys .leases k p .deadline
 
-  pub tokens-distinct : (k j : ℕ) {l m : Lease} → leaseOn s k ≡ some l → leaseOn s j ≡ some m → l .token ≡ m .token → k ≡ j
-  tokens-distinct k j p q t = sound-means s e .keys .distinct k j p q t
-
   -- a session
   pub session-place : (i : ℕ) {x : Session} → sessionAt s i ≡ session x → i < sessionCount
-  session-place i {x} p = session-inside s i x sessions-length p
+  session-place i {x} p = session-inside s i x (sessions-length s e) p
 
   pub session-number : (i : ℕ) {x : Session} → sessionAt s i ≡ session x → (1 ≤ x .number) × (x .number < s .head .nextSession)
   session-number i {x} p = (sound-means s e .sessions .each i p .positive, sound-means s e .orderly .numbers i x p)
@@ -72,7 +58,7 @@ module _ (s : State) (e : sound s ≡ true) where
 
   -- a Q row
   pub row-place : (i : ℕ) {n k d : ℕ} {u : Staged} → rowAt s i ≡ row n k d u → i < rowCount
-  row-place i {n} {k} {d} {u} p = row-inside s i n k d u rows-length p
+  row-place i {n} {k} {d} {u} p = row-inside s i n k d u (rows-length s e) p
 
   pub row-live : (i : ℕ) {n k d : ℕ} {u : Staged} → rowAt s i ≡ row n k d u → LiveAs (s .sessions) n
   row-live i p = sound-means s e .live i p
@@ -88,14 +74,3 @@ module _ (s : State) (e : sound s ≡ true) where
 
   pub row-staged : (i : ℕ) {n k d : ℕ} {u : Staged} → rowAt s i ≡ row n k d u → StagedFits d u
   row-staged i p = sound-means s e .rows .each i p .what
-
-  pub row-once : (i j : ℕ) {n k d c : ℕ} {u v : Staged} → rowAt s i ≡ row n k d u → rowAt s j ≡ row n k c v → i ≡ j
-  row-once i j p q = sound-means s e .rows .once i j p q
-
-  -- a key with a Q row has no I lease
-  pub row-leaseless : (i : ℕ) {n k d : ℕ} {u : Staged} → rowAt s i ≡ row n k d u → leaseOn s k ≡ none
-  row-leaseless i {n} {k} {d} {u} p = go (leaseOn s k) refl
-    where
-      go : (o : Option Lease) → leaseOn s k ≡ o → o ≡ none
-      go none q = refl
-      go (some l) q = absurd (sound-means s e .orderly .leases k l q .1 i n d u p)

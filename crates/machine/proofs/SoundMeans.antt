@@ -204,13 +204,14 @@ module _ (s : State) (e : sound s ≡ true) where
   unfolding joined
   joins = parts (numbersDistinct s ∷ tokensDistinct s ∷ rowsLive s ∷ rowsOnce s ∷ rowsAlone s ∷ rowsLeaseless s ∷ []) (sound-parts 5)
 
-  keys-length : length (s .keys) ≡ keyCount
+  -- 256 keys, 128 sessions, 384 Q rows
+  pub keys-length : length (s .keys) ≡ keyCount
   keys-length = eqb-true (length (s .keys)) keyCount (sizes 0)
 
-  sessions-length : length (s .sessions) ≡ sessionCount
+  pub sessions-length : length (s .sessions) ≡ sessionCount
   sessions-length = eqb-true (length (s .sessions)) sessionCount (sizes 1)
 
-  rows-length : length (s .rows) ≡ rowCount
+  pub rows-length : length (s .rows) ≡ rowCount
   rows-length = eqb-true (length (s .rows)) rowCount (sizes 2)
 
   key-at : (k : ℕ) → (cachedSound (keyOf s k .value) ≡ true) × (leaseSound (s .head) (leaseOn s k) ≡ true)

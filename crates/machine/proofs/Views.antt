@@ -14,7 +14,7 @@ use Rattle.lent.specs.Tables.{if_then_else_}
 use Rattle.lent.proofs.Choices.{case-of, clash}
 use Rattle.machine.specs.Tables.{place, find, any, first, mem}
 use Rattle.machine.specs.Session.{dueLife}
-use Rattle.machine.specs.State.{Value, Lease, Key, blank, Slot, noSession, session, Staged, nothing, staged, DROP, Row, noRow, row, on, free, freeRow}
+use Rattle.machine.specs.State.{Value, Lease, Key, blank, Slot, noSession, session, Staged, nothing, staged, DROP, Row, noRow, row, on, free, freeRow, ofOn}
 use Rattle.machine.specs.Expiry.{freeIfOf, freeSession, setValue, setLease, settle, those, unlapsed}
 use Rattle.machine.specs.Effects.{toCache}
 use Rattle.machine.specs.declared.Life.{Life}
@@ -101,6 +101,10 @@ on-row k (row n j d v) e = (n, d, v, ap (λ (x : ℕ). row n x d v) (eqb-true j 
 
 pub row-on : (n k d : ℕ) (v : Staged) (r : Row) → r ≡ row n k d v → on k r ≡ true
 row-on n k d v r e = rw e (eq-eqb k k refl)
+
+pub of-on-taken : (n k : ℕ) (r : Row) → ofOn n k r ≡ true → freeRow r ≡ false
+of-on-taken n k noRow e = sym e
+of-on-taken n k (row m j d v) e = refl
 
 pub freed : (ns : List ℕ) (r : Row) (n k d : ℕ) (v : Staged) → freeIfOf ns r ≡ row n k d v → (r ≡ row n k d v) × (mem n ns ≡ false)
 freed ns noRow n k d v e = absurd (let z : _≡_ {A = ℕ} 0 1 = cc in omega arith)

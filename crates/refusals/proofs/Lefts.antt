@@ -22,7 +22,7 @@ use Rattle.machine.specs.declared.Session.{Session}
 use Rattle.machine.specs.declared.Validation.{Validation}
 use Rattle.machine.specs.declared.Command.the-variants.{Validate}
 use Rattle.machine.proofs.Views.{find-test, no-session}
-use Rattle.machine.proofs.SoundFacts as facts
+use Rattle.machine.proofs.SoundMeans.{sessions-length}
 use Rattle.layout.specs.Fields.{sessionIn}
 use Rattle.layout.specs.Search.{found}
 use Rattle.layout.specs.declared.Found.{Found}
@@ -81,14 +81,14 @@ module _ (s : State) (ok : sound s ≡ true) (now n : ℕ) where
   -- ---- what the search for the number finds
 
   pub left-none : found sessionCount (sessionPlace s n) ≡ Found.Nothing → sessionOf (expire now s) n ≡ noSession
-  left-none f = session-expired s ok now n ∙ ap (freeDue now) (nothing-entry (numbered n) noSession (s .sessions) sessionCount (facts.sessions-length s ok) f)
+  left-none f = session-expired s ok now n ∙ ap (freeDue now) (nothing-entry (numbered n) noSession (s .sessions) sessionCount (sessions-length s ok) f)
 
   pub left-by : (i : ℕ) → found sessionCount (sessionPlace s n) ≡ Found.At i → (t : Bool) → isDue now (sessionIn (sessionAt s i)) ≡ t
       → sessionOf (expire now s) n ≡ (if t then noSession else session (sessionIn (sessionAt s i)))
   left-by i f t d =
       session-expired s ok now n
       ∙ ap (freeDue now) (found-entry (numbered n) noSession (s .sessions) sessionCount i f)
-      ∙ slot-left now n (sessionAt s i) (found-passes (numbered n) noSession (s .sessions) sessionCount i (facts.sessions-length s ok) f) t d
+      ∙ slot-left now n (sessionAt s i) (found-passes (numbered n) noSession (s .sessions) sessionCount i (sessions-length s ok) f) t d
 
   -- ---- who is left
 

@@ -18,7 +18,7 @@ use Rattle.machine.specs.Expiry.{freeIfOf, expire}
 use Rattle.machine.specs.Sound.{sound}
 use Rattle.machine.specs.Refusals.{decide, sessionsFull, rowsFull, wouldGrant}
 use Rattle.machine.proofs.Table.{free-grants, Q-voids-I}
-use Rattle.machine.proofs.SoundFacts as facts
+use Rattle.machine.proofs.SoundMeans.{sessions-length, rows-length}
 use Rattle.deadlines.specs.Deadlines.{dueSlot}
 use Rattle.sweep.specs.Lapsing.{freeDue}
 use Rattle.sweep.proofs.Lapsing.{unmapped}
@@ -38,7 +38,7 @@ module _ (s : State) (ok : sound s ≡ true) (now : ℕ) where
   pub sessions-full-expired : sessionsFull (expire now s) ≡ not (any free (s .sessions) || any (dueSlot now) (s .sessions))
   sessions-full-expired =
       rw (sessions-expired s ok now)
-      (full-any free (map (freeDue now) (s .sessions)) sessionCount (length-map (s .sessions) (freeDue now) ∙ facts.sessions-length s ok)
+      (full-any free (map (freeDue now) (s .sessions)) sessionCount (length-map (s .sessions) (freeDue now) ∙ sessions-length s ok)
       ∙ ap not (any-either free (freeDue now) free (dueSlot now) each (s .sessions)))
     where
       each : (e : Slot) → free (freeDue now e) ≡ free e || dueSlot now e
@@ -52,7 +52,7 @@ module _ (s : State) (ok : sound s ≡ true) (now : ℕ) where
   pub rows-full-expired : rowsFull (expire now s) ≡ not (any freeRow (s .rows) || any (goes now s) (s .rows))
   rows-full-expired =
       rw (rows-expired s ok now)
-      (full-any freeRow (map (freeIfOf (due s ok now)) (s .rows)) rowCount (length-map (s .rows) (freeIfOf (due s ok now)) ∙ facts.rows-length s ok)
+      (full-any freeRow (map (freeIfOf (due s ok now)) (s .rows)) rowCount (length-map (s .rows) (freeIfOf (due s ok now)) ∙ rows-length s ok)
       ∙ ap not (any-either freeRow (freeIfOf (due s ok now)) freeRow (goes now s) each (s .rows)))
     where
       each : (r : Row) → freeRow (freeIfOf (due s ok now) r) ≡ freeRow r || goes now s r

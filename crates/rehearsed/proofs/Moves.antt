@@ -25,7 +25,7 @@ use Rattle.machine.specs.declared.Command.{Command}
 use Rattle.machine.specs.declared.Command.the-variants.{Begin, Get, Fill, Quar, Stage, Delta, Validate, Done, Undo, Evict, Tick}
 use Rattle.machine.proofs.Views
 use Rattle.machine.proofs.Orderly
-use Rattle.machine.proofs.Frames.{expire-lease}
+use Rattle.machine.proofs.Frames.{expire-lease, staged-quiet}
 
 -- the leases of t: no answer grants one and each was there, or a GET was answered with the next token on its key and each other was there
 pub data Leases (s : State) (c : Command) (a : Answer) (t : State) : Type 0 where
@@ -41,12 +41,6 @@ pub record Moves (s : State) (c : Command) (r : Outcome) : Type 0 where
   pub leases : Leases s c (r .answer) (r .after)
   pub places : (i : ℕ) (x : Session) → sessionAt (r .after) i ≡ session x → Stood s i x
   pub grows : s .head .nextSession ≤ r .after .head .nextSession
-
--- the answer that stages grants no lease
-staged-quiet : (u : Staged) → eqb (wordOf (stagedAnswer u)) 6 ≡ false
-staged-quiet nothing = refl
-staged-quiet (staged v) = refl
-staged-quiet DROP = refl
 
 module _ (s : State) (c : Command) where
   -- nothing changes

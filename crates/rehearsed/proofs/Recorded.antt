@@ -28,8 +28,8 @@ use Rattle.machine.specs.declared.Command.the-variants.{Begin, Get, Fill, Quar,
 use Rattle.machine.proofs.Views
 use Rattle.machine.proofs.Accepted.{session-of}
 use Rattle.machine.proofs.Every.{place-inside}
-use Rattle.machine.proofs.SoundMeans.{sound-means}
-use Rattle.machine.proofs.SoundFacts.{keys-length, sessions-length, next-session, session-place}
+use Rattle.machine.proofs.SoundMeans.{sound-means, keys-length, sessions-length}
+use Rattle.machine.proofs.SoundFacts.{next-session, session-place}
 use Rattle.layout.proofs.Search.{place-passes}
 use Rattle.book.specs.Book.{bookSize, registered, granted, withRegistered, withGranted, mark, withMark, counted}
 use Rattle.book.proofs.Laws

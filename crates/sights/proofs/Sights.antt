@@ -1,6 +1,6 @@
 -- What is seen on a key, by the marks in the bytes: a row's mark and kind decide between its staged value, nothing and the cached value, and
 -- a lookup decides between a row of one's own and none.
-use mathlib.Core.Path.{_≡_, refl, sym, ap}
+use mathlib.Core.Path.{_≡_, refl}
 use mathlib.Core.Bool.{true, false}
 use mathlib.Core.Option.{Option, none, some}
 use Prim.Native.Nat.{ℕ}
@@ -12,6 +12,7 @@ use Rattle.machine.specs.Sizes.{rowCount, valueAt, stagedAt}
 use Rattle.machine.specs.Tables.{isNone}
 use Rattle.machine.specs.State.{Value, nothing, staged, DROP, Row, noRow, row, State, freeRow, ofOn, kindOf, stagedIn, rowAt, rowOf, rowPlace, cached}
 use Rattle.machine.specs.Refusals.{cachedSight, rowSight, sight}
+use Rattle.machine.proofs.Views.{of-on-taken}
 use Rattle.layout.specs.Fields.{valueLength, stagedMark, stagedLength}
 use Rattle.layout.specs.Search.{found}
 use Rattle.layout.specs.declared.Found.{Found}
@@ -66,18 +67,11 @@ module _ (i k : ℕ) (c : Option Value) where
 
 -- ---- a lookup
 
-on-taken : (n k : ℕ) (r : Row) → ofOn n k r ≡ true → freeRow r ≡ false
-on-taken n k noRow e = sym e
-on-taken n k (row m j d u) e = refl
-
 module _ (s : State) (n k : ℕ) where
-  pub row-found : (i : ℕ) → found rowCount (rowPlace s n k) ≡ Found.At i → rowOf s n k ≡ rowAt s i
-  row-found i e = ap (rowAt s) (found-at rowCount (rowPlace s n k) i e .0)
-
   pub row-taken : (i : ℕ) → length (s .rows) ≡ rowCount → found rowCount (rowPlace s n k) ≡ Found.At i → freeRow (rowOf s n k) ≡ false
   row-taken i l f =
       rw (found-entry (ofOn n k) noRow (s .rows) rowCount i f)
-      (on-taken n k (rowAt s i) (found-passes (ofOn n k) noRow (s .rows) rowCount i l f))
+      (of-on-taken n k (rowAt s i) (found-passes (ofOn n k) noRow (s .rows) rowCount i l f))
 
   pub row-missing : length (s .rows) ≡ rowCount → found rowCount (rowPlace s n k) ≡ Found.Nothing → rowOf s n k ≡ noRow
   row-missing l e = nothing-entry (ofOn n k) noRow (s .rows) rowCount l e

@@ -10,13 +10,13 @@ use lib.Dec.{eqb, ltb}
 use lib.ListN.{length}
 use borrow.Author.Tests.{eq-eqb, ne-eqb, ltb-true}
 use Rattle.lent.specs.Tables.{if_then_else_}
-use Rattle.lent.proofs.Choices.{clash}
 use Rattle.machine.specs.Sizes.{rowCount}
 use Rattle.machine.specs.Session.{advanced, stepOf}
-use Rattle.machine.specs.State.{Row, noRow, row, State, freeRow, ofOn, kindOf, rowPlace, rowOf, rowAt}
+use Rattle.machine.specs.State.{noRow, State, freeRow, ofOn, kindOf, rowPlace, rowOf, rowAt}
 use Rattle.machine.specs.Refusals.{countOf}
 use Rattle.machine.specs.declared.Session.{Session}
 use Rattle.machine.specs.declared.Step.{Step}
+use Rattle.machine.proofs.Views.{of-on-taken}
 use Rattle.layout.specs.Search.{found}
 use Rattle.layout.specs.declared.Found.{Found}
 use Rattle.layout.proofs.Search.{found-at, found-passes, nothing-entry}
@@ -46,10 +46,6 @@ step-decides x step i j = go (ltb (x .count) step) (ltb step (x .count)) refl re
     go false true p q = refl
     go false false p q = refl
 
-row-taken : (n k : ℕ) (r : Row) → ofOn n k r ≡ true → freeRow r ≡ false
-row-taken n k noRow q = clash false q refl
-row-taken n k (row m j d u) q = refl
-
 module _ (s : State) (n step k kind : ℕ) where
   pub staging-refused : (e : ℕ) → askerOf s n ≡ Asker.Refused e → stagingOf s n step k kind ≡ Staging.Refused e
   unfolding stagingOf
@@ -64,7 +60,7 @@ module _ (s : State) (n step k kind : ℕ) where
     -- its row at place j
     module _ (j : ℕ) (f : found rowCount (rowPlace s n k) ≡ Found.At j) where
       taken : freeRow (rowAt s j) ≡ false
-      taken = row-taken n k (rowAt s j) (found-passes (ofOn n k) noRow (s .rows) rowCount j l f)
+      taken = of-on-taken n k (rowAt s j) (found-passes (ofOn n k) noRow (s .rows) rowCount j l f)
 
       pub staging-kind : (kindOf (rowAt s j) ≡ kind → ⊥) → stagingOf s n step k kind ≡ Staging.Refused 9
       unfolding stagingOf
