@@ -6,7 +6,7 @@ use mathlib.Core.List.{List, [], _∷_, _++_, append-assoc}
 use Prim.Native.Nat.{ℕ, zero, suc, _+_, _*_, _≤_, _<_}
 use native.Mathlib.Nat.{le-of-suc-le-suc, mul-le-mul-right, not-suc-le-zero, suc-mul, zero-add, zero-mul}
 use native.Mathlib.Omega.{arith}
-use lib.ListN.{length, getD, set, take, drop, replicate, length-append, length-drop, replicate-append-replicate, take-append-drop}
+use lib.ListN.{length, getD, set, take, drop, replicate, length-append, length-drop, replicate-append-replicate}
 use lib.Seq.{drop-at, drop-drop, length-take-le, take-at}
 use Rattle.lent.specs.Bytes.{splice, win, zeros}
 use Rattle.lent.specs.Tables.{Each, every, readTab, same, tabOf}
@@ -114,15 +114,6 @@ module _ {A : Type 0} (enc : A → List ℕ) (dec : List ℕ → A) (w : ℕ) wh
   read-tab [] q n l e r = rw (← l)
   read-tab (x ∷ xs) q n l e r =
       rw (← l, append-assoc, take-at (enc x) _ w (e .0), drop-at (enc x) _ w (e .0), r .0, read-tab xs q (length xs) refl (e .1) (r .1))
-
-  -- bytes that are read and written
-  pub tab-read : (n : ℕ) (l : List ℕ) → n * w ≤ length l → ((i : ℕ) → i < n → enc (dec (win l (i * w) w)) ≡ win l (i * w) w) → tabOf enc (readTab dec w n l) ++ drop (n * w) l ≡ l
-  unfolding tabOf readTab win
-  tab-read zero l h e = rw zero-mul
-  tab-read (suc n) l h e =
-      let first : enc (dec (take w l)) ≡ take w l = rw zero-mul at (e 0 (omega arith)) in
-      let rest = tab-read n (drop w l) (simp length-drop (omega arith)) (λ i k. rw (drop-drop (i * w) w l, ← place-next i w) (e (suc i) (omega arith))) in
-      rw (first, append-assoc, place-next n w, ← drop-drop (n * w) w l, rest, take-append-drop)
 
   -- bytes compared with what is read and written again: record by record. A record that is read is written in w bytes
   module _ (wide : (x : List ℕ) → length x ≡ w → length (enc (dec x)) ≡ w) where

@@ -1,6 +1,6 @@
 -- Tests of each index, of some index, the search for the first, and a step for each index: what a loop over the indices needs at a
 -- turn, and what its result says of the indices. All by induction on the number of indices.
-use mathlib.Core.Path.{_≡_, refl, sym, ap, _∙_}
+use mathlib.Core.Path.{_≡_, refl, sym, _∙_}
 use mathlib.Core.Logic.{⊎-elim}
 use mathlib.Core.Bool.{Bool, true, false, _&&_, _||_, and-true, and-assoc, or-true}
 use Prim.Native.Nat.{ℕ, zero, suc, _+_, _-_, _≤_, _<_}
@@ -130,19 +130,6 @@ module _ {A : Type 0} (p : ℕ → Bool) (hit : ℕ → A) (miss : A) where
       turn true e s = found i refl (omega arith) (omega arith) e (λ j a b. absurd (omega arith))
       turn false e (found k q a b c f) = found k q (omega arith) (omega arith) c (λ j u v. from j u e (λ l. f j l v))
       turn false e (nowhere q f) = nowhere q (λ j u v. from j u e (λ l. f j l (omega arith)))
-
-  pub first-none : (n i : ℕ) → ((j : ℕ) → i ≤ j → j < i + n → p j ≡ false) → first p hit miss i n ≡ miss
-  unfolding first
-  first-none zero i f = refl
-  first-none (suc n) i f = rw (f i (omega arith) (omega arith), first-none n (suc i) (λ j a b. f j (omega arith) (omega arith)))
-
-  pub first-is : (n i k : ℕ) → i ≤ k → k < i + n → p k ≡ true → ((j : ℕ) → i ≤ j → j < k → p j ≡ false) → first p hit miss i n ≡ hit k
-  unfolding first
-  first-is zero i k a b e f = absurd (omega arith)
-  first-is (suc n) i k a b e f =
-      ⊎-elim (λ q. let t : p i ≡ true = rw q e in rw t (ap hit q))
-      (λ l. rw (f i (omega arith) l) (first-is n (suc i) k l (omega arith) e (λ j u v. f j (omega arith) v)))
-      (eq-or-lt-of-le a)
 
 pub first-cong : {A : Type 0} (p q : ℕ → Bool) (hit : ℕ → A) (miss : A) (n i : ℕ) → ((k : ℕ) → i ≤ k → k < i + n → p k ≡ q k) → first p hit miss i n ≡ first q hit miss i n
 unfolding first

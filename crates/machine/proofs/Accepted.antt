@@ -13,12 +13,12 @@ use lib.ListN.{getD}
 use Rattle.lent.proofs.Choices.{and-yes, clash}
 use Rattle.machine.specs.Sizes.{numberMax}
 use Rattle.machine.specs.Tables.{place, find}
-use Rattle.machine.specs.Words.{isKind}
+use Rattle.machine.specs.Words.{isKind, INVALIDATE, INCREMENTAL}
 use Rattle.machine.specs.Decision.{decision, grants}
 use Rattle.machine.specs.State.{Value, Lease, Slot, noSession, session, Staged, Row, noRow, row, State, free, freeRow, numbered, on, ofOn, kindOf, sessionOf, rowPlace, rowOf, rowAt}
 use Rattle.machine.specs.Refusals.{decide, blocked, sight, wouldLease, clockRefusal, refusals, refusal}
 use Rattle.machine.specs.Effects.{matches}
-use Rattle.machine.specs.WellFormed.{Orderly}
+use Rattle.machine.specs.WellFormed.{Orderly, Within}
 use Rattle.machine.specs.declared.Session.{Session}
 use Rattle.machine.specs.declared.Command.{Command}
 use Rattle.machine.specs.declared.Command.the-variants.{Get}
@@ -35,8 +35,8 @@ pub room-for : (s : State) (now n k : ℕ) (v : Value) → refusal s now (Get n 
 unfolding refusals wouldLease
 room-for s now n k v e p q b = rw (p, q, b) at (passed s now (Get n k) v e 3)
 
-pub is-kind : (d : ℕ) → isKind d ≡ true → (1 ≤ d) × (d ≤ 3)
-is-kind d e = (leb-true 1 d (and-yes (leb 1 d) (leb d 3) e .0), leb-true d 3 (and-yes (leb 1 d) (leb d 3) e .1))
+pub is-kind : (d : ℕ) → isKind d ≡ true → Within INVALIDATE INCREMENTAL d
+is-kind d e = (leb-true INVALIDATE d (and-yes (leb INVALIDATE d) (leb d INCREMENTAL) e .0), leb-true d INCREMENTAL (and-yes (leb INVALIDATE d) (leb d INCREMENTAL) e .1))
 
 module _ (s : State) (h : Orderly s) where
   -- the first row on a key where there is one, which decides
@@ -47,7 +47,7 @@ module _ (s : State) (h : Orderly s) where
       (r .0, r .1, r .2, r .3, range .0, range .1)
 
   -- a row may be granted: who has one on the key invalidates, as the asker does
-  pub sharing : (k a : ℕ) → (1 ≤ a) × (a ≤ 3) → grants (decide s k a) ≡ true → (i m d : ℕ) (v : Staged) → rowAt s i ≡ row m k d v → (a ≡ 1) × (d ≡ 1)
+  pub sharing : (k a : ℕ) → Within INVALIDATE INCREMENTAL a → grants (decide s k a) ≡ true → (i m d : ℕ) (v : Staged) → rowAt s i ≡ row m k d v → (a ≡ INVALIDATE) × (d ≡ INVALIDATE)
   unfolding decide
   sharing k a range e i m d v p =
       let r = first-on i m k d v p in

@@ -11,7 +11,7 @@ use native.Mathlib.Omega.{arith}
 use lib.Dec.{eqb}
 use Rattle.lent.proofs.Choices.{clash, if-ind}
 use Rattle.machine.specs.Tables.{first}
-use Rattle.machine.specs.Words.{wordOf}
+use Rattle.machine.specs.Words.{wordOf, HIT}
 use Rattle.machine.specs.State.{Value, Row, noRow, State, freeRow, rowOf, rowPlace, cached}
 use Rattle.machine.specs.Expiry.{expire}
 use Rattle.machine.specs.Refusals.{blocked, Sight, cachedSight, rowSight, sight, refusal, showRefusals}
@@ -40,9 +40,9 @@ Handed : (n k at size : ℕ) → Outcome → Type 0
 Handed n k at size r = r .answer ≡ Answer.Hit at size → rowOf (r .after) n k ≡ noRow → cached (r .after) k ≡ some (r .handed)
 
 -- another word is no hit
-another : (n k at size : ℕ) (r : Outcome) → eqb (wordOf (r .answer)) 3 ≡ false → Handed n k at size r
+another : (n k at size : ℕ) (r : Outcome) → eqb (wordOf (r .answer)) HIT ≡ false → Handed n k at size r
 unfolding Handed
-another n k at size r q e f = clash (eqb (wordOf (r .answer)) 3) (rw e refl) q
+another n k at size r q e f = clash (eqb (wordOf (r .answer)) HIT) (rw e refl) q
 
 looked-hit : (s : State) (now n k at size : ℕ) (o : Option Sight) → sight s n k ≡ o → Handed n k at size (looked s now n k o)
 unfolding Handed looked missed leased

@@ -13,7 +13,7 @@ use Rattle.lent.specs.Bytes.{Bytes}
 use Rattle.lent.proofs.Choices.{if-ind, or-no}
 use Rattle.machine.specs.Sizes.{keyCount, sessionCount, rowCount, valueMax, stepMax, lifeMax, timeMax, numberMax}
 use Rattle.machine.specs.Tables.{first, isNone}
-use Rattle.machine.specs.Words.{isKind, isOperation}
+use Rattle.machine.specs.Words.{isKind, isOperation, INVALIDATE, INCREMENTAL}
 use Rattle.machine.specs.Decision.{grants}
 use Rattle.machine.specs.State.{Value, Key, blank, noSession, session, Staged, staged, Row, noRow, row, State, fresh, free, freeRow, ofOn, kindOf, stagedIn, sessionPlace, sessionOf, rowPlace, rowOf, sessionAt, rowAt, cached, leaseOn}
 use Rattle.machine.specs.Sound.{lifetime, sound}
@@ -22,7 +22,7 @@ use Rattle.machine.specs.Refusals.{decide, blocked, Sight, sight, badKey
 use Rattle.machine.specs.Effects.{Outcome, looked, missed, matches, asks, changed, stages, toCache, effect}
 use Rattle.machine.specs.Step.{settled, step, started, start}
 use Rattle.machine.specs.World.{Event, command, write, World, freshWorld, commanded, written, next, run, EventBytes, AllBytes}
-use Rattle.machine.specs.WellFormed.{Fine, StagedFits, LiveAs, WellFormed}
+use Rattle.machine.specs.WellFormed.{Fine, StagedFits, LiveAs, WellFormed, Within}
 use Rattle.machine.specs.declared.Session.{Session}
 use Rattle.machine.specs.declared.Answer.{Answer}
 use Rattle.machine.specs.declared.Command.{Command}
@@ -53,7 +53,7 @@ module _ (s : State) (now : ℕ) (h : WellFormed s now) where
       (λ q. if-ind Keeps (blocked s k) (λ e. h) (λ e. WellKept.well-leased s now h k (f refl q e) (Accepted.unblocked s (h .orderly) k e))) (λ q. h)
 
   -- QUAR: who is granted a row has none on the key
-  unheld : (n k kind : ℕ) → (1 ≤ kind) × (kind ≤ 3) → eqb (kindOf (rowOf s n k)) kind ≡ false → grants (decide s k kind) ≡ true → (i d : ℕ) (v : Staged) → rowAt s i ≡ row n k d v → ⊥
+  unheld : (n k kind : ℕ) → Within INVALIDATE INCREMENTAL kind → eqb (kindOf (rowOf s n k)) kind ≡ false → grants (decide s k kind) ≡ true → (i d : ℕ) (v : Staged) → rowAt s i ≡ row n k d v → ⊥
   unheld n k kind range f p i d v q =
       let x = Accepted.sharing s (h .orderly) k kind range p i n d v q in
       let r = Accepted.row-of s n k (mine (rowOf s n k) (Views.find-passes (ofOn n k) noRow (s .rows) i refl (rw (q, eq-eqb n n refl, eq-eqb k k refl) refl))) in
@@ -66,13 +66,13 @@ module _ (s : State) (now : ℕ) (h : WellFormed s now) where
       mine noRow e = sym e
       mine (row a b c u) e = refl
 
-  well-asked : (n k kind : ℕ) → k < keyCount → (1 ≤ kind) × (kind ≤ 3) → free (sessionOf s n) ≡ false → eqb (kindOf (rowOf s n k)) kind ≡ false → Keeps (asks s n k kind)
+  well-asked : (n k kind : ℕ) → k < keyCount → Within INVALIDATE INCREMENTAL kind → free (sessionOf s n) ≡ false → eqb (kindOf (rowOf s n k)) kind ≡ false → Keeps (asks s n k kind)
   unfolding asks
   well-asked n k kind small range e f = if-ind Keeps (grants (decide s k kind))
       (λ p. WellKept.well-granted s now h n k kind small range (live-of s n e) (unheld n k kind range f p) (Accepted.sharing s (h .orderly) k kind range p)) (λ p. WellKept.well-leave s now h (n ∷ []))
 
   -- STAGE and DELTA: a step that acts is the session's count, so the count has room
-  well-stages : (n i k d : ℕ) (u : Staged) → i < stepMax → free (sessionOf s n) ≡ false → freeRow (rowOf s n k) ≡ false → not (eqb (kindOf (rowOf s n k)) d) ≡ false → ltb (countOf s n) i ≡ false → (d ≡ 1 → ⊥) → StagedFits d u
+  well-stages : (n i k d : ℕ) (u : Staged) → i < stepMax → free (sessionOf s n) ≡ false → freeRow (rowOf s n k) ≡ false → not (eqb (kindOf (rowOf s n k)) d) ≡ false → ltb (countOf s n) i ≡ false → (d ≡ INVALIDATE → ⊥) → StagedFits d u
       → Keeps (stages s n i k u)
   unfolding stages
   well-stages n i k d u small e f q ahead apart fits = if-ind Keeps (ltb i (countOf s n)) (λ p. h)

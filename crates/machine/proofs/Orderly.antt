@@ -6,7 +6,7 @@ use mathlib.Core.Bool.{true, false}
 use mathlib.Core.Logic.{_⊎_, inl, inr}
 use mathlib.Core.List.{List, map}
 use mathlib.Core.Option.{Option, none, some}
-use Prim.Native.Nat.{ℕ, suc, _+_, _≤_, _<_}
+use Prim.Native.Nat.{ℕ, suc, _+_, _<_}
 use native.Mathlib.Omega.{arith}
 use borrow.Author.Tests.{eqb-true}
 use lib.Dec.{eqb}
@@ -18,7 +18,8 @@ use Rattle.machine.specs.Session.{opened, advanced, sealed, isDue}
 use Rattle.machine.specs.State.{Value, Lease, Key, blank, Slot, noSession, session, Staged, nothing, staged, Row, noRow, row, State, fresh, free, freeRow, numbered, ofOn, sessionOf, rowOf, leaseOn, sessionAt, rowAt}
 use Rattle.machine.specs.Expiry.{withKeys, withSessions, withRows, withClock, setValue, setLease, freeIfOf, freeSession, settle, leave, finish, lapsedValue, lapsedLease, those, expire}
 use Rattle.machine.specs.Effects.{begins, leased, fills, onSlot, restaged, withSession, withStaged}
-use Rattle.machine.specs.WellFormed.{Orderly}
+use Rattle.machine.specs.WellFormed.{Orderly, Within}
+use Rattle.machine.specs.Words.{INVALIDATE, INCREMENTAL}
 use Rattle.machine.specs.declared.Session.{Session}
 use Rattle.machine.proofs.Views
 
@@ -162,7 +163,7 @@ orderly-sessions s l f h = record {
 
 -- each row stood at its place with its session, key and kind, and an invalidation with what it stages
 pub orderly-rows : (s : State) (rs : List Row)
-    → ((i n k d : ℕ) (v : Staged) → getD rs i noRow ≡ row n k d v → (u : Staged) × (rowAt s i ≡ row n k d u) × (d ≡ 1 → v ≡ u))
+    → ((i n k d : ℕ) (v : Staged) → getD rs i noRow ≡ row n k d v → (u : Staged) × (rowAt s i ≡ row n k d u) × (d ≡ INVALIDATE → v ≡ u))
     → Orderly s → Orderly (withRows s rs)
 orderly-rows s rs f h = record {
   leases = λ k l e. (h .leases k l e .0, λ i n d v p. let r = f i n k d v p in h .leases k l e .1 i n d (r .0) (r .1));
@@ -213,13 +214,13 @@ pub orderly-seal : (s : State) (n : ℕ) → Orderly s → Orderly (withSession 
 orderly-seal s n h = orderly-session s n sealed (λ x. refl) h
 
 -- STAGE and DELTA, in a row that is no invalidation
-pub orderly-staged : (s : State) (n k i d : ℕ) (u v : Staged) → rowAt s i ≡ row n k d v → (d ≡ 1 → ⊥) → Orderly s → Orderly (withStaged (withSession s n advanced) n k u)
+pub orderly-staged : (s : State) (n k i d : ℕ) (u v : Staged) → rowAt s i ≡ row n k d v → (d ≡ INVALIDATE → ⊥) → Orderly s → Orderly (withStaged (withSession s n advanced) n k u)
 orderly-staged s n k i d u v mine apart h = orderly-rows s₁ (withStaged s₁ n k u .rows) (λ j m l c y e. let r = was-staged s₁ n k u j m l c y e in (r .0, r .1, λ one. plain j m l c y (r .0) (r .1) one (r .2))) (orderly-session s n advanced (λ x. refl) h)
   where
     s₁ : State
     s₁ = withSession s n advanced
 
-    plain : (j m l c : ℕ) (y y′ : Staged) → rowAt s j ≡ row m l c y′ → c ≡ 1 → (y ≡ y′) ⊎ ((m ≡ n) × (l ≡ k) × (y ≡ u)) → y ≡ y′
+    plain : (j m l c : ℕ) (y y′ : Staged) → rowAt s j ≡ row m l c y′ → c ≡ INVALIDATE → (y ≡ y′) ⊎ ((m ≡ n) × (l ≡ k) × (y ≡ u)) → y ≡ y′
     plain j m l c y y′ e one (inl f) = f
     plain j m l c y y′ e one (inr f) = absurd (elim (h .alone i j n m k d c v y′ mine (e ∙ ap (λ (z : ℕ). row m z c y′) (f .1))) [
       | inl q ↦ apart q
@@ -284,7 +285,7 @@ orderly-leased s now k bare h = record {
     ]
 
 -- QUAR granted: who else has a row on the key invalidates, as the asker does, and the key's lease is voided
-pub orderly-granted : (s : State) (n k kind : ℕ) → (1 ≤ kind) × (kind ≤ 3) → ((i m d : ℕ) (v : Staged) → rowAt s i ≡ row m k d v → (kind ≡ 1) × (d ≡ 1)) → Orderly s
+pub orderly-granted : (s : State) (n k kind : ℕ) → Within INVALIDATE INCREMENTAL kind → ((i m d : ℕ) (v : Staged) → rowAt s i ≡ row m k d v → (kind ≡ INVALIDATE) × (d ≡ INVALIDATE)) → Orderly s
     → Orderly (withKeys (withRows s (putAt freeRow (row n k kind nothing) (s .rows))) (setLease (s .keys) k none))
 orderly-granted s n k kind range sharing h = record {
   leases = λ j l e.
@@ -307,7 +308,7 @@ orderly-granted s n k kind range sharing h = record {
     seen : (i m j d : ℕ) (v : Staged) → getD (putAt freeRow (row n k kind nothing) (s .rows)) i noRow ≡ row m j d v → Seen i m j d v
     seen i m j d v e = elim (was-set (s .rows) at (row n k kind nothing) i noRow (row m j d v) (Views.no-row m j d v) e) [ inl p ↦ inl p | inr p ↦ (let q = p .1 in inr (p .0, cc, cc, cc)) ]
 
-    two : (i i′ m m′ j d c : ℕ) (u v : Staged) → Seen i m j d u → Seen i′ m′ j c v → (d ≡ 1) ⊎ (i ≡ i′)
+    two : (i i′ m m′ j d c : ℕ) (u v : Staged) → Seen i m j d u → Seen i′ m′ j c v → (d ≡ INVALIDATE) ⊎ (i ≡ i′)
     two i i′ m m′ j d c u v (inl x) (inl y) = h .alone i i′ m m′ j d c u v x y
     two i i′ m m′ j d c u v (inl x) (inr y) = inl (sharing i m d u (rw (y .1) at x) .1)
     two i i′ m m′ j d c u v (inr x) (inl y) = inl (x .2 ∙ sharing i′ m′ c v (rw (x .1) at y) .0)
@@ -322,5 +323,5 @@ orderly-fresh readLife writeLife = record {
   unique = λ i j x y e f q. Views.no-session x (sym (Views.getD-same sessionCount i noSession) ∙ e);
   kinds = λ i n k d v e. Views.no-row n k d v (sym (Views.getD-same rowCount i noRow) ∙ e);
   alone = λ i j n m k d c u v e f. Views.no-row n k d u (sym (Views.getD-same rowCount i noRow) ∙ e);
-  plain = λ i n k v e. Views.no-row n k 1 (staged v) (sym (Views.getD-same rowCount i noRow) ∙ e);
+  plain = λ i n k v e. Views.no-row n k INVALIDATE (staged v) (sym (Views.getD-same rowCount i noRow) ∙ e);
 }

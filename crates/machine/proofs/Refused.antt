@@ -58,7 +58,7 @@ module _ (s : State) (now : ℕ) (v : Value) where
   get-worded n k (some x) = refl
   get-worded n k none = if-ind (Worded (Get n k)) (freeRow (rowOf s n k)) (λ p. if-ind (Worded (Get n k)) (blocked s k) (λ q. refl) (λ q. refl)) (λ p. refl)
 
-  delta-word : (c : Command) (u : Staged) → mem 12 (wordsOf c) ≡ true → mem 14 (wordsOf c) ≡ true → mem (wordOf (stagedAnswer u)) (wordsOf c) ≡ true
+  delta-word : (c : Command) (u : Staged) → mem (wordOf Answer.Staged) (wordsOf c) ≡ true → mem (wordOf Answer.Dropped) (wordsOf c) ≡ true → mem (wordOf (stagedAnswer u)) (wordsOf c) ≡ true
   delta-word c nothing a b = b
   delta-word c (staged w) a b = a
   delta-word c DROP a b = b

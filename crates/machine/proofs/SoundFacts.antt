@@ -5,10 +5,11 @@ use mathlib.Core.Bool.{true}
 use mathlib.Core.Option.{some}
 use Prim.Native.Nat.{ℕ, _+_, _≤_, _<_}
 use native.Mathlib.Omega.{arith}
-use Rattle.machine.specs.Sizes.{keyCount, sessionCount, rowCount, stepMax, lifeMax, timeMax, numberMax}
+use Rattle.machine.specs.Sizes.{sessionCount, rowCount, stepMax, lifeMax, timeMax, numberMax}
 use Rattle.machine.specs.State.{Value, Lease, session, Staged, row, State, sessionAt, rowAt, cached, leaseOn}
 use Rattle.machine.specs.Sound.{sound}
 use Rattle.machine.specs.WellFormed.{Fine, Within, StagedFits, LiveAs}
+use Rattle.machine.specs.Words.{INVALIDATE, INCREMENTAL}
 use Rattle.machine.specs.declared.Life.{Life}
 use Rattle.machine.specs.declared.Session.{Session}
 use Rattle.machine.proofs.SoundMeans.{session-inside, row-inside, sessions-length, rows-length, sound-means}
@@ -66,10 +67,7 @@ module _ (s : State) (e : sound s ≡ true) where
   pub row-number : (i : ℕ) {n k d : ℕ} {u : Staged} → rowAt s i ≡ row n k d u → (1 ≤ n) × (n < s .head .nextSession)
   row-number i p = let x = row-live i p in let y = session-number (x .place) (x .is) in let z = x .number in (omega (arith, y .0), omega (arith, y .1))
 
-  pub row-key : (i : ℕ) {n k d : ℕ} {u : Staged} → rowAt s i ≡ row n k d u → k < keyCount
-  row-key i p = sound-means s e .rows .each i p .key
-
-  pub row-kind : (i : ℕ) {n k d : ℕ} {u : Staged} → rowAt s i ≡ row n k d u → Within 1 3 d
+  pub row-kind : (i : ℕ) {n k d : ℕ} {u : Staged} → rowAt s i ≡ row n k d u → Within INVALIDATE INCREMENTAL d
   row-kind i {n} {k} {d} {u} p = sound-means s e .orderly .kinds i n k d u p
 
   pub row-staged : (i : ℕ) {n k d : ℕ} {u : Staged} → rowAt s i ≡ row n k d u → StagedFits d u

@@ -14,7 +14,7 @@ use Rattle.lent.specs.Tables.{if_then_else_, same, allZero}
 use Rattle.lent.proofs.Equal.{same-eq, eq-same}
 use Rattle.lent.proofs.Choices.{and-yes, case-of, clash, if-ind}
 use Rattle.machine.specs.Tables.{any}
-use Rattle.machine.specs.Words.{wordOf}
+use Rattle.machine.specs.Words.{wordOf, STORED, DONE, UNDONE}
 use Rattle.machine.specs.Session.{sealedLife}
 use Rattle.machine.specs.State.{Value, Slot, noSession, session, nothing, staged, DROP, Row, noRow, row, State, freeRow, numbered, ofOn, sessionPlace, sessionOf, rowOf, leaseOn, sessionAt}
 use Rattle.machine.specs.Refusals.{sealedIn, sealedSlot, refusal}
@@ -149,13 +149,13 @@ holds-row s n k w = go (rowOf s n k) (Views.find-passes (ofOn n k) noRow (s .row
 rules-of : (w : World) (c : Command) (v : Value) (a : Answer) → brokenBy w c v a ≡ 0 → Rules w c v a
 rules-of w Begin v a e = tt
 rules-of w (Get n k) v a e = tt
-rules-of w (Fill t k) v a e = λ p. any-mem v (w .since t k) (not-false _ (broken-not (eqb (wordOf a) 7) (not (any (same v) (w .since t k))) 0 e (rw p)))
+rules-of w (Fill t k) v a e = λ p. any-mem v (w .since t k) (not-false _ (broken-not (eqb (wordOf a) STORED) (not (any (same v) (w .since t k))) 0 e (rw p)))
 rules-of w (Quar n k d) v a e = tt
 rules-of w (Stage n i k) v a e = tt
 rules-of w (Delta n i k o) v a e = tt
 rules-of w (Validate n m) v a e = tt
-rules-of w (Done n) v a e = λ p. agreeing (w .register) n (w .state .rows) (broken-not (eqb (wordOf a) 17) (any (differs (w .register) n) (w .state .rows)) 3 e (rw p))
-rules-of w (Undo n) v a e = λ p. broken-not (eqb (wordOf a) 18) (w .wrote n) 2 e (rw p)
+rules-of w (Done n) v a e = λ p. agreeing (w .register) n (w .state .rows) (broken-not (eqb (wordOf a) DONE) (any (differs (w .register) n) (w .state .rows)) 3 e (rw p))
+rules-of w (Undo n) v a e = λ p. broken-not (eqb (wordOf a) UNDONE) (w .wrote n) 2 e (rw p)
 rules-of w (Evict k) v a e = tt
 rules-of w Tick v a e = tt
 
@@ -172,15 +172,15 @@ pub kept-unbroken : (w : World) (e : Event) → Orderly (w .state) → Kept w e 
 unfolding Says
 kept-unbroken w (command now Begin v) h rule = refl
 kept-unbroken w (command now (Get n k) v) h rule = refl
-kept-unbroken w (command now (Fill t k) v) h rule = not-broken (eqb (wordOf (step (w .state) now (Fill t k) v .answer)) 7) (not (any (same v) (w .since t k))) 1
+kept-unbroken w (command now (Fill t k) v) h rule = not-broken (eqb (wordOf (step (w .state) now (Fill t k) v .answer)) STORED) (not (any (same v) (w .since t k))) 1
     (λ p. rw (mem-any v (w .since t k) (rule (says-stored (w .state) now v t k p))))
 kept-unbroken w (command now (Quar n k d) v) h rule = refl
 kept-unbroken w (command now (Stage n i k) v) h rule = refl
 kept-unbroken w (command now (Delta n i k o) v) h rule = refl
 kept-unbroken w (command now (Validate n m) v) h rule = refl
-kept-unbroken w (command now (Done n) v) h rule = not-broken (eqb (wordOf (step (w .state) now (Done n) v .answer)) 17) (any (differs (w .register) n) (expire now (w .state) .rows)) 4
+kept-unbroken w (command now (Done n) v) h rule = not-broken (eqb (wordOf (step (w .state) now (Done n) v .answer)) DONE) (any (differs (w .register) n) (expire now (w .state) .rows)) 4
     (λ p. none-differs (w .register) n (expire now (w .state) .rows) (rule (says-done (w .state) now v n p)))
-kept-unbroken w (command now (Undo n) v) h rule = not-broken (eqb (wordOf (step (w .state) now (Undo n) v .answer)) 18) (w .wrote n) 3 (λ p. rule (says-undone (w .state) now v n p))
+kept-unbroken w (command now (Undo n) v) h rule = not-broken (eqb (wordOf (step (w .state) now (Undo n) v .answer)) UNDONE) (w .wrote n) 3 (λ p. rule (says-undone (w .state) now v n p))
 kept-unbroken w (command now (Evict k) v) h rule = refl
 kept-unbroken w (command now Tick v) h rule = refl
 kept-unbroken w (write n k v) h rule = rw (is-sealed (w .state) n h (rule .0), holds-row (w .state) n k (rule .1))

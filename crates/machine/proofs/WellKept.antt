@@ -15,7 +15,8 @@ use Rattle.machine.specs.Session.{opened, advanced, sealed, isDue}
 use Rattle.machine.specs.State.{Value, Lease, Key, blank, noSession, session, Staged, nothing, staged, DROP, Row, noRow, row, State, free, freeRow, sessionPlace, sessionOf, rowPlace, rowOf, sessionAt, rowAt, cached, leaseOn}
 use Rattle.machine.specs.Expiry.{withKeys, withRows, withClock, setValue, setLease, freeIfOf, freeSession, settle, leave, finish, lapsedValue, lapsedLease, those, expire}
 use Rattle.machine.specs.Effects.{begins, leased, fills, toCache, onSlot, restaged, withSession, withStaged}
-use Rattle.machine.specs.WellFormed.{Fine, LeaseFits, SessionFits, StagedFits, RowFits, LiveAs, WellFormed, Orderly}
+use Rattle.machine.specs.WellFormed.{Fine, LeaseFits, SessionFits, StagedFits, RowFits, LiveAs, WellFormed, Orderly, Within}
+use Rattle.machine.specs.Words.{INVALIDATE, INCREMENTAL}
 use Rattle.machine.specs.declared.Session.{Session}
 use Rattle.machine.proofs.Views
 use Rattle.machine.proofs.Orderly
@@ -225,8 +226,8 @@ module _ (s : State) (now : ℕ) (h : WellFormed s now) where
       record { positive = y .positive; steps = y .steps; deadline = λ t p. absurd (let z : _≡_ {A = ℕ} 0 1 = cc in omega arith) })
 
   -- QUAR granted: to a live session with no row on the key
-  pub well-granted : (n k kind : ℕ) → k < keyCount → (1 ≤ kind) × (kind ≤ 3) → LiveAs (s .sessions) n → ((i d : ℕ) (v : Staged) → rowAt s i ≡ row n k d v → ⊥)
-      → ((i m d : ℕ) (v : Staged) → rowAt s i ≡ row m k d v → (kind ≡ 1) × (d ≡ 1))
+  pub well-granted : (n k kind : ℕ) → k < keyCount → Within INVALIDATE INCREMENTAL kind → LiveAs (s .sessions) n → ((i d : ℕ) (v : Staged) → rowAt s i ≡ row n k d v → ⊥)
+      → ((i m d : ℕ) (v : Staged) → rowAt s i ≡ row m k d v → (kind ≡ INVALIDATE) × (d ≡ INVALIDATE))
       → WellFormed (withKeys (withRows s (putAt freeRow (row n k kind nothing) (s .rows))) (setLease (s .keys) k none)) now
   well-granted n k kind small range alive unheld sharing = record {
     orderly = Orderly.orderly-granted s n k kind range sharing (h .orderly);
@@ -284,7 +285,7 @@ module _ (s : State) (now : ℕ) (h : WellFormed s now) where
           record { key = x .key; what = elim (r .2) [ inl p ↦ rw p (x .what) | inr p ↦ rw (p .2) (fits i d (r .0) (rw (p .0, p .1) at (r .1))) ] }
 
 -- STAGE and DELTA: the session's count has room, and its row on the key, which is no invalidation, takes u
-pub well-staged : (s : State) (now : ℕ) (h : WellFormed s now) (n k i d : ℕ) (u v : Staged) → rowAt s i ≡ row n k d v → (d ≡ 1 → ⊥) → StagedFits d u
+pub well-staged : (s : State) (now : ℕ) (h : WellFormed s now) (n k i d : ℕ) (u v : Staged) → rowAt s i ≡ row n k d v → (d ≡ INVALIDATE → ⊥) → StagedFits d u
     → ((j : ℕ) (x : Session) → sessionAt s j ≡ session x → x .number ≡ n → x .count < stepMax) → WellFormed (withStaged (withSession s n advanced) n k u) now
 well-staged s now h n k i d u v mine apart fits room = well-restaged (withSession s n advanced) now stepped n k u same (Orderly.orderly-staged s n k i d u v mine apart (h .orderly))
   where

@@ -10,7 +10,7 @@ use lib.ListN.{getD}
 use Rattle.lent.specs.Bytes.{Bytes}
 use Rattle.lent.specs.Tables.{if_then_else_}
 use Rattle.machine.specs.Tables.{any}
-use Rattle.machine.specs.Words.{wordOf, detailOf}
+use Rattle.machine.specs.Words.{wordOf, detailOf, LEASE}
 use Rattle.machine.specs.State.{Value, session, Staged, staged, Row, noRow, row, State, fresh, on, rowOf, cached, sessionAt, rowAt}
 use Rattle.machine.specs.Expiry.{expire}
 use Rattle.machine.specs.Refusals.{notLive}
@@ -56,7 +56,7 @@ freshWorld readLife writeLife = record { state = fresh readLife writeLife; regis
 
 -- a grant of token t begins its record with what the register holds
 abbrev pub sinceGrant : (ℕ → Value) → (ℕ → ℕ → List Value) → Answer → ℕ → ℕ → List Value
-sinceGrant register since a = λ t k. if eqb (wordOf a) 6 && eqb (detailOf a) t then register k ∷ [] else since t k
+sinceGrant register since a = λ t k. if eqb (wordOf a) LEASE && eqb (detailOf a) t then register k ∷ [] else since t k
 
 -- "A quarantine is unbroken as long as after every step some Q row is on the key"
 unfoldable pub commanded : World → Outcome → World
