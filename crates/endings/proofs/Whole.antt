@@ -8,9 +8,10 @@ use Rattle.machine.specs.State.{noSession, State, numbered, sessionAt}
 use Rattle.machine.specs.Expiry.{withSessions, leave, finish}
 use Rattle.machine.specs.Effects.{toCache}
 use Rattle.machine.specs.Sound.{sound}
+use Rattle.machine.proofs.SoundFacts.{numbers-distinct}
 use Rattle.endings.specs.Ends.{endRows}
 use Rattle.endings.specs.declared.Ending.{Ending}
-use Rattle.endings.proofs.Numbers.{numbers-distinct, one-freed}
+use Rattle.endings.proofs.Numbers.{one-freed}
 
 module _ (s : State) (ok : sound s ≡ true) (n i : ℕ) (h : numbered n (sessionAt s i) ≡ true) where
   -- the rows end as e says and the place is freed

@@ -25,6 +25,19 @@ use Rattle.layout.specs.Holds.{HeadFits, LeaseFits, KeyFits, SlotFits, R
 given-not-zero : (n : ℕ) → 1 ≤ n → eqb n 0 ≡ false
 given-not-zero n h = ne-eqb n 0 (λ e. omega arith)
 
+-- so a lease, a row or a session whose bytes say 0 is not there
+pub lease-none : (o : Option Lease) → LeaseFits o → tokenIn o ≡ 0 → o ≡ none
+lease-none none f e = refl
+lease-none (some l) f e = absurd (omega (arith, f .given))
+
+pub row-none : (r : Row) → RowFits r → rowSession r ≡ 0 → r ≡ noRow
+row-none noRow f e = refl
+row-none (row n k d u) f e = absurd (omega (arith, f .given))
+
+pub slot-none : (e : Slot) → SlotFits e → sessionIn e .number ≡ 0 → e ≡ noSession
+slot-none noSession f z = refl
+slot-none (session x) f z = absurd (omega (arith, f .given))
+
 -- ---- the header
 
 pub head-read : (h : Head) → HeadFits h → decHead (encHead h) ≡ h

@@ -33,6 +33,16 @@ found-nothing n i e = go (ltb i n) refl (sym (found-cases n i (ltb i n) refl) �
     go true q f = absurd (let z : _≡_ {A = ℕ} 0 1 = cc in omega arith)
     go false q f = ltb-false i n q
 
+-- ---- how many pass
+
+pub count-most : {A : Type 0} (p : A → Bool) (l : List A) → count p l ≤ length l
+count-most p [] = omega arith
+count-most p (x ∷ l) = go (p x) (count-most p l)
+  where
+    go : (t : Bool) → count p l ≤ length l → (if t then 1 else 0) + count p l ≤ suc (length l)
+    go true h = omega arith
+    go false h = omega arith
+
 -- ---- the place of the first that passes
 
 module _ {A : Type 0} (p : A → Bool) (d : A) where
@@ -77,20 +87,12 @@ module _ {A : Type 0} (p : A → Bool) (d : A) where
   abbrev others : List A → ℕ
   others l = count (λ x. not (p x)) l
 
-  others-most : (l : List A) → others l ≤ length l
-  others-most [] = omega arith
-  others-most (x ∷ l) = go (p x) (others-most l)
-    where
-      go : (t : Bool) → others l ≤ length l → (if not t then 1 else 0) + others l ≤ suc (length l)
-      go true h = omega arith
-      go false h = omega arith
-
   full-place : (l : List A) → leb (length l) (others l) ≡ leb (length l) (place p l)
   full-place [] = refl
   full-place (x ∷ l) = go (p x) (full-place l)
     where
       go : (t : Bool) → leb (length l) (others l) ≡ leb (length l) (place p l) → leb (suc (length l)) ((if not t then 1 else 0) + others l) ≡ leb (suc (length l)) (if t then 0 else suc (place p l))
-      go true h = lt-leb (suc (length l)) (0 + others l) (omega (arith, others-most l)) ∙ sym (lt-leb (suc (length l)) 0 (omega arith))
+      go true h = lt-leb (suc (length l)) (0 + others l) (omega (arith, count-most (λ x. not (p x)) l)) ∙ sym (lt-leb (suc (length l)) 0 (omega arith))
       go false h = let q : 1 + others l ≡ suc (others l) = omega arith in rw (q, leb·suc-suc (length l) (others l), leb·suc-suc (length l) (place p l)) h
 
   pub found-full : (l : List A) (n : ℕ) → length l ≡ n → foundAt n (place p l) ≡ Found.Nothing → leb n (count (λ x. not (p x)) l) ≡ true

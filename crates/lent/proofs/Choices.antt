@@ -37,5 +37,3 @@ if-ind P false f g = g refl
 pub if-same : {A : Type 0} (t : Bool) (x : A) → (if t then x else x) ≡ x
 if-same true x = refl
 if-same false x = refl
-
--- ---- a choice that is a test

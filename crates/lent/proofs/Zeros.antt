@@ -1,4 +1,4 @@
--- Bytes that are all 0: their `|` is 0, and they are the list of zeros.
+-- Bytes that are all 0: a loop that joins them by `|` ends with 0 exactly then, since `a | b` is 0 only if both are.
 use mathlib.Core.Path.{_≡_, refl, sym, _∙_}
 use mathlib.Core.Bool.{_&&_, and-true, and-assoc}
 use mathlib.Core.List.{List, [], _∷_, _++_}
@@ -16,8 +16,6 @@ pub zero-append : (p q : List ℕ) → allZero (p ++ q) ≡ allZero p && allZero
 unfolding allZero
 zero-append [] q = refl
 zero-append (x ∷ p) q = rw (zero-append p q) (sym (and-assoc (eqb x 0) (allZero p) (allZero q)))
-
--- ---- zeros
 
 -- ---- a loop that joins the bytes by `|`
 

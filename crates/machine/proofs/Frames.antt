@@ -269,7 +269,7 @@ module _ (w : World) (g : Good w) where
       stays-row : (i m j d : ℕ) (v : Staged) → rowAt s i ≡ row m j d v → getD (putAt freeRow (row n k kind nothing) (s .rows)) i noRow ≡ row m j d v
       stays-row i m j d v e = elim (Orderly.still-set (s .rows) at (row n k kind nothing) i noRow (row m j d v) (Views.no-row m j d v) e) [
         | inl p ↦ p
-        | inr p ↦ Views.no-row m j d v (sym (Views.free-is (rowAt s at) (Views.free-place freeRow noRow (s .rows) refl)) ∙ ap (rowAt s) (p .0) ∙ e)
+        | inr p ↦ Views.no-row m j d v (sym (Views.free-row-is (rowAt s at) (Views.free-place freeRow noRow (s .rows) refl)) ∙ ap (rowAt s) (p .0) ∙ e)
       ]
 
   -- a session put through f, which keeps its number and its seal, stands where it stood

@@ -16,7 +16,7 @@ use Rattle.lent.specs.Tables.{if_then_else_}
 use Rattle.lent.proofs.Choices.{case-of, clash}
 use Rattle.machine.specs.Sizes.{keyCount}
 use Rattle.machine.specs.Tables.{any}
-use Rattle.machine.specs.State.{Value, Lease, Key, blank, Slot, noSession, session, Row, noRow, State, fresh, free, numbered, on, sessionOf, cached, leaseOn, sessionAt}
+use Rattle.machine.specs.State.{Value, Lease, Key, blank, noSession, session, Row, noRow, State, fresh, numbered, on, sessionOf, cached, leaseOn, sessionAt}
 use Rattle.machine.specs.Refusals.{notLive}
 use Rattle.machine.specs.World.{World, freshWorld, sinceGrant, written, HasRow, Sealed}
 use Rattle.machine.specs.WellFormed.{Orderly}
@@ -93,11 +93,7 @@ fresh-good readLife writeLife = record {
 
 -- a session of number n is found by it
 pub found-live : (s : State) (n i : ℕ) (x : Session) → sessionAt s i ≡ session x → x .number ≡ n → notLive s n ≡ false
-found-live s n i x e num = go (sessionOf s n) (Views.find-passes (numbered n) noSession (s .sessions) i refl (rw e (eq-eqb (x .number) n num)))
-  where
-    go : (y : Slot) → numbered n y ≡ true → free y ≡ false
-    go noSession p = clash false p refl
-    go (session m) p = refl
+found-live s n i x e num = Views.numbered-live n (sessionOf s n) (Views.find-passes (numbered n) noSession (s .sessions) i refl (rw e (eq-eqb (x .number) n num)))
 
 -- a register write, by rule 2
 pub written-good : (w : World) → Good w → (n k : ℕ) (v : Value) → Sealed (w .state) n → HasRow (w .state .rows) n k → Good (written w n k v)

@@ -7,13 +7,13 @@ use mathlib.Core.Option.{Option, none, some}
 use Prim.Native.Nat.{ℕ, _≤_, _<_}
 use native.Mathlib.Omega.{arith}
 use lib.Dec.{eqb, leb, ltb}
-use lib.ListN.{length, getD, length-replicate}
+use lib.ListN.{length, length-replicate}
 use borrow.Author.Tests.{eqb-true, eqb-false, eq-eqb, leb-false, ltb-false, not-false}
 use Rattle.lent.specs.Bytes.{Bytes}
 use Rattle.lent.proofs.Choices.{if-ind, or-no}
 use Rattle.machine.specs.Sizes.{keyCount, sessionCount, rowCount, valueMax, stepMax, lifeMax, timeMax, numberMax}
 use Rattle.machine.specs.Tables.{first, isNone}
-use Rattle.machine.specs.Words.{isKind, isOperation, INVALIDATE, INCREMENTAL}
+use Rattle.machine.specs.Words.{isKind, isOperation, INVALIDATE, INCREMENTAL, REFRESH}
 use Rattle.machine.specs.Decision.{grants}
 use Rattle.machine.specs.State.{Value, Key, blank, noSession, session, Staged, staged, Row, noRow, row, State, fresh, free, freeRow, ofOn, kindOf, stagedIn, sessionPlace, sessionOf, rowPlace, rowOf, sessionAt, rowAt, cached, leaseOn}
 use Rattle.machine.specs.Sound.{lifetime, sound}
@@ -56,15 +56,11 @@ module _ (s : State) (now : ℕ) (h : WellFormed s now) where
   unheld : (n k kind : ℕ) → Within INVALIDATE INCREMENTAL kind → eqb (kindOf (rowOf s n k)) kind ≡ false → grants (decide s k kind) ≡ true → (i d : ℕ) (v : Staged) → rowAt s i ≡ row n k d v → ⊥
   unheld n k kind range f p i d v q =
       let x = Accepted.sharing s (h .orderly) k kind range p i n d v q in
-      let r = Accepted.row-of s n k (mine (rowOf s n k) (Views.find-passes (ofOn n k) noRow (s .rows) i refl (rw (q, eq-eqb n n refl, eq-eqb k k refl) refl))) in
+      let r = Accepted.row-of s n k (Views.of-on-taken n k (rowOf s n k) (Views.find-passes (ofOn n k) noRow (s .rows) i refl (rw (q, eq-eqb n n refl, eq-eqb k k refl) refl))) in
       let y : i ≡ r .0 = h .rows .once i (r .0) q (r .2) in
       let z : row n k d v ≡ row n k (kindOf (rowOf s n k)) (r .1) = sym q ∙ ap (rowAt s) y ∙ r .2 in
       let w : d ≡ kindOf (rowOf s n k) = cc in
       eqb-false (kindOf (rowOf s n k)) kind f (sym w ∙ x .1 ∙ sym (x .0))
-    where
-      mine : (r : Row) → ofOn n k r ≡ true → freeRow r ≡ false
-      mine noRow e = sym e
-      mine (row a b c u) e = refl
 
   well-asked : (n k kind : ℕ) → k < keyCount → Within INVALIDATE INCREMENTAL kind → free (sessionOf s n) ≡ false → eqb (kindOf (rowOf s n k)) kind ≡ false → Keeps (asks s n k kind)
   unfolding asks
@@ -87,7 +83,7 @@ module _ (s : State) (now : ℕ) (h : WellFormed s now) where
           let w : countOf s n ≡ x .count = ap countIn (sym (ap (sessionAt s) z) ∙ a) in
           let c = ltb-false i (countOf s n) p in omega arith
 
-  staged-in : (r : Row) (i : ℕ) → rowAt s i ≡ r → kindOf r ≡ 3 → StagedFits 3 (stagedIn r)
+  staged-in : (r : Row) (i : ℕ) → rowAt s i ≡ r → kindOf r ≡ INCREMENTAL → StagedFits INCREMENTAL (stagedIn r)
   staged-in noRow i e q = tt
   staged-in (row n k d v) i e q = rw q at (h .rows .each i e .what)
 
@@ -101,10 +97,10 @@ module _ (s : State) (now : ℕ) (h : WellFormed s now) where
       if-ind Keeps (eqb (kindOf (rowOf s n k)) kind) (λ m. h)
       (λ m. well-asked n k kind (leb-false keyCount k (or-no (badKey k) (not (isKind kind)) (no 1) .0)) (Accepted.is-kind kind (not-false _ (or-no (badKey k) (not (isKind kind)) (no 1) .1))) (no 2) m)
   well-effect (Stage n i k) v b e = let no = Accepted.passed s now (Stage n i k) v e in
-      well-stages n i k 2 (staged v) (leb-false stepMax i (or-no (badKey k) (leb stepMax i) (no 1) .1)) (no 3) (no 5) (no 6) (no 7) (λ q. omega arith) (omega arith, fine-of v b (no 2))
+      well-stages n i k REFRESH (staged v) (leb-false stepMax i (or-no (badKey k) (leb stepMax i) (no 1) .1)) (no 3) (no 5) (no 6) (no 7) (λ q. omega arith) (omega arith, fine-of v b (no 2))
   well-effect (Delta n i k operation) v b e = let no = Accepted.passed s now (Delta n i k operation) v e in
-      well-stages n i k 3 (changed operation v (stagedIn (rowOf s n k)) (cached s k)) (leb-false stepMax i (or-no (badKey k || not (isOperation operation)) (leb stepMax i) (no 1) .1)) (no 3) (no 5) (no 6) (no 7) (λ q. omega arith)
-      (changed-fits operation v (stagedIn (rowOf s n k)) (cached s k) b (staged-in (rowOf s n k) (rowPlace s n k) refl (eqb-true (kindOf (rowOf s n k)) 3 (not-false _ (no 6)))) (λ u p. h .keys .values k p))
+      well-stages n i k INCREMENTAL (changed operation v (stagedIn (rowOf s n k)) (cached s k)) (leb-false stepMax i (or-no (badKey k || not (isOperation operation)) (leb stepMax i) (no 1) .1)) (no 3) (no 5) (no 6) (no 7) (λ q. omega arith)
+      (changed-fits operation v (stagedIn (rowOf s n k)) (cached s k) b (staged-in (rowOf s n k) (rowPlace s n k) refl (eqb-true (kindOf (rowOf s n k)) INCREMENTAL (not-false _ (no 6)))) (λ u p. h .keys .values k p))
   well-effect (Validate n m) v b e = if-ind Keeps (eqb m (countOf s n)) (λ p. WellKept.well-seal s now h n) (λ p. WellKept.well-leave s now h (n ∷ []))
   well-effect (Done n) v b e = WellKept.well-finish s now (n ∷ []) toCache WellKept.to-cache-fine h
   well-effect (Undo n) v b e = WellKept.well-leave s now h (n ∷ [])
@@ -137,7 +133,7 @@ settled-sound s now c v b h none p = means-sound (withClock t now) (WellKept.wel
     t : State
     t = effect (expire now s) now c v .after
 
-pub step-sound : (s : State) (now : ℕ) (c : Command) (v : Value) → ((i : ℕ) → getD v i 0 < 256) → sound s ≡ true → sound (step s now c v .after) ≡ true
+pub step-sound : (s : State) (now : ℕ) (c : Command) (v : Value) → Bytes v → sound s ≡ true → sound (step s now c v .after) ≡ true
 unfolding step
 step-sound s now c v b h = settled-sound s now c v b h (refusal (expire now s) now c v) refl
 

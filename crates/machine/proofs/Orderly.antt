@@ -103,19 +103,19 @@ still-staged s n k u i m j d v e = go (still-set (s .rows) at (restaged u (rowOf
 
 module _ (ns : List ℕ) where
   pub was-row : (rs : List Row) (i n k d : ℕ) (v : Staged) → getD (map (freeIfOf ns) rs) i noRow ≡ row n k d v → (getD rs i noRow ≡ row n k d v) × (mem n ns ≡ false)
-  was-row rs i n k d v e = Views.freed ns (getD rs i noRow) n k d v (sym (List·getD-map (freeIfOf ns) rs i noRow) ∙ e)
+  was-row rs i n k d v e = Views.freed-was ns (getD rs i noRow) n k d v (sym (List·getD-map (freeIfOf ns) rs i noRow) ∙ e)
 
   pub still-row : (rs : List Row) (i n k d : ℕ) (v : Staged) → getD rs i noRow ≡ row n k d v → mem n ns ≡ false → getD (map (freeIfOf ns) rs) i noRow ≡ row n k d v
   still-row rs i n k d v e q = List·getD-map (freeIfOf ns) rs i noRow ∙ Views.not-freed ns (getD rs i noRow) n k d v e q
 
   pub was-session : (l : List Slot) (i : ℕ) (x : Session) → getD (map (freeSession ns) l) i noSession ≡ session x → (getD l i noSession ≡ session x) × (mem (x .number) ns ≡ false)
-  was-session l i x e = Views.ended ns (getD l i noSession) x (sym (List·getD-map (freeSession ns) l i noSession) ∙ e)
+  was-session l i x e = Views.ended-was ns (getD l i noSession) x (sym (List·getD-map (freeSession ns) l i noSession) ∙ e)
 
 -- Leases that are left
 
 -- a lease that has not lapsed
 pub lapsed-was : (s : State) (now k : ℕ) (l : Lease) → getD (map (lapsedLease now) (s .keys)) k blank .lease ≡ some l → leaseOn s k ≡ some l
-lapsed-was s now k l e = Views.unlapsed-was now (leaseOn s k) l (sym (ap (λ (x : Key). x .lease) (List·getD-map (lapsedLease now) (s .keys) k blank)) ∙ e)
+lapsed-was s now k l e = Views.unlapsed-was now (leaseOn s k) l (sym (ap (λ (x : Key). x .lease) (List·getD-map (lapsedLease now) (s .keys) k blank)) ∙ e) .0
 
 -- a lease, once key k is filled
 pub filled-was : (s : State) (k : ℕ) (v : Value) (j : ℕ) (l : Lease) → getD (set (s .keys) k (record { value = some v; lease = none })) j blank .lease ≡ some l → leaseOn s j ≡ some l

@@ -54,8 +54,8 @@ module _ (s : State) (e : sound s ≡ true) where
   pub session-until : (i : ℕ) {x : Session} {t : ℕ} → sessionAt s i ≡ session x → x .life ≡ Life.Open t → t ≤ s .head .clock + s .head .writeLife
   session-until i {t} p q = sound-means s e .sessions .each i p .deadline t q
 
-  pub numbers-distinct : (i j : ℕ) {x y : Session} → sessionAt s i ≡ session x → sessionAt s j ≡ session y → x .number ≡ y .number → i ≡ j
-  numbers-distinct i j {x} {y} p q t = sound-means s e .orderly .unique i j x y p q t
+  pub numbers-distinct : (i j : ℕ) (x y : Session) → sessionAt s i ≡ session x → sessionAt s j ≡ session y → x .number ≡ y .number → i ≡ j
+  numbers-distinct = sound-means s e .orderly .unique
 
   -- a Q row
   pub row-place : (i : ℕ) {n k d : ℕ} {u : Staged} → rowAt s i ≡ row n k d u → i < rowCount

@@ -137,12 +137,8 @@ is-sealed s n h w = go (sessionOf s n) refl (Views.find-passes (numbered n) noSe
         let it : x ≡ w .live = cc in
         rw (ap (λ (y : Session). y .life) it ∙ w .life)
 
-holds-row : (s : State) (n k : ℕ) → HasRow (s .rows) n k → freeRow (rowOf s n k) ≡ false
-holds-row s n k w = go (rowOf s n k) (Views.find-passes (ofOn n k) noRow (s .rows) (w .place) refl (rw (w .is, eq-eqb n n refl, eq-eqb k k refl)))
-  where
-    go : (r : Row) → ofOn n k r ≡ true → freeRow r ≡ false
-    go noRow e = clash false e refl
-    go (row m j d u) e = refl
+row-taken : (s : State) (n k : ℕ) → HasRow (s .rows) n k → freeRow (rowOf s n k) ≡ false
+row-taken s n k w = Views.of-on-taken n k (rowOf s n k) (Views.find-passes (ofOn n k) noRow (s .rows) (w .place) refl (rw (w .is, eq-eqb n n refl, eq-eqb k k refl)))
 
 -- Each event
 
@@ -183,7 +179,7 @@ kept-unbroken w (command now (Done n) v) h rule = not-broken (eqb (wordOf (step 
 kept-unbroken w (command now (Undo n) v) h rule = not-broken (eqb (wordOf (step (w .state) now (Undo n) v .answer)) UNDONE) (w .wrote n) 3 (λ p. rule (says-undone (w .state) now v n p))
 kept-unbroken w (command now (Evict k) v) h rule = refl
 kept-unbroken w (command now Tick v) h rule = refl
-kept-unbroken w (write n k v) h rule = rw (is-sealed (w .state) n h (rule .0), holds-row (w .state) n k (rule .1))
+kept-unbroken w (write n k v) h rule = rw (is-sealed (w .state) n h (rule .0), row-taken (w .state) n k (rule .1))
 
 -- Each run
 

@@ -14,9 +14,9 @@ use Rattle.lent.proofs.Choices.{case-of, clash}
 use Rattle.machine.specs.Tables.{place, find, mem}
 use Rattle.machine.specs.Session.{isDue}
 use Rattle.machine.specs.Decision.{decision}
-use Rattle.machine.specs.State.{Value, Lease, Key, blank, Slot, noSession, session, Staged, Row, noRow, row, State, free, freeRow, numbered, on, sessionPlace, sessionOf, rowOf, sessionAt, leaseOn}
+use Rattle.machine.specs.State.{Value, Lease, Key, blank, Slot, noSession, session, Staged, Row, noRow, row, State, freeRow, numbered, on, sessionPlace, sessionOf, rowOf, sessionAt, leaseOn}
 use Rattle.machine.specs.Sound.{sound}
-use Rattle.machine.specs.Expiry.{leave, finish, lapsedValue, unlapsed, lapsedLease, those, expire}
+use Rattle.machine.specs.Expiry.{leave, finish, lapsedValue, lapsedLease, those, expire}
 use Rattle.machine.specs.Refusals.{decide, blocked, Sight, sight, refusal}
 use Rattle.machine.specs.Effects.{lifeEnd, slotEnd, later, latest, leaseEnd, lessNow, wait, leased, missed, looked, effect}
 use Rattle.machine.specs.Step.{settled, step}
@@ -35,19 +35,11 @@ use Rattle.machine.proofs.KeepsSound.{well-expired}
 -- After expiry
 
 module _ (now : ℕ) (s : State) where
-  lapsed-rest : (o : Option Lease) (l : Lease) → unlapsed now o ≡ some l → now < l .until
-  lapsed-rest none l e = Views.no-some l e
-  lapsed-rest (some m) l e = go (case-of (leb (m .until) now))
-    where
-      go : (leb (m .until) now ≡ true) ⊎ (leb (m .until) now ≡ false) → now < l .until
-      go (inl q) = Views.no-some l (rw q at e)
-      go (inr q) = let p : some m ≡ some l = rw q at e in subst (λ (x : Lease). now < x .until) (Views.some-eq m l p) (leb-false (m .until) now q)
-
   -- no lease ends at or before now
   pub expired-leases : (k : ℕ) (l : Lease) → leaseOn (expire now s) k ≡ some l → now < l .until
   unfolding expire finish leave
-  expired-leases k l e = lapsed-rest (leaseOn s k) l
-      (ap (λ (x : Key). x .lease) (sym (List·getD-map (lapsedLease now) (s .keys) k blank)) ∙ sym (Views.settle-lease (those (isDue now) (s .sessions)) lapsedValue k (s .rows) (map (lapsedLease now) (s .keys))) ∙ e)
+  expired-leases k l e = Views.unlapsed-was now (leaseOn s k) l
+      (ap (λ (x : Key). x .lease) (sym (List·getD-map (lapsedLease now) (s .keys) k blank)) ∙ sym (Views.settle-lease (those (isDue now) (s .sessions)) lapsedValue k (s .rows) (map (lapsedLease now) (s .keys))) ∙ e) .1
 
   -- and no open session
   pub expired-sessions : (i : ℕ) (x : Session) (until : ℕ) → sessionAt (expire now s) i ≡ session x → x .life ≡ Life.Open until → now < until
@@ -134,12 +126,8 @@ module _ (t : State) (now k : ℕ) (h : WellFormed t now) where
   sealed-of : (n : ℕ) → HasRow (t .rows) n k → slotEnd (sessionOf t n) ≡ none → Sealed t n
   sealed-of n r e =
       let x = h .live (r .place) (r .is) in
-      let y = Accepted.session-of t n (live (sessionOf t n) (Views.find-passes (numbered n) noSession (t .sessions) (x .place) refl (rw (x .is) (eq-eqb (x .live .number) n (x .number))))) in
+      let y = Accepted.session-of t n (Views.numbered-live n (sessionOf t n) (Views.find-passes (numbered n) noSession (t .sessions) (x .place) refl (rw (x .is) (eq-eqb (x .live .number) n (x .number))))) in
       record { place = sessionPlace t n; live = y .0; is = y .1; number = y .2; life = ended-sealed (y .0 .life) (rw (y .1) at e) }
-    where
-      live : (y : Slot) → numbered n y ≡ true → free y ≡ false
-      live noSession p = sym p
-      live (session x) p = refl
 
   -- a key that is blocked with no I lease on it has a row on it
   blocked-row : blocked t k ≡ true → leaseOn t k ≡ none → (n : ℕ) × HasRow (t .rows) n k

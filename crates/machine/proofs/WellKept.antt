@@ -196,7 +196,7 @@ module _ (s : State) (now : ℕ) (h : WellFormed s now) where
       still : (j : ℕ) (x : Session) → sessionAt s j ≡ session x → getD (set (s .sessions) at (session new)) j noSession ≡ session x
       still j x e = elim (Orderly.still-set (s .sessions) at (session new) j noSession (session x) (Views.no-session x) e) [
         | inl p ↦ p
-        | inr p ↦ Views.no-session x (sym (Views.free-is-not (sessionAt s at) (Views.free-place free noSession (s .sessions) refl)) ∙ ap (sessionAt s) (p .0) ∙ e)
+        | inr p ↦ Views.no-session x (sym (Views.free-slot-is (sessionAt s at) (Views.free-place free noSession (s .sessions) refl)) ∙ ap (sessionAt s) (p .0) ∙ e)
       ]
 
   -- the session of number n is put through f, which keeps its number

@@ -1,31 +1,26 @@
 -- A sound state after expiry, part by part. Numbers differ, so the session of a number is the one it was, or nobody if that one is due;
 -- a row goes exactly if its session is due; and a session that stays has the rows that it had.
 use mathlib.Core.Path.{_≡_, refl, sym, ap, _∙_}
-use mathlib.Core.Bool.{Bool, true, false, _&&_}
+use mathlib.Core.Bool.{Bool, true, false}
 use mathlib.Core.Logic.{_⊎_, inl, inr}
 use mathlib.Core.List.{List, [], _∷_, map}
-use Prim.Native.Nat.{ℕ, zero, suc}
+use Prim.Native.Nat.{ℕ}
 use native.Mathlib.Omega.{arith}
 use lib.Dec.{eqb}
-use lib.ListN.{length, getD, length-map, List·getD-map}
-use borrow.Author.Tests.{eqb-true, eqb-false, eq-eqb, ne-eqb}
-use Rattle.lent.specs.Tables.{if_then_else_}
+use lib.ListN.{getD, List·getD-map}
+use borrow.Author.Tests.{eqb-true, eq-eqb}
 use Rattle.lent.proofs.Choices.{case-of, clash}
-use Rattle.machine.specs.Sizes.{sessionCount, rowCount}
 use Rattle.machine.specs.Tables.{place, find, mem}
 use Rattle.machine.specs.Session.{isDue}
-use Rattle.machine.specs.State.{Slot, noSession, session, Row, noRow, row, State, numbered, on, ofOn, sessionPlace, sessionOf, rowOf, sessionAt}
+use Rattle.machine.specs.State.{Slot, noSession, session, Row, noRow, row, State, numbered, ofOn, sessionPlace, sessionOf, rowOf, sessionAt}
 use Rattle.machine.specs.Expiry.{freeIfOf, leave, finish, those, expire}
 use Rattle.machine.specs.Sound.{sound}
 use Rattle.machine.specs.declared.Session.{Session}
 use Rattle.machine.proofs.Views.{find-test, find-passes, among-those, no-session}
-use Rattle.machine.proofs.SoundFacts as facts
-use Rattle.layout.specs.Fields.{rowSession}
+use Rattle.machine.proofs.SoundFacts.{numbers-distinct}
 use Rattle.deadlines.specs.Deadlines.{dueSlot}
 use Rattle.sweep.specs.Lapsing.{freeDue}
 use Rattle.sweep.proofs.Due.{due-freed, due-number}
-use Rattle.endings.proofs.Numbers.{numbers-distinct}
-use Rattle.refusals.specs.Left.{goes}
 
 -- a place that is taken after expiry was taken, by a session that is not due
 pub stays : (now : ℕ) (e : Slot) (y : Session) → freeDue now e ≡ session y → (e ≡ session y) × (isDue now y ≡ false)
@@ -98,7 +93,7 @@ module _ (s : State) (ok : sound s ≡ true) (now : ℕ) where
         go (session x) (session y) p q (inr t) (inr u) =
             let was = had y q in
             let same : sessionPlace s n ≡ sessionPlace (expire now s) n =
-            facts.numbers-distinct s ok (sessionPlace s n) (sessionPlace (expire now s) n) p (was .0) (eqb-true (x .number) n t ∙ sym (eqb-true (y .number) n u)) in
+            numbers-distinct s ok (sessionPlace s n) (sessionPlace (expire now s) n) x y p (was .0) (eqb-true (x .number) n t ∙ sym (eqb-true (y .number) n u)) in
             let eq : session x ≡ session y = sym p ∙ ap (sessionAt s) same ∙ was .0 in
             let g : x ≡ y = cc in
             rw (g, was .1)

@@ -3,7 +3,7 @@
 use mathlib.Core.Path.{_≡_, refl, sym, ap, _∙_}
 use mathlib.Core.Bool.{Bool, true, false, not, _&&_}
 use mathlib.Core.Logic.{_⊎_, inl, inr}
-use mathlib.Core.List.{List, []}
+use mathlib.Core.List.{[]}
 use mathlib.Core.Option.{Option, none, some}
 use Prim.Native.Nat.{ℕ, _≤_}
 use native.Mathlib.Omega.{arith}
@@ -18,6 +18,7 @@ use Rattle.machine.specs.State.{Slot, noSession, session, State, numbered, sess
 use Rattle.machine.specs.Expiry.{expire}
 use Rattle.machine.specs.Sound.{sound}
 use Rattle.machine.specs.Refusals.{countOf, stagingRefusals, refusals}
+use Rattle.machine.specs.Words.{SEALED}
 use Rattle.machine.specs.declared.Session.{Session}
 use Rattle.machine.specs.declared.Validation.{Validation}
 use Rattle.machine.specs.declared.Command.the-variants.{Validate}
@@ -56,7 +57,7 @@ refusalIn (Staging.At i j x) = Refusal.Nothing
 abbrev pub clashIn : Validation → Refusal
 clashIn (Validation.Seals x) = Refusal.Nothing
 clashIn Validation.Loses = Refusal.Nothing
-clashIn Validation.Clashes = Refusal.Is 6
+clashIn Validation.Clashes = Refusal.Is SEALED
 
 told-by : (o : Option ℕ) (t : Bool) (i j : ℕ) (x : Session) → refusalOf o ≡ refusalIn (orElse o (if t then Staging.Repeated else Staging.At i j x))
 told-by none true i j x = refl
@@ -67,7 +68,7 @@ pub validates : (t : State) (n m : ℕ) (x : Session) → sessionOf t n ≡ sess
 unfolding refusals
 validates t n m x e h = rw (le-ltb stepMax m h, e) (go (isSealed x) (eqb m (x .count)))
   where
-    go : (u t : Bool) → refusalOf (if u && not t then some 6 else none) ≡ clashIn (if t then Validation.Seals (sealed x) else if u then Validation.Clashes else Validation.Loses)
+    go : (u t : Bool) → refusalOf (if u && not t then some SEALED else none) ≡ clashIn (if t then Validation.Seals (sealed x) else if u then Validation.Clashes else Validation.Loses)
     go true true = refl
     go true false = refl
     go false true = refl

@@ -145,7 +145,7 @@ place-live s h n e = let x = session-of s n e in lt-ltb (sessionPlace s n) sessi
 place-dead : (s : State) → sound s ≡ true → (n : ℕ) → notLive s n ≡ true → ltb (sessionPlace s n) sessionCount ≡ false
 place-dead s h n e = elim (case-of (ltb (sessionPlace s n) sessionCount)) [
   | inl q ↦ (let f = ltb-true (sessionPlace s n) sessionCount q in
-      clash (numbered n (sessionOf s n)) (place-passes (numbered n) noSession (s .sessions) (omega (arith, sessions-length s h, f))) (rw (Views.free-is-not (sessionOf s n) e) refl))
+      clash (numbered n (sessionOf s n)) (place-passes (numbered n) noSession (s .sessions) (omega (arith, sessions-length s h, f))) (rw (Views.free-slot-is (sessionOf s n) e) refl))
   | inr q ↦ q
 ]
 

@@ -12,6 +12,7 @@ use Rattle.machine.specs.Sizes.{rowCount, valueAt, stagedAt}
 use Rattle.machine.specs.Tables.{isNone}
 use Rattle.machine.specs.State.{Value, nothing, staged, DROP, Row, noRow, row, State, freeRow, ofOn, kindOf, stagedIn, rowAt, rowOf, rowPlace, cached}
 use Rattle.machine.specs.Refusals.{cachedSight, rowSight, sight}
+use Rattle.machine.specs.Words.{INVALIDATE}
 use Rattle.machine.proofs.Views.{of-on-taken}
 use Rattle.layout.specs.Fields.{valueLength, stagedMark, stagedLength}
 use Rattle.layout.specs.Search.{found}
@@ -47,21 +48,21 @@ module _ (i k : ℕ) (c : Option Value) where
   row-dropped (row n j d DROP) e = refl
 
   module _ (r : Row) (value : stagedMark (stagedIn r) ≡ 1 → ⊥) (drop : stagedMark (stagedIn r) ≡ 2 → ⊥) where
-    pub row-invalidates : kindOf r ≡ 1 → rowSight i k r c ≡ none
+    pub row-invalidates : kindOf r ≡ INVALIDATE → rowSight i k r c ≡ none
     row-invalidates e = go r value drop e
       where
-        go : (x : Row) → (stagedMark (stagedIn x) ≡ 1 → ⊥) → (stagedMark (stagedIn x) ≡ 2 → ⊥) → kindOf x ≡ 1 → rowSight i k x c ≡ none
+        go : (x : Row) → (stagedMark (stagedIn x) ≡ 1 → ⊥) → (stagedMark (stagedIn x) ≡ 2 → ⊥) → kindOf x ≡ INVALIDATE → rowSight i k x c ≡ none
         go noRow p q e = absurd (omega arith)
-        go (row n j d nothing) p q e = rw (eq-eqb d 1 e)
+        go (row n j d nothing) p q e = rw (eq-eqb d INVALIDATE e)
         go (row n j d (staged v)) p q e = absurd (p refl)
         go (row n j d DROP) p q e = absurd (q refl)
 
-    pub row-unstaged : (kindOf r ≡ 1 → ⊥) → rowSight i k r c ≡ cachedSight k c
+    pub row-unstaged : (kindOf r ≡ INVALIDATE → ⊥) → rowSight i k r c ≡ cachedSight k c
     row-unstaged e = go r value drop e
       where
-        go : (x : Row) → (stagedMark (stagedIn x) ≡ 1 → ⊥) → (stagedMark (stagedIn x) ≡ 2 → ⊥) → (kindOf x ≡ 1 → ⊥) → rowSight i k x c ≡ cachedSight k c
+        go : (x : Row) → (stagedMark (stagedIn x) ≡ 1 → ⊥) → (stagedMark (stagedIn x) ≡ 2 → ⊥) → (kindOf x ≡ INVALIDATE → ⊥) → rowSight i k x c ≡ cachedSight k c
         go noRow p q e = refl
-        go (row n j d nothing) p q e = rw (ne-eqb d 1 e)
+        go (row n j d nothing) p q e = rw (ne-eqb d INVALIDATE e)
         go (row n j d (staged v)) p q e = absurd (p refl)
         go (row n j d DROP) p q e = absurd (q refl)
 

@@ -10,7 +10,7 @@ use lib.ListN.{length}
 use borrow.Author.Tests.{eqb-true, eqb-false}
 use Rattle.lent.proofs.Choices.{case-of, clash}
 use Rattle.machine.specs.Sizes.{stateSize}
-use Rattle.machine.specs.Words.{wordOf}
+use Rattle.machine.specs.Words.{wordOf, STATE, ARG}
 use Rattle.machine.specs.State.{State, fresh}
 use Rattle.machine.specs.Sound.{lifetime, sound}
 use Rattle.machine.specs.World.{Event, World, freshWorld, run, AllKept, Consistent, AllBytes}
@@ -40,12 +40,12 @@ module _ (b : List ℕ) (readLife writeLife : ℕ) where
     where
       told : length b ≡ stateSize → (lifetime readLife ≡ true) ⊎ (lifetime readLife ≡ false) → (lifetime writeLife ≡ true) ⊎ (lifetime writeLife ≡ false) → Started b readLife writeLife
       told e (inl r) (inl w) = record { size = e; read = r; write = w }
-      told e (inl r) (inr w) = refusing 3 (started-write b readLife writeLife e w) q
-      told e (inr r) w = refusing 3 (started-read b readLife writeLife e r) q
+      told e (inl r) (inr w) = refusing ARG (started-write b readLife writeLife e w) q
+      told e (inr r) w = refusing ARG (started-read b readLife writeLife e r) q
 
       sized : (eqb (length b) stateSize ≡ true) ⊎ (eqb (length b) stateSize ≡ false) → Started b readLife writeLife
       sized (inl e) = told (eqb-true (length b) stateSize e) (case-of (lifetime readLife)) (case-of (lifetime writeLife))
-      sized (inr e) = refusing 1 (started-size b readLife writeLife (eqb-false (length b) stateSize e)) q
+      sized (inr e) = refusing STATE (started-size b readLife writeLife (eqb-false (length b) stateSize e)) q
 
   module _ (ready : startOf b readLife writeLife .answer ≡ Answer.Ready) where
     pub ready-bytes : startOf b readLife writeLife .bytes ≡ encode (fresh readLife writeLife)

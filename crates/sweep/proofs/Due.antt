@@ -5,7 +5,6 @@ use mathlib.Core.Bool.{Bool, true, false}
 use mathlib.Core.Logic.{_⊎_, inl, inr}
 use mathlib.Core.List.{List, map}
 use Prim.Native.Nat.{ℕ}
-use lib.Dec.{eqb}
 use lib.ListN.{getD, length-map, List·getD-map}
 use borrow.Author.Tests.{eqb-true}
 use Rattle.lent.proofs.Choices.{case-of, clash}
