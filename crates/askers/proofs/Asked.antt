@@ -1,4 +1,4 @@
--- The session that asks, found by its number: the slot of that number decides between the refusals 5 and 6 and the open session, and what
+-- The session that asks, found by its number: the slot of that number decides between NO SESSION, SEALED and the open session, and what
 -- stands there has the number.
 use mathlib.Core.Path.{_≡_, refl, ap, _∙_}
 use mathlib.Core.Bool.{Bool, true, false}

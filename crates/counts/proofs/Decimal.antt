@@ -1,4 +1,5 @@
--- The digits of n are its w lowest digits, where w is how many it has: a division by ten for each. Each law goes down those divisions, over any bound on the digits, and is then said of `decimal`.
+-- The digits of n are its w lowest digits, where w is how many it has: a division by ten for each. Each law goes down those divisions, over
+-- any bound on the digits, and is then said of `decimal`.
 use mathlib.Core.Path.{_≡_, refl, ap, _∙_}
 use mathlib.Core.Logic.{_⊎_, inl, inr, ⊎-elim}
 use mathlib.Core.Bool.{Bool, true, false, _&&_, and-true, and-assoc, and-eq-true-iff}

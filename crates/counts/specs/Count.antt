@@ -1,4 +1,5 @@
--- Counts: what bytes say a number, and the bytes that say it. 01, DELTA: "A count is 1 to 20 ASCII digits, at most 2^64 - 1, digits only .. results have no leading zero."
+-- Counts: what bytes say a number, and the bytes that say it. 01, DELTA: "A count is 1 to 20 ASCII digits, at most 2^64 - 1, digits only ..
+-- results have no leading zero."
 use Prim.Native.Nat.{ℕ, zero, suc, _+_, _-_, _*_, _/_, _%_, _^_}
 use mathlib.Core.Bool.{Bool, true, _&&_}
 use mathlib.Core.List.{List, [], _∷_}

@@ -10,16 +10,16 @@ use Rattle.machine.specs.Sizes.{rowCount}
 use Rattle.machine.specs.Tables.{mem}
 use Rattle.machine.specs.State.{Key, Row, noRow, row, State}
 use Rattle.machine.specs.Expiry.{withKeys, withRows, freeIfOf}
-use Rattle.endings.specs.Ends.{settled, rowSettles, endRow, endRows}
+use Rattle.endings.specs.Ends.{keysSettled, rowSettles, endRow, endRows}
 use Rattle.endings.specs.declared.Ending.{Ending}
 use Rattle.endings.proofs.Passes.{along, pass-whole}
 
 module _ (e : Ending) (ns : List ℕ) where
   -- one row more in front
-  settled-cons : (r : Row) (rs : List Row) (ks : List Key) → settled e ns rs (rowSettles e ns r ks) ≡ settled e ns (r ∷ rs) ks
+  settled-cons : (r : Row) (rs : List Row) (ks : List Key) → keysSettled e ns rs (rowSettles e ns r ks) ≡ keysSettled e ns (r ∷ rs) ks
   settled-cons r rs ks = go e r
     where
-      go : (e : Ending) (r : Row) → settled e ns rs (rowSettles e ns r ks) ≡ settled e ns (r ∷ rs) ks
+      go : (e : Ending) (r : Row) → keysSettled e ns rs (rowSettles e ns r ks) ≡ keysSettled e ns (r ∷ rs) ks
       go Ending.Leaves noRow = refl
       go Ending.Leaves (row n k d u) = if-same (mem n ns) ks
       go Ending.Lapses noRow = refl
@@ -27,16 +27,16 @@ module _ (e : Ending) (ns : List ℕ) where
       go Ending.Caches noRow = refl
       go Ending.Caches (row n k d u) = refl
 
-  settled-none : (ks : List Key) → settled e ns [] ks ≡ ks
+  settled-none : (ks : List Key) → keysSettled e ns [] ks ≡ ks
   settled-none ks = go e
     where
-      go : (e : Ending) → settled e ns [] ks ≡ ks
+      go : (e : Ending) → keysSettled e ns [] ks ≡ ks
       go Ending.Leaves = refl
       go Ending.Lapses = refl
       go Ending.Caches = refl
 
   -- the keys handed along the rows
-  along-settled : (rs : List Row) (ks : List Key) → along (rowSettles e ns) rs ks ≡ settled e ns rs ks
+  along-settled : (rs : List Row) (ks : List Key) → along (rowSettles e ns) rs ks ≡ keysSettled e ns rs ks
   along-settled [] ks = sym (settled-none ks)
   along-settled (r ∷ rs) ks = along-settled rs (rowSettles e ns r ks) ∙ settled-cons r rs ks
 

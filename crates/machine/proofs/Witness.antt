@@ -11,11 +11,11 @@ use Rattle.machine.specs.Refusals.{decide, blocked, sight, wouldLease, w
 use Rattle.machine.specs.Effects.{begins, wait, leased, missed, looked, fills, asks, operate, changed, stages, effect}
 use Rattle.machine.specs.Step.{settled, step}
 use Rattle.machine.specs.World.{freshWorld, commanded, written, run, AllKept, Consistent}
-use Rattle.machine.specs.Witness.{heard, events, answers}
+use Rattle.machine.specs.Witness.{heard, events, expected}
 use Rattle.machine.proofs.Tested.{allKept-of}
 use Rattle.machine.proofs.Demand3.{demand-3}
 
-pub witness-heard : heard (freshWorld 1000 5000) events ≡ answers
+pub witness-heard : heard (freshWorld 1000 5000) events ≡ expected
 unfolding readCount decision fresh leave finish expire decide blocked sight wouldLease wouldGrant refusals refusal begins wait leased missed looked fills asks operate changed stages effect settled step commanded written
 witness-heard = refl
 

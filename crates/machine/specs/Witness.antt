@@ -15,28 +15,28 @@ use Rattle.machine.specs.declared.Command.{Command}
 use Rattle.machine.specs.declared.Command.the-variants.{Begin, Get, Fill, Quar, Stage, Delta, Validate, Done}
 
 -- what an event is told; a write of the register is told nothing
-abbrev pub told : World → Event → Option Told
-told w (command now c v) = let r = step (w .state) now c v in some (record { answer = r .answer; handed = r .handed })
-told w (write n k v) = none
+abbrev pub hears : World → Event → Option Told
+hears w (command now c v) = let r = step (w .state) now c v in some (record { answer = r .answer; handed = r .handed })
+hears w (write n k v) = none
 
 abbrev pub heard : World → List Event → List (Option Told)
 heard w [] = []
-heard w (e ∷ es) = told w e ∷ heard (next w e) es
+heard w (e ∷ es) = hears w e ∷ heard (next w e) es
 
 -- an event and what it is told: a command without a value, with one, a GET answered HIT with the value at a place, a write
-abbrev pub Line : Type 0
-Line = Event × Option Told
+abbrev Exchange : Type 0
+Exchange = Event × Option Told
 
-abbrev bare : ℕ → Command → Answer → Line
+abbrev bare : ℕ → Command → Answer → Exchange
 bare now c a = (command now c [], some (says a))
 
-abbrev with : ℕ → Command → Value → Answer → Line
+abbrev with : ℕ → Command → Value → Answer → Exchange
 with now c v a = (command now c v, some (says a))
 
-abbrev hit : ℕ → ℕ → ℕ → ℕ → Value → Line
+abbrev hit : ℕ → ℕ → ℕ → ℕ → Value → Exchange
 hit now n k at v = (command now (Get n k) [], some (record { answer = Answer.Hit at (length v); handed = v }))
 
-abbrev writes : ℕ → ℕ → Value → Line
+abbrev writes : ℕ → ℕ → Value → Exchange
 writes n k v = (write n k v, none)
 
 -- "old", "new", "41", "42", "1"
@@ -57,7 +57,7 @@ one = 49 ∷ []
 
 -- Key 7 holds the register's first value, the empty one. Session 1 invalidates it, and a token on key 9 with it: others still hit the
 -- value from before, until DONE; then what the register wrote is filled in.
-abbrev invalidates : List Line
+abbrev invalidates : List Exchange
 invalidates =
     bare 0 (Get 0 7) (Answer.Lease 1)
     ∷ with 1 (Fill 1 7) [] Answer.Stored
@@ -82,7 +82,7 @@ invalidates =
 
 -- Session 2 refreshes key 7 and appends to key 9; session 3 increments key 9. Each hits what it staged, others the value from before,
 -- and once it is written and done, everyone the new one.
-abbrev refreshes : List Line
+abbrev refreshes : List Exchange
 refreshes =
     bare 20 Begin (Answer.Session 2)
     ∷ bare 21 (Quar 2 7 REFRESH) Answer.Granted
@@ -110,12 +110,12 @@ refreshes =
     ∷ []
 
 -- both, in turn
-abbrev pub lines : List Line
+abbrev pub lines : List Exchange
 lines = invalidates ++ refreshes
 
 abbrev pub events : List Event
-events = map (λ (x : Line). x .0) lines
+events = map (λ (x : Exchange). x .0) lines
 
 -- what each event of the run is to be told
-abbrev pub answers : List (Option Told)
-answers = map (λ (x : Line). x .1) lines
+abbrev pub expected : List (Option Told)
+expected = map (λ (x : Exchange). x .1) lines

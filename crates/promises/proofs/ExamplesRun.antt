@@ -9,7 +9,7 @@ use Rattle.lent.specs.Tables.{every}
 use Rattle.lent.proofs.Choices.{and-yes}
 use Rattle.machine.specs.State.{State, fresh}
 use Rattle.machine.specs.Sound.{valueSound}
-use Rattle.machine.specs.Examples.{Line, Told, after, answers, Example, told, examples}
+use Rattle.machine.specs.Examples.{Line, Told, after, answers, Example, answered, examples}
 use Rattle.machine.specs.declared.Answer.{Answer}
 use Rattle.machine.proofs.SoundMeans.{value-means}
 use Rattle.machine.proofs.Examples.{examples-hold}
@@ -62,13 +62,13 @@ unfolding valuedIn valued every
 examples-valued = refl
 
 module _ (b : List ℕ) (ready : startOf b 1000 5000 .answer ≡ Answer.Ready) where
-  told-follows : (e : Example) → valued (e .first) ≡ true → valued (e .then) ≡ true → toldBytes b e ≡ told e
+  told-follows : (e : Example) → valued (e .first) ≡ true → valued (e .then) ≡ true → toldBytes b e ≡ answered e
   told-follows e p q =
       let f = ready-formed b 1000 5000 ready in
       answers-follow (afterBytes (startOf b 1000 5000 .bytes) (e .first)) (e .then) q (after-formed (startOf b 1000 5000 .bytes) (e .first) p f)
       ∙ ap (λ (s : State). answers s (e .then)) (after-follows (startOf b 1000 5000 .bytes) (e .first) p f ∙ ap (λ (s : State). after s (e .first)) (ready-decodes b 1000 5000 ready))
 
-  all-follow : (l : List Example) → valuedIn l ≡ true → map (toldBytes b) l ≡ map told l
+  all-follow : (l : List Example) → valuedIn l ≡ true → map (toldBytes b) l ≡ map answered l
   unfolding valuedIn
   all-follow [] h = refl
   all-follow (e ∷ l) h =

@@ -1,4 +1,4 @@
--- START on a lent buffer. It ignores what the buffer held: of refusal 1 only the length counts.
+-- START on a lent buffer. It ignores what the buffer held: of STATE only the length counts.
 use mathlib.Core.Bool.{not}
 use mathlib.Core.List.{List, _∷_}
 use mathlib.Core.Option.{Option, none, some}

@@ -1,4 +1,5 @@
--- After i turns the bytes hold the state after i steps of `endDue`, and what is noted are the numbers of those due before place i, since the loop finds each session as it was (`noted-next`).
+-- After i turns the bytes hold the state after i steps of `endDue`, and what is noted are the numbers of those due before place i, since the
+-- loop finds each session as it was (`noted-next`).
 use Prim.Native.Nat.{_≤_, _-_}
 use mathlib.Core.Path.{_≡_, refl, ap, _∙_}
 use native.Mathlib.Omega.{arith}
