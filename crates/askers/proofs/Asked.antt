@@ -1,4 +1,4 @@
--- The session that asks, found by its number: the slot of that number decides between the refusals 5 and 6 and the open session, and what
+-- The session that asks, found by its number: the slot of that number decides between NO SESSION, SEALED and the open session, and what
 -- stands there has the number.
 use mathlib.Core.Path.{_≡_, refl, ap, _∙_}
 use mathlib.Core.Bool.{Bool, true, false}
@@ -16,6 +16,7 @@ use Rattle.machine.specs.Tables.{first}
 use Rattle.machine.specs.Session.{isSealed}
 use Rattle.machine.specs.State.{Slot, noSession, session, State, free, numbered, sessionPlace, sessionOf, sessionAt}
 use Rattle.machine.specs.Refusals.{notLive, sealedIn, sealedSlot}
+use Rattle.machine.specs.Words.{NO-SESSION, SEALED}
 use Rattle.machine.specs.declared.Session.{Session}
 use Rattle.machine.proofs.Views.{find-test}
 use Rattle.layout.specs.Fields.{sessionIn}
@@ -32,7 +33,7 @@ numbered-slot n (session x) q = refl
 -- ---- what a search for the number finds
 
 module _ (s : State) (l : length (s .sessions) ≡ sessionCount) (n : ℕ) where
-  pub asker-none : found sessionCount (sessionPlace s n) ≡ Found.Nothing → askerOf s n ≡ Asker.Refused 5
+  pub asker-none : found sessionCount (sessionPlace s n) ≡ Found.Nothing → askerOf s n ≡ Asker.Refused NO-SESSION
   unfolding askerOf
   asker-none e = rw (nothing-entry (numbered n) noSession (s .sessions) sessionCount l e)
 
@@ -58,15 +59,15 @@ pub record Asks (s : State) (n i : ℕ) (x : Session) : Type 0 where
   pub unsealed : isSealed x ≡ false
 
 module _ (s : State) (n : ℕ) where
-  pub first-asker : (l : List (Bool × ℕ)) → first ((notLive s n, 5) ∷ (sealedIn s n, 6) ∷ l) ≡ refusedOr (askerOf s n) (first l)
+  pub first-asker : (l : List (Bool × ℕ)) → first ((notLive s n, NO-SESSION) ∷ (sealedIn s n, SEALED) ∷ l) ≡ refusedOr (askerOf s n) (first l)
   unfolding askerOf
   first-asker l = go (sessionOf s n)
     where
-      go : (e : Slot) → first ((free e, 5) ∷ (sealedSlot e, 6) ∷ l) ≡ refusedOr (askerAt (sessionPlace s n) e) (first l)
+      go : (e : Slot) → first ((free e, NO-SESSION) ∷ (sealedSlot e, SEALED) ∷ l) ≡ refusedOr (askerAt (sessionPlace s n) e) (first l)
       go noSession = refl
       go (session x) = go′ (isSealed x)
         where
-          go′ : (t : Bool) → (if t then some 6 else first l) ≡ refusedOr (if t then Asker.Refused 6 else Asker.Open (sessionPlace s n) x) (first l)
+          go′ : (t : Bool) → (if t then some SEALED else first l) ≡ refusedOr (if t then Asker.Refused SEALED else Asker.Open (sessionPlace s n) x) (first l)
           go′ true = refl
           go′ false = refl
 
@@ -79,7 +80,7 @@ module _ (s : State) (n : ℕ) where
       go (session y) f (inl p) q = absurd (let z : _≡_ {A = ℕ} 0 1 = cc in omega arith)
       go (session y) f (inr p) q = go′ (isSealed y) refl q
         where
-          go′ : (t : Bool) → isSealed y ≡ t → (if t then Asker.Refused 6 else Asker.Open (sessionPlace s n) y) ≡ Asker.Open i x → Asks s n i x
+          go′ : (t : Bool) → isSealed y ≡ t → (if t then Asker.Refused SEALED else Asker.Open (sessionPlace s n) y) ≡ Asker.Open i x → Asks s n i x
           go′ true g r = absurd (let z : _≡_ {A = ℕ} 0 1 = cc in omega arith)
           go′ false g r =
               let a : sessionPlace s n ≡ i = cc in

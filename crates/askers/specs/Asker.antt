@@ -1,4 +1,4 @@
--- The session that asks, as the refusals 5 NO SESSION and 6 SEALED leave it.
+-- The session that asks, as the refusals NO SESSION and SEALED leave it.
 use Prim.Native.Nat.{ℕ, _<_}
 use Rattle.lent.specs.Tables.{if_then_else_}
 use Rattle.machine.specs.Words.{NO-SESSION, SEALED}

@@ -1,4 +1,5 @@
--- The digits of n are its w lowest digits, where w is how many it has: a division by ten for each. Each law goes down those divisions, over any bound on the digits, and is then said of `decimal`.
+-- The digits of n are its w lowest digits, where w is how many it has: a division by ten for each. Each law goes down those divisions, over
+-- any bound on the digits, and is then said of `decimal`.
 use mathlib.Core.Path.{_≡_, refl, ap, _∙_}
 use mathlib.Core.Logic.{_⊎_, inl, inr, ⊎-elim}
 use mathlib.Core.Bool.{Bool, true, false, _&&_, and-true, and-assoc, and-eq-true-iff}
@@ -107,10 +108,6 @@ byte-at v i p = by (ltb i (length v)) refl
     by false e = rw (List·getD-eq-default v 0 (ltb-false i (length v) e)) (omega arith)
 
 module _ (n : ℕ) where
-  pub decimal-length : length (decimal n) ≡ decimalLength n
-  unfolding decimalLength
-  decimal-length = refl
-
   pub decimal-width : decimalLength n ≡ width digitsMax n
   unfolding decimalLength
   decimal-width = ap length (digits-low digitsMax n []) ∙ simp length-append (omega (arith, length-low (width digitsMax n) n))
@@ -129,6 +126,10 @@ module _ (n : ℕ) where
 
   pub decimal-digits : allDigits (decimal n) ≡ true
   decimal-digits = ap allDigits decimal-low ∙ all-low (decimalLength n) n
+
+  -- no leading zero: the first digit is a 0 of 0 alone
+  pub decimal-leads : 0 < n → n ≤ countMax → 48 < getD (decimal n) 0 0
+  decimal-leads p h = first-digit digitsMax n [] p (omega arith)
 
   -- what a count's digits say is the count
   pub decimal-numeral : n ≤ countMax → numeral 0 (decimal n) ≡ n

@@ -1,4 +1,5 @@
--- A count is read digit by digit. A numeral never falls when a digit is put behind it, so that a numeral past the largest count stays past it, and the reader may stop there.
+-- A count is read digit by digit. A numeral never falls when a digit is put behind it, so that a numeral past the largest count stays past it,
+-- and the reader may stop there.
 use mathlib.Core.Path.{_≡_, refl, _∙_}
 use mathlib.Core.Bool.{Bool, true, false, _&&_, and-false}
 use mathlib.Core.List.{List, [], _∷_}

@@ -1,4 +1,6 @@
--- A count is written from its lowest digit at the last place down to the first: what is still to be written is always the digits that are left, at the front, and where none is left the buffer is as it is to be. Before it, the digits are counted by the divisions that leave something.
+-- A count is written from its lowest digit at the last place down to the first: what is still to be written is always the digits that are
+-- left, at the front, and where none is left the buffer is as it is to be. Before it, the digits are counted by the divisions that leave
+-- something.
 use mathlib.Core.Path.{_≡_, sym, ap, _∙_}
 use mathlib.Core.List.{List, [], _∷_, _++_, append-assoc}
 use Prim.Native.Nat.{ℕ, zero, suc, _+_, _-_, _/_, _%_, _^_, _≤_, _<_}

@@ -1,6 +1,7 @@
--- Counts: what bytes say a number, and the bytes that say it. 01, DELTA: "A count is 1 to 20 ASCII digits, at most 2^64 - 1, digits only .. results have no leading zero."
+-- Counts: what bytes say a number, and the bytes that say it. 01, DELTA: "A count is 1 to 20 ASCII digits, at most 2^64 - 1, digits only ..
+-- results have no leading zero."
 use Prim.Native.Nat.{ℕ, zero, suc, _+_, _-_, _*_, _/_, _%_, _^_}
-use mathlib.Core.Bool.{Bool, true, false, _&&_}
+use mathlib.Core.Bool.{Bool, true, _&&_}
 use mathlib.Core.List.{List, [], _∷_}
 use lib.ListN.{length}
 use lib.Dec.{leb, ltb}
@@ -16,6 +17,7 @@ digitsMax = 20
 abbrev pub countMax : ℕ
 countMax = 18446744073709551615
 
+-- an ASCII digit, 0 to 9
 abbrev pub digit : ℕ → Bool
 digit b = leb 48 b && leb b 57
 

@@ -3,27 +3,25 @@ use mathlib.Core.Path.{_≡_, refl}
 use mathlib.Core.Bool.{false}
 use mathlib.Core.Option.{Option, none, some}
 use Prim.Native.Nat.{ℕ}
-use native.Mathlib.Omega.{arith}
 use lib.Dec.{leb}
 use Rattle.machine.specs.Session.{isDue}
 use Rattle.machine.specs.State.{Lease, Slot, noSession, session}
 use Rattle.machine.specs.Sound.{tokenIn}
 use Rattle.layout.specs.Fields.{leaseUntil, sessionIn}
 use Rattle.layout.specs.Holds.{LeaseFits, SlotFits}
+use Rattle.layout.proofs.Records.{lease-none, slot-none}
 use Rattle.deadlines.specs.Deadlines.{lapsed, dueSlot}
 
 module _ (now : ℕ) where
   pub lapsed-not : (o : Option Lease) → LeaseFits o → tokenIn o ≡ 0 → lapsed now o ≡ false
-  lapsed-not none f e = refl
-  lapsed-not (some l) f e = absurd (omega (arith, f .given))
+  lapsed-not o f e = rw (lease-none o f e)
 
   pub lapsed-by : (o : Option Lease) → (tokenIn o ≡ 0 → ⊥) → lapsed now o ≡ leb (leaseUntil o) now
   lapsed-by none e = absurd (e refl)
   lapsed-by (some l) e = refl
 
   pub due-not : (e : Slot) → SlotFits e → sessionIn e .number ≡ 0 → dueSlot now e ≡ false
-  due-not noSession f z = refl
-  due-not (session x) f z = absurd (omega (arith, f .given))
+  due-not e f z = rw (slot-none e f z)
 
   pub due-by : (e : Slot) → (sessionIn e .number ≡ 0 → ⊥) → dueSlot now e ≡ isDue now (sessionIn e)
   due-by noSession z = absurd (z refl)

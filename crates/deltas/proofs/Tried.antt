@@ -7,7 +7,7 @@ use Prim.Native.Nat.{ℕ, _≤_, _<_}
 use lib.ListN.{length, set}
 use borrow.Author.Tests.{le-leb, lt-leb, le-ltb, lt-ltb}
 use Rattle.machine.specs.Sizes.{keyCount, stepMax, valueMax}
-use Rattle.machine.specs.Words.{isOperation}
+use Rattle.machine.specs.Words.{isOperation, ARG, LONG, INCREMENTAL}
 use Rattle.machine.specs.State.{Value, session, Staged, Row, State, stagedIn, rowOf, rowAt, cached}
 use Rattle.machine.specs.Expiry.{withSessions, withRows}
 use Rattle.machine.specs.Refusals.{badKey, refusals}
@@ -23,29 +23,29 @@ use Rattle.stages.proofs.Staged.{stagedBy, staged-by}
 use Rattle.deltas.specs.Changes.{changedIn, changes}
 
 module _ (s : State) (n step k operation : ℕ) (x : Value) where
-  pub delta-key : keyCount ≤ k → tried s 0 (Delta n step k operation) x ≡ told (Answer.Refused 3) s
+  pub delta-key : keyCount ≤ k → tried s 0 (Delta n step k operation) x ≡ told (Answer.Refused ARG) s
   unfolding tried refusals
   delta-key h = rw (le-leb keyCount k h)
 
-  pub delta-operation : isOperation operation ≡ false → tried s 0 (Delta n step k operation) x ≡ told (Answer.Refused 3) s
+  pub delta-operation : isOperation operation ≡ false → tried s 0 (Delta n step k operation) x ≡ told (Answer.Refused ARG) s
   unfolding tried refusals
   delta-operation e = rw (e, or-true (badKey k))
 
-  pub delta-step : stepMax ≤ step → tried s 0 (Delta n step k operation) x ≡ told (Answer.Refused 3) s
+  pub delta-step : stepMax ≤ step → tried s 0 (Delta n step k operation) x ≡ told (Answer.Refused ARG) s
   unfolding tried refusals
   delta-step h = rw (le-leb stepMax step h, or-true (badKey k || not (isOperation operation)))
 
   module _ (a : k < keyCount) (o : isOperation operation ≡ true) (b : step < stepMax) where
-    pub delta-long : valueMax < length x → tried s 0 (Delta n step k operation) x ≡ told (Answer.Refused 4) s
+    pub delta-long : valueMax < length x → tried s 0 (Delta n step k operation) x ≡ told (Answer.Refused LONG) s
     unfolding tried refusals
     delta-long h = rw (lt-leb keyCount k a, o, lt-leb stepMax step b, lt-ltb valueMax (length x) h)
 
-    pub delta-found : {r : Staging} → length x ≤ valueMax → stagingOf s n step k 3 ≡ r → tried s 0 (Delta n step k operation) x ≡ stagedBy s (changed operation x (stagedIn (rowOf s n k)) (cached s k)) r
+    pub delta-found : {r : Staging} → length x ≤ valueMax → stagingOf s n step k INCREMENTAL ≡ r → tried s 0 (Delta n step k operation) x ≡ stagedBy s (changed operation x (stagedIn (rowOf s n k)) (cached s k)) r
     unfolding tried refusals effect
-    delta-found h e = rw (lt-leb keyCount k a, o, lt-leb stepMax step b, le-ltb valueMax (length x) h) (staged-by s n step k 3 (changed operation x (stagedIn (rowOf s n k)) (cached s k)) e)
+    delta-found h e = rw (lt-leb keyCount k a, o, lt-leb stepMax step b, le-ltb valueMax (length x) h) (staged-by s n step k INCREMENTAL (changed operation x (stagedIn (rowOf s n k)) (cached s k)) e)
 
     -- the session at place i and its row at place j: the session's next record, and then the row's change
-    pub delta-changes : (i j : ℕ) (y : Session) → length x ≤ valueMax → stagingOf s n step k 3 ≡ Staging.At i j y → rowOf s n k ≡ rowAt s j
+    pub delta-changes : (i j : ℕ) (y : Session) → length x ≤ valueMax → stagingOf s n step k INCREMENTAL ≡ Staging.At i j y → rowOf s n k ≡ rowAt s j
         → tried s 0 (Delta n step k operation) x ≡ changes (withSessions s (set (s .sessions) i (session y))) j k operation x
     unfolding changes
     delta-changes i j y h e r = delta-found h e ∙ ap (λ (w : Row). stagedBy s (changed operation x (stagedIn w) (cached s k)) (Staging.At i j y)) r

@@ -16,6 +16,7 @@ use Rattle.layout.specs.Fields.{valueLength, stagedMark, stagedLength}
 use Rattle.layout.specs.Holds.{Holds}
 use Rattle.layout.proofs.Held.{value-stands, staged-stands}
 use Rattle.lent.proofs.Choices.{clash}
+use Rattle.lent.proofs.Splice.{part-win}
 use Rattle.deltas.specs.Changes.{changedIn}
 
 module _ (operation : ℕ) (x : Value) where
@@ -50,11 +51,6 @@ module _ (operation : ℕ) (x : Value) where
   changed-cached nothing (some v) y n o a b e m f q = rw (q, m, f v refl)
   changed-cached (staged v) c y n o a b e m f q = absurd (b refl)
   changed-cached DROP c y n o a b e m f q = absurd (a refl)
-
--- a part of a slice, by its start and its end
-part-win : (b : List ℕ) (a n : ℕ) → take (a + n - a) (drop a b) ≡ win b a n
-unfolding win
-part-win b a n = let e : a + n - a ≡ n = omega arith in rw e
 
 module _ {b : List ℕ} {s : State} (h : Holds b s) (i k operation : ℕ) (x : Value) where
   pub works-drop : stagedMark (stagedIn (rowAt s i)) ≡ 2 → DROP ≡ changedIn s i k operation x

@@ -40,10 +40,10 @@ module _ (v : Value) where
   staged-mark noRow e = absurd (let z : _≡_ {A = ℕ} 0 1 = cc in omega arith)
   staged-mark (row n k d u) e = rw e
 
-  staged-value : (r : Row) → stagedIn r ≡ staged v → length v ≤ valueMax → win (encRow r) 8 64 ≡ padded v
+  staged-value : (r : Row) → stagedIn r ≡ staged v → length v ≤ valueMax → win (encRow r) 8 valueMax ≡ padded v
   unfolding encRow win
   staged-value noRow e h = absurd (let z : _≡_ {A = ℕ} 0 1 = cc in omega arith)
-  staged-value (row n k d u) e h = rw e (take-all 64 (padded v) (rw (length-padded v h) (omega arith)))
+  staged-value (row n k d u) e h = rw e (take-all valueMax (padded v) (rw (length-padded v h) (omega arith)))
 
 module _ {b : List ℕ} {s : State} (h : Holds b s) (k i : ℕ) (l : k < keyCount) (m : i < rowCount) where
   abbrev at : ℕ
@@ -56,10 +56,10 @@ module _ {b : List ℕ} {s : State} (h : Holds b s) (k i : ℕ) (l : k < keyCoun
   abbrev marked : List ℕ
   marked = splice b at (win b (from + 6) 2)
 
-  pub staged-copied : stagedMark (stagedIn (rowAt s i)) ≡ 1 → Holds (splice marked (at + 16) (win marked (from + 8) 64)) (withKeys s (setValue (s .keys) k (toCache (stagedIn (rowAt s i)))))
+  pub staged-copied : stagedMark (stagedIn (rowAt s i)) ≡ 1 → Holds (splice marked (at + 16) (win marked (from + 8) valueMax)) (withKeys s (setValue (s .keys) k (toCache (stagedIn (rowAt s i)))))
   staged-copied e =
       let w = staged-is (rowAt s i) (row-fits h i m) e in
       let mark : win b (from + 6) 2 ≡ 1 ∷ length (w .0) ∷ [] = win-at b from rowWidth (encRow (rowAt s i)) (row-held h i m) 6 2 (omega arith) ∙ staged-mark (w .0) (rowAt s i) (w .1) in
-      let value : win b (from + 8) 64 ≡ padded (w .0) = win-at b from rowWidth (encRow (rowAt s i)) (row-held h i m) 8 64 (omega arith) ∙ staged-value (w .0) (rowAt s i) (w .1) (w .2) in
-      let same : win (splice b at (1 ∷ length (w .0) ∷ [])) (from + 8) 64 ≡ win b (from + 8) 64 = win-splice-after b at (1 ∷ length (w .0) ∷ []) (from + 8) 64 (omega (arith, holds-size h)) (omega arith) in
+      let value : win b (from + 8) valueMax ≡ padded (w .0) = win-at b from rowWidth (encRow (rowAt s i)) (row-held h i m) 8 valueMax (omega arith) ∙ staged-value (w .0) (rowAt s i) (w .1) (w .2) in
+      let same : win (splice b at (1 ∷ length (w .0) ∷ [])) (from + 8) valueMax ≡ win b (from + 8) valueMax = win-splice-after b at (1 ∷ length (w .0) ∷ []) (from + 8) valueMax (omega (arith, holds-size h)) (omega arith) in
       rw (mark, same, value, w .1) (value-put h k l (some (w .0)) (w .2))

@@ -1,29 +1,25 @@
 -- The loop over the rows is a pass that hands the keys along. The rows and keys after the last are those of `finish` and of `leave`, which
 -- settle the keys along the rows in the same order.
 use mathlib.Core.Path.{_≡_, refl, sym, _∙_}
-use mathlib.Core.Bool.{Bool, true, false}
 use mathlib.Core.List.{List, [], _∷_}
 use Prim.Native.Nat.{ℕ}
 use lib.ListN.{length}
-use Rattle.lent.specs.Tables.{if_then_else_, iter}
+use Rattle.lent.proofs.Walks.{iter}
+use Rattle.lent.proofs.Choices.{if-same}
 use Rattle.machine.specs.Sizes.{rowCount}
 use Rattle.machine.specs.Tables.{mem}
 use Rattle.machine.specs.State.{Key, Row, noRow, row, State}
 use Rattle.machine.specs.Expiry.{withKeys, withRows, freeIfOf}
-use Rattle.endings.specs.Ends.{settled, rowSettles, endRow, endRows}
+use Rattle.endings.specs.Ends.{keysSettled, rowSettles, endRow, endRows}
 use Rattle.endings.specs.declared.Ending.{Ending}
 use Rattle.endings.proofs.Passes.{along, pass-whole}
 
-if-same : {A : Type 0} (t : Bool) (a : A) → (if t then a else a) ≡ a
-if-same true a = refl
-if-same false a = refl
-
 module _ (e : Ending) (ns : List ℕ) where
   -- one row more in front
-  settled-cons : (r : Row) (rs : List Row) (ks : List Key) → settled e ns rs (rowSettles e ns r ks) ≡ settled e ns (r ∷ rs) ks
+  settled-cons : (r : Row) (rs : List Row) (ks : List Key) → keysSettled e ns rs (rowSettles e ns r ks) ≡ keysSettled e ns (r ∷ rs) ks
   settled-cons r rs ks = go e r
     where
-      go : (e : Ending) (r : Row) → settled e ns rs (rowSettles e ns r ks) ≡ settled e ns (r ∷ rs) ks
+      go : (e : Ending) (r : Row) → keysSettled e ns rs (rowSettles e ns r ks) ≡ keysSettled e ns (r ∷ rs) ks
       go Ending.Leaves noRow = refl
       go Ending.Leaves (row n k d u) = if-same (mem n ns) ks
       go Ending.Lapses noRow = refl
@@ -31,16 +27,16 @@ module _ (e : Ending) (ns : List ℕ) where
       go Ending.Caches noRow = refl
       go Ending.Caches (row n k d u) = refl
 
-  settled-none : (ks : List Key) → settled e ns [] ks ≡ ks
+  settled-none : (ks : List Key) → keysSettled e ns [] ks ≡ ks
   settled-none ks = go e
     where
-      go : (e : Ending) → settled e ns [] ks ≡ ks
+      go : (e : Ending) → keysSettled e ns [] ks ≡ ks
       go Ending.Leaves = refl
       go Ending.Lapses = refl
       go Ending.Caches = refl
 
   -- the keys handed along the rows
-  along-settled : (rs : List Row) (ks : List Key) → along (rowSettles e ns) rs ks ≡ settled e ns rs ks
+  along-settled : (rs : List Row) (ks : List Key) → along (rowSettles e ns) rs ks ≡ keysSettled e ns rs ks
   along-settled [] ks = sym (settled-none ks)
   along-settled (r ∷ rs) ks = along-settled rs (rowSettles e ns r ks) ∙ settled-cons r rs ks
 

@@ -8,13 +8,12 @@ use lib.Dec.{eqb}
 use lib.ListN.{length, getD, set, length-map, length-set, List·getD-map}
 use lib.Seq.{ext-getD}
 use borrow.Author.Tests.{eqb-true, eq-eqb}
+use Rattle.lent.proofs.Choices.{case-of, clash}
 use Rattle.machine.specs.Tables.{mem}
-use Rattle.machine.specs.State.{Slot, noSession, session, State, numbered}
+use Rattle.machine.specs.State.{Slot, noSession, session, numbered}
 use Rattle.machine.specs.Expiry.{freeSession}
-use Rattle.machine.specs.Sound.{sound}
 use Rattle.machine.specs.declared.Session.{Session}
-use Rattle.machine.proofs.Views.{AfterSet, other, here, out, after-set, caseOf, clash, mem-one, no-session}
-use Rattle.machine.proofs.SoundFacts as facts
+use Rattle.machine.proofs.Views.{AfterSet, other, here, out, after-set, mem-one, no-session}
 
 -- no two sessions have one number
 abbrev pub Distinct : List Slot → Type 0
@@ -24,9 +23,6 @@ Distinct l = (i j : ℕ) (x y : Session) → getD l i noSession ≡ session x �
 pub slots-are : (f : Slot → Slot) (l m : List Slot) → f noSession ≡ noSession → length m ≡ length l → ((i : ℕ) → f (getD l i noSession) ≡ getD m i noSession) → map f l ≡ m
 slots-are f l m e n same =
     ext-getD noSession (map f l) m (length-map l f ∙ sym n) (λ i h. sym (ap (getD (map f l) i) e) ∙ List·getD-map f l i noSession ∙ same i)
-
-pub numbers-distinct : (s : State) → sound s ≡ true → Distinct (s .sessions)
-numbers-distinct s ok i j x y e f q = facts.numbers-distinct s ok i j e f q
 
 module _ (l : List Slot) (d : Distinct l) where
   -- the session of one number ends: its place is freed
@@ -43,7 +39,7 @@ module _ (l : List Slot) (d : Distinct l) where
       at j noSession q (other apart r) = sym (r ∙ q)
       at j noSession q (here same r) = sym r
       at j noSession q (out same r t) = sym r
-      at j (session x) q (other apart r) = rw (elsewhere (getD l i noSession) j x refl h q apart (caseOf (mem (x .number) (n ∷ [])))) (sym (r ∙ q))
+      at j (session x) q (other apart r) = rw (elsewhere (getD l i noSession) j x refl h q apart (case-of (mem (x .number) (n ∷ [])))) (sym (r ∙ q))
       at j (session x) q (here same r) =
           let f : eqb (x .number) n ≡ true = rw q at (rw same at h) in
           rw (eqb-true (x .number) n f, eq-eqb n n refl) (sym r)

@@ -6,7 +6,7 @@ use Prim.Native.Nat.{ℕ, zero, suc, _≤_, _<_}
 use native.Mathlib.Omega.{arith}
 use lib.ListN.{length, getD, set, take, drop, length-map}
 use lib.Seq.{append-snoc, drop-cons, take-suc, take-length, drop-length, getD-at, set-at, length-take-le}
-use Rattle.lent.specs.Tables.{iter}
+use Rattle.lent.proofs.Walks.{iter}
 
 module _ {A : Type 0} (f : A → A) where
   -- after n steps the entries before place n are new

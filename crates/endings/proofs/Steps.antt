@@ -3,7 +3,6 @@ use mathlib.Core.Path.{_≡_, refl}
 use mathlib.Core.Bool.{true, false}
 use mathlib.Core.List.{List}
 use Prim.Native.Nat.{ℕ}
-use native.Mathlib.Omega.{arith}
 use lib.ListN.{set}
 use lib.Seq.{set-getD}
 use Rattle.machine.specs.Tables.{mem}
@@ -11,6 +10,7 @@ use Rattle.machine.specs.State.{Row, noRow, row, State, rowAt, stagedIn}
 use Rattle.machine.specs.Expiry.{withKeys, withRows, freeIfOf}
 use Rattle.layout.specs.Fields.{rowSession, rowKey}
 use Rattle.layout.specs.Holds.{RowFits}
+use Rattle.layout.proofs.Records.{row-none}
 use Rattle.endings.specs.Ends.{settles, rowSettles, endRow}
 use Rattle.endings.specs.declared.Ending.{Ending}
 
@@ -21,11 +21,7 @@ module _ (e : Ending) (ns : List ℕ) (i : ℕ) (s : State) where
   row-same p q = rw (p, q, set-getD (s .rows) i noRow)
 
   pub row-free : RowFits (rowAt s i) → rowSession (rowAt s i) ≡ 0 → endRow e ns i s ≡ s
-  row-free f z = go (rowAt s i) refl f z
-    where
-      go : (r : Row) → rowAt s i ≡ r → RowFits r → rowSession r ≡ 0 → endRow e ns i s ≡ s
-      go noRow q f z = row-same (rw q) (rw q)
-      go (row n k d u) q f z = absurd (omega (arith, f .given))
+  row-free f z = let q = row-none (rowAt s i) f z in row-same (rw q) (rw q)
 
   pub row-stays : mem (rowSession (rowAt s i)) ns ≡ false → endRow e ns i s ≡ s
   row-stays m = go (rowAt s i) refl m

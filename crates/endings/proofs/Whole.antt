@@ -1,4 +1,5 @@
--- The rows of a session end with their keys and its place is freed: that is the machine's own change, since its number is one place of a sound state.
+-- The rows of a session end with their keys and its place is freed: that is the machine's own change, since its number is one place of a sound
+-- state.
 use mathlib.Core.Path.{_≡_}
 use mathlib.Core.Bool.{true}
 use mathlib.Core.List.{[], _∷_}
@@ -8,9 +9,10 @@ use Rattle.machine.specs.State.{noSession, State, numbered, sessionAt}
 use Rattle.machine.specs.Expiry.{withSessions, leave, finish}
 use Rattle.machine.specs.Effects.{toCache}
 use Rattle.machine.specs.Sound.{sound}
+use Rattle.machine.proofs.SoundFacts.{numbers-distinct}
 use Rattle.endings.specs.Ends.{endRows}
 use Rattle.endings.specs.declared.Ending.{Ending}
-use Rattle.endings.proofs.Numbers.{numbers-distinct, one-freed}
+use Rattle.endings.proofs.Numbers.{one-freed}
 
 module _ (s : State) (ok : sound s ≡ true) (n i : ℕ) (h : numbered n (sessionAt s i) ≡ true) where
   -- the rows end as e says and the place is freed

@@ -10,14 +10,14 @@ use Rattle.machine.specs.Effects.{toCache}
 use Rattle.endings.specs.declared.Ending.{Ending}
 
 -- the keys after the rows rs of the sessions ns have ended
-abbrev pub settled : Ending → List ℕ → List Row → List Key → List Key
-settled Ending.Leaves ns rs ks = ks
-settled Ending.Lapses ns rs ks = settle ns lapsedValue rs ks
-settled Ending.Caches ns rs ks = settle ns toCache rs ks
+abbrev pub keysSettled : Ending → List ℕ → List Row → List Key → List Key
+keysSettled Ending.Leaves ns rs ks = ks
+keysSettled Ending.Lapses ns rs ks = settle ns lapsedValue rs ks
+keysSettled Ending.Caches ns rs ks = settle ns toCache rs ks
 
 -- the rows of the sessions ns end
 unfoldable pub endRows : Ending → List ℕ → State → State
-endRows e ns s = withRows (withKeys s (settled e ns (s .rows) (s .keys))) (map (freeIfOf ns) (s .rows))
+endRows e ns s = withRows (withKeys s (keysSettled e ns (s .rows) (s .keys))) (map (freeIfOf ns) (s .rows))
 
 -- the keys after a row on key k with u staged has ended
 abbrev pub settles : Ending → ℕ → Staged → List Key → List Key

@@ -2,10 +2,9 @@
 -- says is 0 where there is no lease, and a lease's token never is.
 use mathlib.Core.Path.{_≡_, refl}
 use mathlib.Core.Bool.{true, false}
-use mathlib.Core.List.{List, []}
+use mathlib.Core.List.{[]}
 use mathlib.Core.Option.{Option, none, some}
 use Prim.Native.Nat.{ℕ, _≤_, _<_}
-use native.Mathlib.Omega.{arith}
 use lib.ListN.{length, set}
 use borrow.Author.Tests.{eq-eqb, ne-eqb, le-leb, lt-leb, le-ltb, lt-ltb}
 use Rattle.machine.specs.Sizes.{keyCount, valueMax}
@@ -14,18 +13,19 @@ use Rattle.machine.specs.State.{Value, Lease, State, cached, leaseOn}
 use Rattle.machine.specs.Expiry.{withKeys, setValue}
 use Rattle.machine.specs.Sound.{tokenIn}
 use Rattle.machine.specs.Refusals.{refusals}
-use Rattle.machine.specs.Effects.{Outcome, told, matches, fills, effect}
+use Rattle.machine.specs.Effects.{told, matches, fills, effect}
+use Rattle.machine.specs.Words.{ARG, LONG}
 use Rattle.machine.specs.declared.Answer.{Answer}
 use Rattle.machine.specs.declared.Command.{Command}
-use Rattle.layout.specs.Holds.{LeaseFits, Holds}
-use Rattle.outcome.specs.Outcome.{tried, Gives}
+use Rattle.layout.specs.Holds.{LeaseFits}
+use Rattle.layout.proofs.Records.{lease-none}
+use Rattle.outcome.specs.Outcome.{tried}
 
 -- ---- the token
 
 module _ (t : ℕ) where
   token-none : (o : Option Lease) → LeaseFits o → tokenIn o ≡ 0 → matches t o ≡ false
-  token-none none f e = refl
-  token-none (some l) f e = absurd (omega (arith, f .given))
+  token-none o f e = rw (lease-none o f e)
 
   token-other : (o : Option Lease) → (tokenIn o ≡ t → ⊥) → matches t o ≡ false
   token-other none n = refl
@@ -38,12 +38,12 @@ module _ (t : ℕ) where
 -- ---- FILL
 
 module _ (s : State) (t k : ℕ) (v : Value) where
-  pub fill-key : keyCount ≤ k → tried s 0 (Command.Fill t k) v ≡ told (Answer.Refused 3) s
+  pub fill-key : keyCount ≤ k → tried s 0 (Command.Fill t k) v ≡ told (Answer.Refused ARG) s
   unfolding tried refusals
   fill-key h = rw (le-leb keyCount k h)
 
   module _ (h : k < keyCount) where
-    pub fill-long : valueMax < length v → tried s 0 (Command.Fill t k) v ≡ told (Answer.Refused 4) s
+    pub fill-long : valueMax < length v → tried s 0 (Command.Fill t k) v ≡ told (Answer.Refused LONG) s
     unfolding tried refusals
     fill-long l = rw (lt-leb keyCount k h, lt-ltb valueMax (length v) l)
 
@@ -66,7 +66,7 @@ module _ (s : State) (t k : ℕ) (v : Value) where
 -- ---- EVICT
 
 module _ (s : State) (k : ℕ) where
-  pub evict-key : keyCount ≤ k → tried s 0 (Command.Evict k) [] ≡ told (Answer.Refused 3) s
+  pub evict-key : keyCount ≤ k → tried s 0 (Command.Evict k) [] ≡ told (Answer.Refused ARG) s
   unfolding tried refusals
   evict-key h = rw (le-leb keyCount k h)
 

@@ -17,6 +17,7 @@ use Rattle.machine.specs.State.{noRow, State, freeRow, rowOf, cached}
 use Rattle.machine.specs.Expiry.{withKeys, withNumbers, setLease}
 use Rattle.machine.specs.Refusals.{Sight as Seen, blocked, cachedSight, sight, wouldLease, notLive, refusals}
 use Rattle.machine.specs.Effects.{Outcome, told, wait, leased, missed, looked as lookedAt, effect}
+use Rattle.machine.specs.Words.{ARG, NO-SESSION, NUMBERS}
 use Rattle.machine.specs.declared.Answer.{Answer}
 use Rattle.machine.specs.declared.Command.the-variants.{Get}
 use Rattle.layout.specs.Holds.{Holds}
@@ -32,7 +33,7 @@ module _ (s : State) (now k : ℕ) where
   unfolding absent
   absent-blocked e = rw e
 
-  pub absent-refused : blocked s k ≡ false → numberMax ≤ s .head .nextToken → absent s now k ≡ told (Answer.Refused 13) s
+  pub absent-refused : blocked s k ≡ false → numberMax ≤ s .head .nextToken → absent s now k ≡ told (Answer.Refused NUMBERS) s
   unfolding absent
   absent-refused e h = rw (e, le-leb numberMax (s .head .nextToken) h)
 
@@ -65,12 +66,12 @@ module _ (s : State) (now k : ℕ) where
 -- ---- GET
 
 module _ (s : State) (now n k : ℕ) where
-  pub got-key : keyCount ≤ k → tried s now (Get n k) [] ≡ told (Answer.Refused 3) s
+  pub got-key : keyCount ≤ k → tried s now (Get n k) [] ≡ told (Answer.Refused ARG) s
   unfolding tried refusals
   got-key h = rw (le-leb keyCount k h)
 
   module _ (h : k < keyCount) where
-    pub got-unknown : (not (eqb n 0) && notLive s n) ≡ true → tried s now (Get n k) [] ≡ told (Answer.Refused 5) s
+    pub got-unknown : (not (eqb n 0) && notLive s n) ≡ true → tried s now (Get n k) [] ≡ told (Answer.Refused NO-SESSION) s
     unfolding tried refusals
     got-unknown e = rw (lt-leb keyCount k h, e)
 
@@ -89,7 +90,7 @@ module _ (s : State) (now n k : ℕ) where
       unfolding tried refusals effect wouldLease lookedAt missed absent
       got-absent p f = rw (lt-leb keyCount k h, e, p, f) (go (blocked s k) (leb numberMax (s .head .nextToken)) (told (Answer.Backoff (wait s k now)) s) (leased s now k))
         where
-          go : (t u : Bool) (x y : Outcome) → unless (first ((not t && u, 13) ∷ [])) s (if t then x else y) ≡ (if t then x else if u then told (Answer.Refused 13) s else y)
+          go : (t u : Bool) (x y : Outcome) → unless (first ((not t && u, NUMBERS) ∷ [])) s (if t then x else y) ≡ (if t then x else if u then told (Answer.Refused NUMBERS) s else y)
           go true u x y = refl
           go false true x y = refl
           go false false x y = refl

@@ -2,8 +2,7 @@
 use mathlib.Core.Path.{_≡_, refl}
 use mathlib.Core.Bool.{true}
 use mathlib.Core.Option.{Option, none, some}
-use Prim.Native.Nat.{ℕ, suc, _-_, _≤_}
-use native.Mathlib.Omega.{arith}
+use Prim.Native.Nat.{ℕ, suc, _≤_}
 use lib.ListN.{length}
 use Rattle.lent.specs.Tables.{if_then_else_}
 use Rattle.machine.specs.Sizes.{rowCount}
@@ -11,17 +10,19 @@ use Rattle.machine.specs.Tables.{place, isNone}
 use Rattle.machine.specs.State.{Lease, noRow, State, on, kindOf, rowAt, leaseOn}
 use Rattle.machine.specs.Sound.{sound, tokenIn}
 use Rattle.machine.specs.Refusals.{heldOn}
+use Rattle.machine.specs.Words.{INCREMENTAL}
 use Rattle.machine.proofs.Views.{on-row}
 use Rattle.machine.proofs.SoundFacts.{row-kind}
 use Rattle.layout.specs.Holds.{LeaseFits}
 use Rattle.layout.specs.Search.{found}
 use Rattle.layout.specs.declared.Found.{Found}
 use Rattle.layout.proofs.Search.{found-entry, found-passes, nothing-entry}
+use Rattle.layout.proofs.Records.{lease-none}
 
 module _ (s : State) (k : ℕ) where
   -- the first row on the key
   pub held-row : (i : ℕ) → length (s .rows) ≡ rowCount → sound s ≡ true → found rowCount (place (on k) (s .rows)) ≡ Found.At i
-      → (heldOn s k ≡ suc (kindOf (rowAt s i))) × (1 ≤ kindOf (rowAt s i)) × (kindOf (rowAt s i) ≤ 3)
+      → (heldOn s k ≡ suc (kindOf (rowAt s i))) × (1 ≤ kindOf (rowAt s i)) × (kindOf (rowAt s i) ≤ INCREMENTAL)
   held-row i l e f =
       let r = on-row k (rowAt s i) (found-passes (on k) noRow (s .rows) rowCount i l f) in
       let d = row-kind s e i (r .3) in
@@ -29,11 +30,7 @@ module _ (s : State) (k : ℕ) where
 
   -- no row is on it
   pub held-free : length (s .rows) ≡ rowCount → found rowCount (place (on k) (s .rows)) ≡ Found.Nothing → LeaseFits (leaseOn s k) → tokenIn (leaseOn s k) ≡ 0 → heldOn s k ≡ 0
-  held-free l f g e = rw (nothing-entry (on k) noRow (s .rows) rowCount l f) (go (leaseOn s k) g e)
-    where
-      go : (o : Option Lease) → LeaseFits o → tokenIn o ≡ 0 → _≡_ {A = ℕ} (if isNone o then 0 else 1) 0
-      go none g e = refl
-      go (some x) g e = absurd (omega (arith, g .given))
+  held-free l f g e = rw (nothing-entry (on k) noRow (s .rows) rowCount l f, lease-none (leaseOn s k) g e)
 
   pub held-lease : length (s .rows) ≡ rowCount → found rowCount (place (on k) (s .rows)) ≡ Found.Nothing → (tokenIn (leaseOn s k) ≡ 0 → ⊥) → heldOn s k ≡ 1
   held-lease l f e = rw (nothing-entry (on k) noRow (s .rows) rowCount l f) (go (leaseOn s k) e)

@@ -1,13 +1,12 @@
 -- What is well formed: bytes that hold a sound state, and no others. A state that fits is read back from its bytes as it was, so its bytes
 -- are well formed exactly if it is sound.
 use mathlib.Core.Path.{_≡_, refl, sym, ap, _∙_}
-use mathlib.Core.Bool.{Bool, true, _&&_}
+use mathlib.Core.Bool.{true}
 use mathlib.Core.List.{List}
 use Prim.Native.Nat.{ℕ}
 use lib.Dec.{eqb}
 use lib.ListN.{length}
-use borrow.Author.Tests.{eq-eqb, eqb-true}
-use Rattle.lent.specs.Bytes.{Bytes}
+use borrow.Author.Tests.{eqb-true}
 use Rattle.lent.specs.Tables.{same}
 use Rattle.lent.proofs.Choices.{and-yes}
 use Rattle.lent.proofs.Equal.{same-eq, same-refl}
@@ -19,7 +18,7 @@ use Rattle.layout.specs.WellFormed.{wellFormed}
 use Rattle.layout.specs.Holds.{Fits, Holds}
 use Rattle.layout.proofs.Widths.{length-encode}
 use Rattle.layout.proofs.Places.{decode-encode}
-use Rattle.layout.proofs.Fitting.{decode-fits, sound-fits}
+use Rattle.layout.proofs.Fitting.{sound-fits}
 
 -- ---- a state's bytes
 
@@ -27,10 +26,6 @@ use Rattle.layout.proofs.Fitting.{decode-fits, sound-fits}
 pub formed-sound : (s : State) → Fits s → wellFormed (encode s) ≡ sound s
 unfolding wellFormed
 formed-sound s f = rw (length-encode s f, decode-encode s f, same-refl (encode s))
-
--- the same of whatever bytes say
-pub formed-decoded : (b : List ℕ) → Bytes b → length b ≡ stateSize → wellFormed (encode (decode b)) ≡ sound (decode b)
-formed-decoded b f l = formed-sound (decode b) (decode-fits b f l)
 
 pub sound-formed : (s : State) → sound s ≡ true → wellFormed (encode s) ≡ true
 sound-formed s e = formed-sound s (sound-fits s e) ∙ e
@@ -67,10 +62,3 @@ module _ {b : List ℕ} {s : State} (h : Holds b s) where
 
   pub holds-is : decode b ≡ s
   holds-is = ap decode (h .bytes) ∙ decode-encode s (h .fits)
-
-  pub holds-formed : wellFormed b ≡ sound s
-  holds-formed = ap wellFormed (h .bytes) ∙ formed-sound s (h .fits)
-
--- bytes hold one state at most
-pub holds-one : {b : List ℕ} {s t : State} → Holds b s → Holds b t → s ≡ t
-holds-one h g = sym (holds-is h) ∙ holds-is g

@@ -1,30 +1,28 @@
 -- Bytes that hold a state: each record is read at its place and its fields with it, and a record that fits, written at its place, makes the
 -- bytes of the state with that record. A record that is written part by part is written whole once its parts make it up.
-use mathlib.Core.Path.{_≡_, refl, sym, ap, _∙_}
-use mathlib.Core.Bool.{Bool, true, false, not}
-use mathlib.Core.List.{List, [], _∷_, _++_}
-use mathlib.Core.Option.{Option, none, some}
-use Prim.Native.Nat.{ℕ, _+_, _*_, _≤_, _<_, _^_}
+use mathlib.Core.Path.{_≡_, sym, ap, _∙_}
+use mathlib.Core.Bool.{not}
+use mathlib.Core.List.{List}
+use mathlib.Core.Option.{some}
+use Prim.Native.Nat.{ℕ, _+_, _*_, _≤_, _<_}
 use native.Mathlib.Nat.{add-zero}
 use native.Mathlib.Omega.{arith}
 use lib.Dec.{eqb}
 use lib.ListN.{length, getD, set, length-set}
 use Rattle.lent.specs.Bytes.{le16, le32, le64, splice, win}
-use Rattle.lent.specs.Tables.{Each}
 use Rattle.lent.proofs.Numbers.{le16-win, le32-win, le64-win}
 use Rattle.lent.proofs.Splice.{getD-win, length-splice, splice-over, splice-self, splice-win, win-splice, win-win}
 use Rattle.lent.proofs.Tables.{each-at, each-set}
 use Rattle.machine.specs.Sizes.{keyCount, sessionCount, rowCount, headSize, keysFrom, keyWidth, rowsFrom, rowWidth, sessionsFrom, sessionWidth, valueMax, valueAt, stagedAt}
 use Rattle.machine.specs.Tables.{isNone}
-use Rattle.machine.specs.State.{Value, Head, Key, Slot, noSession, Staged, nothing, staged, Row, noRow, row, State, blank, keyOf, cached, leaseOn, sessionAt, rowAt, kindOf, stagedIn}
+use Rattle.machine.specs.State.{Value, Head, Key, Slot, noSession, staged, Row, noRow, row, State, blank, keyOf, cached, leaseOn, sessionAt, rowAt, kindOf, stagedIn}
 use Rattle.machine.specs.Expiry.{withHead, withKeys, withSessions, withRows}
 use Rattle.machine.specs.Sound.{tokenIn, numberIn}
 use Rattle.layout.specs.Layout.{encHead, decHead, encKey, encRow, encSession, sessionFrom}
 use Rattle.layout.specs.Fields.{valueLength, leaseUntil, rowSession, rowKey, stagedMark, stagedLength, sessionIn}
-use Rattle.layout.specs.Holds.{HeadFits, KeyFits, SlotFits, RowFits, Fits, Holds}
+use Rattle.layout.specs.Holds.{HeadFits, KeyFits, SlotFits, RowFits, Holds}
 use Rattle.layout.proofs.Records.{key-there, key-length, key-value, key-token, key-until, row-session, row-key, row-kind, row-mark, row-length, row-value, session-number, session-from}
 use Rattle.layout.proofs.Places.{head-at, heads, key-at, row-at, session-at, put-head, put-key, put-row, put-session}
-use Rattle.layout.proofs.Formed.{holds-size}
 
 -- ---- a field of a record that stands at a place
 

@@ -1,7 +1,7 @@
 -- A record's parts written where they stand: a value and its mark, a lease, what is staged, the header's numbers. What is not written stays,
 -- so each makes the bytes of the record with that part.
-use mathlib.Core.Path.{_≡_, refl, sym, ap, ap₂, _∙_}
-use mathlib.Core.Bool.{Bool, true, false, not}
+use mathlib.Core.Path.{_≡_, refl, sym, ap, _∙_}
+use mathlib.Core.Bool.{true, false}
 use mathlib.Core.List.{List, [], _∷_, _++_}
 use mathlib.Core.Option.{Option, none, some}
 use Prim.Native.Nat.{ℕ, _+_, _-_, _*_, _≤_, _<_, _^_}
@@ -11,14 +11,14 @@ use lib.ListN.{length, set, length-replicate}
 use Rattle.lent.specs.Bytes.{bytes32, bytes64, splice, win, zeros}
 use Rattle.lent.proofs.Choices.{clash}
 use Rattle.lent.proofs.Splice.{length-splice, length-win, splice-append, splice-front, splice-next, splice-whole}
-use Rattle.machine.specs.Sizes.{keyCount, sessionCount, rowCount, headSize, keysFrom, keyWidth, rowsFrom, rowWidth, sessionsFrom, sessionWidth, valueMax}
-use Rattle.machine.specs.State.{Value, Head, Lease, Key, Slot, noSession, Staged, nothing, staged, DROP, Row, noRow, row, State, blank, keyOf, rowAt, freeRow}
-use Rattle.machine.specs.Expiry.{withHead, withKeys, withSessions, withRows, withClock, withNumbers, setValue, setLease}
+use Rattle.machine.specs.Sizes.{keyCount, rowCount, headSize, keysFrom, keyWidth, rowsFrom, rowWidth, valueMax}
+use Rattle.machine.specs.State.{Value, Head, Lease, Key, Staged, staged, Row, noRow, row, State, keyOf, rowAt, freeRow}
+use Rattle.machine.specs.Expiry.{withHead, withKeys, withRows, withClock, withNumbers, setValue, setLease}
 use Rattle.machine.specs.Effects.{restaged}
 use Rattle.layout.specs.Layout.{padded, encHead, valueMark, valueBytes, leaseBytes, encKey, stagedBytes, encRow}
 use Rattle.layout.specs.Fields.{valueLength}
 use Rattle.layout.specs.Holds.{HeadFits, ValueFits, LeaseFits, KeyFits, StagedFits, RowFits, Holds}
-use Rattle.layout.proofs.Widths.{length-head, length-mark, length-lease, length-value, length-key, length-staged}
+use Rattle.layout.proofs.Widths.{length-mark, length-lease, length-value, length-staged}
 use Rattle.layout.proofs.Formed.{holds-size}
 use Rattle.layout.proofs.Held.{part-none, part-more, head-held, store-head, key-held, key-fits, store-key, row-held, row-fits, store-row}
 

@@ -1,11 +1,11 @@
 -- Where each record stands in a state's bytes: a table lies behind what comes before it, whose length is the table's place. So a record is
 -- read and written at its place, and the whole state is read back as it was written.
 use mathlib.Core.Path.{_≡_, refl, sym, ap, _∙_}
-use mathlib.Core.List.{List, [], _∷_, _++_, append-assoc}
-use Prim.Native.Nat.{ℕ, _+_, _*_, _≤_, _<_}
+use mathlib.Core.List.{List, _++_, append-assoc}
+use Prim.Native.Nat.{ℕ, _+_, _*_, _<_}
 use native.Mathlib.Omega.{arith}
-use lib.ListN.{length, getD, set, drop, length-append}
-use lib.Seq.{drop-at, take-at}
+use lib.ListN.{length, set, drop, length-append}
+use lib.Seq.{drop-at}
 use Rattle.lent.specs.Bytes.{splice, win, zeros}
 use Rattle.lent.specs.Tables.{readTab, tabOf}
 use Rattle.lent.proofs.Numbers.{le32-win, le64-win}
@@ -15,7 +15,7 @@ use Rattle.machine.specs.Sizes.{keyCount, sessionCount, rowCount, headSize, key
 use Rattle.machine.specs.State.{Head, Key, Slot, noSession, Row, noRow, State, blank, keyOf, sessionAt, rowAt}
 use Rattle.machine.specs.Expiry.{withHead, withKeys, withSessions, withRows}
 use Rattle.layout.specs.Layout.{encHead, decHead, encKey, decKey, encRow, decRow, encSession, decSession, encode, decode}
-use Rattle.layout.specs.Holds.{HeadFits, KeyFits, SlotFits, RowFits, Fits}
+use Rattle.layout.specs.Holds.{KeyFits, SlotFits, RowFits, Fits}
 use Rattle.layout.proofs.Widths.{length-head, length-key, length-row, length-session, keys-wide, rows-wide, sessions-wide, length-keys, length-rows}
 use Rattle.layout.proofs.Records.{head-read, key-read, row-read, session-read}
 

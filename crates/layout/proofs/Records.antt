@@ -1,8 +1,8 @@
 -- Each record is read from its bytes as it was written: field by field, where the bytes of a number say it and a value is as long as its
 -- length byte says; so the whole record.
-use mathlib.Core.Path.{_≡_, refl, sym, ap, ap₂, _∙_}
-use mathlib.Core.Bool.{Bool, true, false, not}
-use mathlib.Core.List.{List, [], _∷_, _++_}
+use mathlib.Core.Path.{_≡_, refl, ap}
+use mathlib.Core.Bool.{false, not}
+use mathlib.Core.List.{List, _++_}
 use mathlib.Core.Option.{Option, none, some}
 use Prim.Native.Nat.{ℕ, _≤_, _<_, _^_}
 use native.Mathlib.Omega.{arith}
@@ -10,22 +10,33 @@ use lib.Dec.{eqb}
 use lib.ListN.{length, getD}
 use lib.Seq.{take-at}
 use borrow.Author.Tests.{ne-eqb}
-use Rattle.lent.specs.Bytes.{le16, le32, le64, win, zeros}
+use Rattle.lent.specs.Bytes.{le32, le64, win}
 use Rattle.lent.specs.Tables.{if_then_else_}
 use Rattle.lent.proofs.Numbers.{le16-bytes, le32-bytes, le64-bytes}
-use Rattle.machine.specs.Sizes.{valueMax}
 use Rattle.machine.specs.Tables.{isNone}
 use Rattle.machine.specs.State.{Value, Head, Lease, Key, Slot, noSession, session, Staged, nothing, staged, DROP, Row, noRow, row, kindOf, stagedIn}
 use Rattle.machine.specs.Sound.{tokenIn, numberIn}
 use Rattle.machine.specs.declared.Life.{Life}
-use Rattle.machine.specs.declared.Session.{Session}
 use Rattle.layout.specs.Layout.{encHead, decHead, valueMark, valueBytes, leaseBytes, encKey, decValue, decLease, decKey, encRow, decStaged, decRow, lifeTime, encSession, decLife, sessionFrom, decSession}
 use Rattle.layout.specs.Fields.{valueLength, leaseUntil, rowSession, rowKey, stagedMark, stagedLength, sessionIn}
-use Rattle.layout.specs.Holds.{HeadFits, LeaseFits, KeyFits, Live, SlotFits, StagedFits, RowFits}
+use Rattle.layout.specs.Holds.{HeadFits, LeaseFits, KeyFits, SlotFits, RowFits}
 
 -- a number that is not 0 is told from 0
 given-not-zero : (n : ℕ) → 1 ≤ n → eqb n 0 ≡ false
 given-not-zero n h = ne-eqb n 0 (λ e. omega arith)
+
+-- so a lease, a row or a session whose bytes say 0 is not there
+pub lease-none : (o : Option Lease) → LeaseFits o → tokenIn o ≡ 0 → o ≡ none
+lease-none none f e = refl
+lease-none (some l) f e = absurd (omega (arith, f .given))
+
+pub row-none : (r : Row) → RowFits r → rowSession r ≡ 0 → r ≡ noRow
+row-none noRow f e = refl
+row-none (row n k d u) f e = absurd (omega (arith, f .given))
+
+pub slot-none : (e : Slot) → SlotFits e → sessionIn e .number ≡ 0 → e ≡ noSession
+slot-none noSession f z = refl
+slot-none (session x) f z = absurd (omega (arith, f .given))
 
 -- ---- the header
 

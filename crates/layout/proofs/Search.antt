@@ -1,19 +1,17 @@
 -- What a search of a table tells of the table: the first place at which a test holds is the table's `place`, and where there is none, every
 -- entry fails the test. So the lowest free place also tells whether a table is full.
-use mathlib.Core.Path.{_≡_, refl, sym, ap, _∙_}
+use mathlib.Core.Path.{_≡_, refl, sym, _∙_}
 use mathlib.Core.Bool.{Bool, true, false, not}
 use mathlib.Core.List.{List, [], _∷_}
 use Prim.Native.Nat.{ℕ, zero, suc, _+_, _≤_, _<_}
-use native.Mathlib.Nat.{zero-add, suc-add}
 use native.Mathlib.Omega.{arith}
 use lib.Dec.{leb, ltb, leb·suc-suc}
 use lib.ListN.{length, getD, List·getD-eq-default}
 use borrow.Author.Tests.{le-leb, le-ltb, lt-leb, lt-ltb, ltb-false, ltb-true}
 use Rattle.lent.specs.Tables.{if_then_else_, first}
-use Rattle.lent.proofs.Choices.{clash}
 use Rattle.lent.proofs.Walks.{Search, found, nowhere, first-search}
 use Rattle.machine.specs.Tables.{place, find, count}
-use Rattle.layout.specs.Search.{found as foundAt, Below}
+use Rattle.layout.specs.Search.{found as foundAt}
 use Rattle.layout.specs.declared.Found.{Found}
 
 -- ---- what is found
@@ -34,6 +32,16 @@ found-nothing n i e = go (ltb i n) refl (sym (found-cases n i (ltb i n) refl) �
     go : (t : Bool) → ltb i n ≡ t → (if t then Found.At i else Found.Nothing) ≡ Found.Nothing → n ≤ i
     go true q f = absurd (let z : _≡_ {A = ℕ} 0 1 = cc in omega arith)
     go false q f = ltb-false i n q
+
+-- ---- how many pass
+
+pub count-most : {A : Type 0} (p : A → Bool) (l : List A) → count p l ≤ length l
+count-most p [] = omega arith
+count-most p (x ∷ l) = go (p x) (count-most p l)
+  where
+    go : (t : Bool) → count p l ≤ length l → (if t then 1 else 0) + count p l ≤ suc (length l)
+    go true h = omega arith
+    go false h = omega arith
 
 -- ---- the place of the first that passes
 
@@ -79,20 +87,12 @@ module _ {A : Type 0} (p : A → Bool) (d : A) where
   abbrev others : List A → ℕ
   others l = count (λ x. not (p x)) l
 
-  others-most : (l : List A) → others l ≤ length l
-  others-most [] = omega arith
-  others-most (x ∷ l) = go (p x) (others-most l)
-    where
-      go : (t : Bool) → others l ≤ length l → (if not t then 1 else 0) + others l ≤ suc (length l)
-      go true h = omega arith
-      go false h = omega arith
-
   full-place : (l : List A) → leb (length l) (others l) ≡ leb (length l) (place p l)
   full-place [] = refl
   full-place (x ∷ l) = go (p x) (full-place l)
     where
       go : (t : Bool) → leb (length l) (others l) ≡ leb (length l) (place p l) → leb (suc (length l)) ((if not t then 1 else 0) + others l) ≡ leb (suc (length l)) (if t then 0 else suc (place p l))
-      go true h = lt-leb (suc (length l)) (0 + others l) (omega (arith, others-most l)) ∙ sym (lt-leb (suc (length l)) 0 (omega arith))
+      go true h = lt-leb (suc (length l)) (0 + others l) (omega (arith, count-most (λ x. not (p x)) l)) ∙ sym (lt-leb (suc (length l)) 0 (omega arith))
       go false h = let q : 1 + others l ≡ suc (others l) = omega arith in rw (q, leb·suc-suc (length l) (others l), leb·suc-suc (length l) (place p l)) h
 
   pub found-full : (l : List A) (n : ℕ) → length l ≡ n → foundAt n (place p l) ≡ Found.Nothing → leb n (count (λ x. not (p x)) l) ≡ true

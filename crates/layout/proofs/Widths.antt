@@ -1,14 +1,12 @@
 -- How many bytes each record takes, and all of them: a value is padded to its 64, and every other part has a fixed width.
-use mathlib.Core.Path.{_≡_, refl, sym, ap, _∙_}
-use mathlib.Core.List.{List, [], _∷_, _++_}
+use mathlib.Core.Path.{_≡_, refl, ap, _∙_}
 use mathlib.Core.Option.{Option, none, some}
-use Prim.Native.Nat.{ℕ, _+_, _-_, _*_, _≤_, _<_}
+use Prim.Native.Nat.{ℕ, _*_, _≤_}
 use native.Mathlib.Omega.{arith}
 use lib.ListN.{length, length-append, length-replicate}
-use Rattle.lent.specs.Bytes.{zeros}
 use Rattle.lent.specs.Tables.{Each, tabOf}
 use Rattle.lent.proofs.Tables.{each-map, length-tab}
-use Rattle.machine.specs.Sizes.{keyCount, sessionCount, rowCount, valueMax, stateSize, headSize, keyWidth, rowWidth, sessionWidth, restSize}
+use Rattle.machine.specs.Sizes.{keyCount, sessionCount, rowCount, valueMax, stateSize, headSize, keyWidth, rowWidth, sessionWidth}
 use Rattle.machine.specs.State.{Value, Head, Lease, Key, Slot, noSession, session, Staged, nothing, staged, DROP, Row, noRow, row, State}
 use Rattle.layout.specs.Layout.{padded, encHead, valueMark, valueBytes, leaseBytes, encKey, stagedBytes, encRow, encSession, encode}
 use Rattle.layout.specs.Holds.{ValueFits, KeyFits, SlotFits, StagedFits, RowFits, Fits}

@@ -1,6 +1,5 @@
 -- The layout (docs/LAYOUT.md): a state to its 65,536 bytes, and what bytes are read as, any bytes.
-use Prim.Native.Nat.{ℕ, _+_, _-_}
-use mathlib.Core.Bool.{Bool, true, false}
+use Prim.Native.Nat.{ℕ, _-_}
 use mathlib.Core.List.{List, [], _∷_, _++_}
 use mathlib.Core.Option.{Option, none, some}
 use lib.ListN.{length, getD, drop}

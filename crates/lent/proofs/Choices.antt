@@ -1,7 +1,7 @@
 -- Choices and tests by the value of a Boolean: each law is its two cases.
 use mathlib.Core.Path.{_≡_, refl}
 use mathlib.Core.Logic.{_⊎_, inl, inr}
-use mathlib.Core.Bool.{Bool, true, false, not, _&&_, _||_, and-false}
+use mathlib.Core.Bool.{Bool, true, false, _&&_, _||_, and-false}
 use Prim.Native.Nat.{ℕ}
 use native.Mathlib.Omega.{arith}
 use Rattle.lent.specs.Tables.{if_then_else_}
@@ -37,5 +37,3 @@ if-ind P false f g = g refl
 pub if-same : {A : Type 0} (t : Bool) (x : A) → (if t then x else x) ≡ x
 if-same true x = refl
 if-same false x = refl
-
--- ---- a choice that is a test

@@ -80,14 +80,8 @@ number-le32 s a h =
 -- ---- bytes are those of the number that they say
 
 module _ (s : List ℕ) (f : Bytes s) where
-  pub le16-small : (a : ℕ) → le16 s a < 65536
-  le16-small a = omega (arith, f a, f (a + 1))
-
-  pub le32-small : (a : ℕ) → le32 s a < 4294967296
+  le32-small : (a : ℕ) → le32 s a < 4294967296
   le32-small a = omega (arith, f a, f (a + 1), f (a + 2), f (a + 3))
-
-  pub le64-small : (a : ℕ) → le64 s a < 18446744073709551616
-  le64-small a = omega (arith, le32-small a, le32-small (a + 4))
 
   bytes-le : (n a v : ℕ) → a + n ≤ length s → number (win s a n) ≡ v → digits n v ≡ win s a n
   bytes-le n a v h e = rw (length-win s a n h, e) at (digits-number (win s a n) (bytes-win s a n h f))

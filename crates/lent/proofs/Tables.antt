@@ -6,7 +6,7 @@ use mathlib.Core.List.{List, [], _∷_, _++_, append-assoc}
 use Prim.Native.Nat.{ℕ, zero, suc, _+_, _*_, _≤_, _<_}
 use native.Mathlib.Nat.{le-of-suc-le-suc, mul-le-mul-right, not-suc-le-zero, suc-mul, zero-add, zero-mul}
 use native.Mathlib.Omega.{arith}
-use lib.ListN.{length, getD, set, take, drop, replicate, length-append, length-drop, replicate-append-replicate, take-append-drop}
+use lib.ListN.{length, getD, set, take, drop, replicate, length-append, length-drop, replicate-append-replicate}
 use lib.Seq.{drop-at, drop-drop, length-take-le, take-at}
 use Rattle.lent.specs.Bytes.{splice, win, zeros}
 use Rattle.lent.specs.Tables.{Each, every, readTab, same, tabOf}
@@ -47,11 +47,6 @@ module _ {A : Type 0} (P : A → Type 0) where
   each-map Q [] f e = tt
   each-map Q (x ∷ xs) f e = (f x (e .0), each-map Q xs f (e .1))
 
-  pub each-same : (n : ℕ) (x : A) → P x → Each P (replicate n x)
-  unfolding Each
-  each-same zero x p = tt
-  each-same (suc n) x p = (p, each-same n x p)
-
 -- ---- records to bytes
 
 module _ {A : Type 0} (enc : A → List ℕ) (w : ℕ) where
@@ -77,11 +72,6 @@ module _ {A : Type 0} (enc : A → List ℕ) (w : ℕ) where
   put-tab (x ∷ xs) q y zero e l h = rw (zero-mul, l, zero-add, append-assoc, drop-at (enc x) _ w (e .0), append-assoc)
   put-tab (x ∷ xs) q y (suc i) e l h =
       rw (append-assoc, place-next i w, append-assoc) (splice-append (enc x) (tabOf enc xs ++ q) (enc y) w (i * w) (e .0) ∙ ap (λ (r : List ℕ). enc x ++ r) (put-tab xs q y i (e .1) l (le-of-suc-le-suc h)))
-
-  pub tab-append : (xs ys : List A) → tabOf enc (xs ++ ys) ≡ tabOf enc xs ++ tabOf enc ys
-  unfolding tabOf
-  tab-append [] ys = refl
-  tab-append (x ∷ xs) ys = rw (tab-append xs ys, append-assoc)
 
   -- records that are all zeros
   pub tab-zeros : (n : ℕ) (x : A) → enc x ≡ zeros w → tabOf enc (replicate n x) ≡ zeros (n * w)
@@ -124,15 +114,6 @@ module _ {A : Type 0} (enc : A → List ℕ) (dec : List ℕ → A) (w : ℕ) wh
   read-tab [] q n l e r = rw (← l)
   read-tab (x ∷ xs) q n l e r =
       rw (← l, append-assoc, take-at (enc x) _ w (e .0), drop-at (enc x) _ w (e .0), r .0, read-tab xs q (length xs) refl (e .1) (r .1))
-
-  -- bytes that are read and written
-  pub tab-read : (n : ℕ) (l : List ℕ) → n * w ≤ length l → ((i : ℕ) → i < n → enc (dec (win l (i * w) w)) ≡ win l (i * w) w) → tabOf enc (readTab dec w n l) ++ drop (n * w) l ≡ l
-  unfolding tabOf readTab win
-  tab-read zero l h e = rw zero-mul
-  tab-read (suc n) l h e =
-      let first : enc (dec (take w l)) ≡ take w l = rw zero-mul at (e 0 (omega arith)) in
-      let rest = tab-read n (drop w l) (simp length-drop (omega arith)) (λ i k. rw (drop-drop (i * w) w l, ← place-next i w) (e (suc i) (omega arith))) in
-      rw (first, append-assoc, place-next n w, ← drop-drop (n * w) w l, rest, take-append-drop)
 
   -- bytes compared with what is read and written again: record by record. A record that is read is written in w bytes
   module _ (wide : (x : List ℕ) → length x ≡ w → length (enc (dec x)) ≡ w) where

@@ -1,13 +1,13 @@
 -- Tests of each index, of some index, the search for the first, and a step for each index: what a loop over the indices needs at a
 -- turn, and what its result says of the indices. All by induction on the number of indices.
-use mathlib.Core.Path.{_≡_, refl, sym, ap, _∙_}
+use mathlib.Core.Path.{_≡_, refl, sym, _∙_}
 use mathlib.Core.Logic.{⊎-elim}
 use mathlib.Core.Bool.{Bool, true, false, _&&_, _||_, and-true, and-assoc, or-true}
 use Prim.Native.Nat.{ℕ, zero, suc, _+_, _-_, _≤_, _<_}
 use native.Mathlib.Nat.{eq-or-lt-of-le, le-of-suc-le-suc, not-suc-le-zero}
 use native.Mathlib.Omega.{arith}
 use native.Mathlib.Numerals.{add-one}
-use Rattle.lent.specs.Tables.{if_then_else_, every, some, first, iter}
+use Rattle.lent.specs.Tables.{if_then_else_, every, some, first}
 use Rattle.lent.proofs.Choices.{and-swap, and-yes, or-no, clash}
 
 -- ---- each index
@@ -131,19 +131,6 @@ module _ {A : Type 0} (p : ℕ → Bool) (hit : ℕ → A) (miss : A) where
       turn false e (found k q a b c f) = found k q (omega arith) (omega arith) c (λ j u v. from j u e (λ l. f j l v))
       turn false e (nowhere q f) = nowhere q (λ j u v. from j u e (λ l. f j l (omega arith)))
 
-  pub first-none : (n i : ℕ) → ((j : ℕ) → i ≤ j → j < i + n → p j ≡ false) → first p hit miss i n ≡ miss
-  unfolding first
-  first-none zero i f = refl
-  first-none (suc n) i f = rw (f i (omega arith) (omega arith), first-none n (suc i) (λ j a b. f j (omega arith) (omega arith)))
-
-  pub first-is : (n i k : ℕ) → i ≤ k → k < i + n → p k ≡ true → ((j : ℕ) → i ≤ j → j < k → p j ≡ false) → first p hit miss i n ≡ hit k
-  unfolding first
-  first-is zero i k a b e f = absurd (omega arith)
-  first-is (suc n) i k a b e f =
-      ⊎-elim (λ q. let t : p i ≡ true = rw q e in rw t (ap hit q))
-      (λ l. rw (f i (omega arith) l) (first-is n (suc i) k l (omega arith) e (λ j u v. f j (omega arith) v)))
-      (eq-or-lt-of-le a)
-
 pub first-cong : {A : Type 0} (p q : ℕ → Bool) (hit : ℕ → A) (miss : A) (n i : ℕ) → ((k : ℕ) → i ≤ k → k < i + n → p k ≡ q k) → first p hit miss i n ≡ first q hit miss i n
 unfolding first
 first-cong p q hit miss zero i e = refl
@@ -152,13 +139,11 @@ first-cong p q hit miss (suc n) i e =
 
 -- ---- a step for each index
 
+-- step 0, then step 1, and so on, n of them
+unfoldable pub iter : {A : Type 0} → (ℕ → A → A) → ℕ → A → A
+iter step zero a = a
+iter step (suc n) a = step n (iter step n a)
+
 pub iter-more : {A : Type 0} (step : ℕ → A → A) (i : ℕ) (a : A) → iter step (i + 1) a ≡ step i (iter step i a)
 unfolding iter
 iter-more step i a = rw add-one
-
--- two walks whose steps keep to a relation
-pub iter-both : {A B : Type 0} (R : A → B → Type 0) (f : ℕ → A → A) (g : ℕ → B → B) (n : ℕ) (a : A) (b : B)
-    → ((i : ℕ) (x : A) (y : B) → i < n → R x y → R (f i x) (g i y)) → R a b → R (iter f n a) (iter g n b)
-unfolding iter
-iter-both R f g zero a b k r = r
-iter-both R f g (suc n) a b k r = k n _ _ (omega arith) (iter-both R f g n a b (λ i x y h. k i x y (omega arith)) r)

@@ -1,24 +1,21 @@
--- Bytes that are all 0: their `|` is 0, and they are the list of zeros.
+-- Bytes that are all 0: a loop that joins them by `|` ends with 0 exactly then, since `a | b` is 0 only if both are.
 use mathlib.Core.Path.{_≡_, refl, sym, _∙_}
-use mathlib.Core.Bool.{true, _&&_, and-true, and-assoc}
+use mathlib.Core.Bool.{_&&_, and-true, and-assoc}
 use mathlib.Core.List.{List, [], _∷_, _++_}
 use Prim.Native.Nat.{ℕ, zero, suc, _+_, _<_}
 use native.Mathlib.Omega.{arith}
 use lib.Dec.{eqb, eqb·suc-zero}
 use lib.Bits.{bitOr, or-zero-l, or-add-and, and-le-r}
 use lib.ListN.{getD, length}
-use borrow.Author.Tests.{eqb-true, ne-eqb}
-use Rattle.lent.specs.Bytes.{win, zeros}
+use borrow.Author.Tests.{ne-eqb}
+use Rattle.lent.specs.Bytes.{win}
 use Rattle.lent.specs.Tables.{allZero}
-use Rattle.lent.proofs.Choices.{and-yes}
 use Rattle.lent.proofs.Splice.{win-more}
 
 pub zero-append : (p q : List ℕ) → allZero (p ++ q) ≡ allZero p && allZero q
 unfolding allZero
 zero-append [] q = refl
 zero-append (x ∷ p) q = rw (zero-append p q) (sym (and-assoc (eqb x 0) (allZero p) (allZero q)))
-
--- ---- zeros
 
 -- ---- a loop that joins the bytes by `|`
 

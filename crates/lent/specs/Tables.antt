@@ -25,11 +25,6 @@ unfoldable pub first : {A : Type 0} → (ℕ → Bool) → (ℕ → A) → A →
 first p hit miss i zero = miss
 first p hit miss i (suc n) = let r = first p hit miss (suc i) n in if p i then hit i else r
 
--- step 0, then step 1, and so on, n of them
-unfoldable pub iter : {A : Type 0} → (ℕ → A → A) → ℕ → A → A
-iter step zero a = a
-iter step (suc n) a = step n (iter step n a)
-
 -- every element is 0
 unfoldable pub allZero : List ℕ → Bool
 allZero [] = true

@@ -7,22 +7,23 @@ use mathlib.Core.List.{_∷_}
 use mathlib.Core.Option.{Option, none, some}
 use Prim.Native.Nat.{ℕ, suc, _≤_}
 use native.Mathlib.Omega.{arith}
-use borrow.Author.Tests.{eqb-true, leb-true}
+use borrow.Author.Tests.{eqb-true, leb-true, not-false}
 use lib.Dec.{eqb, leb}
 use lib.ListN.{getD}
+use Rattle.lent.proofs.Choices.{and-yes, clash}
 use Rattle.machine.specs.Sizes.{numberMax}
 use Rattle.machine.specs.Tables.{place, find}
-use Rattle.machine.specs.Words.{isKind}
+use Rattle.machine.specs.Words.{isKind, INVALIDATE, INCREMENTAL}
 use Rattle.machine.specs.Decision.{decision, grants}
 use Rattle.machine.specs.State.{Value, Lease, Slot, noSession, session, Staged, Row, noRow, row, State, free, freeRow, numbered, on, ofOn, kindOf, sessionOf, rowPlace, rowOf, rowAt}
 use Rattle.machine.specs.Refusals.{decide, blocked, sight, wouldLease, clockRefusal, refusals, refusal}
 use Rattle.machine.specs.Effects.{matches}
+use Rattle.machine.specs.WellFormed.{Orderly, Within}
 use Rattle.machine.specs.declared.Session.{Session}
 use Rattle.machine.specs.declared.Command.{Command}
 use Rattle.machine.specs.declared.Command.the-variants.{Get}
 use Rattle.machine.proofs.Views
 use Rattle.machine.proofs.Table.{only-Q1-shares, quarantined-backs-off}
-use Rattle.machine.proofs.Orderly.{Orderly}
 
 -- each test of an accepted command was false
 pub passed : (s : State) (now : ℕ) (c : Command) (v : Value) → refusal s now c v ≡ none → (i : ℕ) → getD (clockRefusal s now ∷ refusals s c v) i (false, 0) .0 ≡ false
@@ -34,8 +35,8 @@ pub room-for : (s : State) (now n k : ℕ) (v : Value) → refusal s now (Get n 
 unfolding refusals wouldLease
 room-for s now n k v e p q b = rw (p, q, b) at (passed s now (Get n k) v e 3)
 
-pub is-kind : (d : ℕ) → isKind d ≡ true → (1 ≤ d) × (d ≤ 3)
-is-kind d e = (leb-true 1 d (Views.and-true₁ (leb 1 d) (leb d 3) e), leb-true d 3 (Views.and-true₂ (leb 1 d) (leb d 3) e))
+pub is-kind : (d : ℕ) → isKind d ≡ true → Within INVALIDATE INCREMENTAL d
+is-kind d e = (leb-true INVALIDATE d (and-yes (leb INVALIDATE d) (leb d INCREMENTAL) e .0), leb-true d INCREMENTAL (and-yes (leb INVALIDATE d) (leb d INCREMENTAL) e .1))
 
 module _ (s : State) (h : Orderly s) where
   -- the first row on a key where there is one, which decides
@@ -46,7 +47,7 @@ module _ (s : State) (h : Orderly s) where
       (r .0, r .1, r .2, r .3, range .0, range .1)
 
   -- a row may be granted: who has one on the key invalidates, as the asker does
-  pub sharing : (k a : ℕ) → (1 ≤ a) × (a ≤ 3) → grants (decide s k a) ≡ true → (i m d : ℕ) (v : Staged) → rowAt s i ≡ row m k d v → (a ≡ 1) × (d ≡ 1)
+  pub sharing : (k a : ℕ) → Within INVALIDATE INCREMENTAL a → grants (decide s k a) ≡ true → (i m d : ℕ) (v : Staged) → rowAt s i ≡ row m k d v → (a ≡ INVALIDATE) × (d ≡ INVALIDATE)
   unfolding decide
   sharing k a range e i m d v p =
       let r = first-on i m k d v p in
@@ -63,7 +64,7 @@ module _ (s : State) (h : Orderly s) where
   unfolding blocked decide
   unblocked k e i m d v p =
       let r = first-on i m k d v p in
-      Views.clash (grants (decision (suc (r .1)) 0)) (Views.not-false′ _ (rw (r .3) at e)) (rw (quarantined-backs-off (suc (r .1)) (omega arith) (omega (arith, r .5))))
+      clash (grants (decision (suc (r .1)) 0)) (not-false _ (rw (r .3) at e)) (rw (quarantined-backs-off (suc (r .1)) (omega arith) (omega (arith, r .5))))
 
 -- What is found is there
 
@@ -72,7 +73,7 @@ pub session-of : (s : State) (n : ℕ) → free (sessionOf s n) ≡ false → (x
 session-of s n e = go (sessionOf s n) (Views.find-test (numbered n) noSession (s .sessions)) e
   where
     go : (y : Slot) → (y ≡ noSession) ⊎ (numbered n y ≡ true) → free y ≡ false → (x : Session) × (y ≡ session x) × (x .number ≡ n)
-    go noSession p q = Views.clash true refl q
+    go noSession p q = clash true refl q
     go (session x) (inl p) q = Views.no-session x (sym p)
     go (session x) (inr p) q = (x, refl, eqb-true (x .number) n p)
 
@@ -81,14 +82,14 @@ pub row-of : (s : State) (n k : ℕ) → freeRow (rowOf s n k) ≡ false → (i 
 row-of s n k e = let r = go (rowOf s n k) (Views.find-test (ofOn n k) noRow (s .rows)) e in (rowPlace s n k, r .0, r .1)
   where
     go : (y : Row) → (y ≡ noRow) ⊎ (ofOn n k y ≡ true) → freeRow y ≡ false → (v : Staged) × (y ≡ row n k (kindOf y) v)
-    go noRow p q = Views.clash true refl q
+    go noRow p q = clash true refl q
     go (row m j d v) (inl p) q = Views.no-row m j d v (sym p)
     go (row m j d v) (inr p) q =
-        let a : m ≡ n = eqb-true m n (Views.and-true₁ (eqb m n) (eqb j k) p) in
-        let b : j ≡ k = eqb-true j k (Views.and-true₂ (eqb m n) (eqb j k) p) in
+        let a : m ≡ n = eqb-true m n (and-yes (eqb m n) (eqb j k) p .0) in
+        let b : j ≡ k = eqb-true j k (and-yes (eqb m n) (eqb j k) p .1) in
         (v, cc)
 
 -- the lease of a token
 pub matched : (t : ℕ) (o : Option Lease) → matches t o ≡ true → (l : Lease) × (o ≡ some l) × (l .token ≡ t)
-matched t none e = Views.clash false e refl
+matched t none e = clash false e refl
 matched t (some l) e = (l, refl, eqb-true (l .token) t e)

@@ -1,48 +1,33 @@
 -- What DELTA stages fits a row of kind 3: an appended or prepended value was measured, a count has at most 20 digits, and where there is
 -- no result DROP is staged.
 use mathlib.Core.Path.{_≡_, refl, subst}
-use mathlib.Core.Bool.{true, false}
-use mathlib.Core.Logic.{_⊎_, inl, inr}
 use mathlib.Core.List.{[], _∷_, _++_}
 use mathlib.Core.Option.{Option, none, some}
-use Prim.Native.Nat.{ℕ, zero, suc, _+_, _/_, _%_, _≤_, _<_}
+use Prim.Native.Nat.{ℕ, zero, suc}
 use native.Mathlib.Omega.{arith}
-use lib.Dec.{eqb, leb, ltb}
+use lib.Dec.{eqb, leb}
 use lib.ListN.{length}
-use borrow.Author.Tests.{leb-true, ltb-true}
+use borrow.Author.Tests.{leb-true}
 use Rattle.lent.specs.Tables.{if_then_else_}
-use Rattle.counts.specs.Count.{digits, decimal, readCount, raised, lowered}
+use Rattle.lent.specs.Bytes.{Bytes}
+use Rattle.lent.proofs.Choices.{if-ind}
+use Rattle.counts.specs.Count.{decimal, readCount, raised, lowered}
 use Rattle.counts.specs.declared.Count.{Count}
+use Rattle.counts.proofs.Decimal.{decimal-most, decimal-digits, byte-at}
 use Rattle.machine.specs.Sizes.{valueMax}
 use Rattle.machine.specs.State.{Value, Staged, nothing, staged, DROP}
 use Rattle.machine.specs.Effects.{fits, counts, operate, orDrop, changed}
+use Rattle.machine.specs.WellFormed.{Fine, StagedFits}
+use Rattle.machine.specs.Words.{INCREMENTAL, APPEND, PREPEND, INCREMENT}
 use Rattle.machine.proofs.Views
-use Rattle.machine.proofs.WellFormed.{Bytes, Fine, StagedFits}
-
-bytes-cons : (b : ℕ) (v : Value) → b < 256 → Bytes v → Bytes (b ∷ v)
-bytes-cons b v p q zero = p
-bytes-cons b v p q (suc i) = q i
 
 bytes-append : (v x : Value) → Bytes v → Bytes x → Bytes (v ++ x)
 bytes-append [] x p q i = q i
 bytes-append (b ∷ v) x p q zero = p zero
 bytes-append (b ∷ v) x p q (suc i) = bytes-append v x (λ j. p (suc j)) q i
 
--- at most f digits before v, each a byte
-digits-bytes : (f n : ℕ) (v : Value) → Bytes v → (length (digits f n v) ≤ f + length v) × Bytes (digits f n v)
-digits-bytes zero n v p = (omega arith, p)
-digits-bytes (suc f) n v p = go (Views.caseOf (ltb n 10)) (digits-bytes f (n / 10) ((48 + n % 10) ∷ v) (bytes-cons (48 + n % 10) v (omega arith) p))
-  where
-    more : Value
-    more = (48 + n % 10) ∷ v
-
-    go : (ltb n 10 ≡ true) ⊎ (ltb n 10 ≡ false) → (length (digits f (n / 10) more) ≤ f + length more) × Bytes (digits f (n / 10) more)
-        → (length (digits (suc f) n v) ≤ suc f + length v) × Bytes (digits (suc f) n v)
-    go (inl q) r = rw q (omega arith, bytes-cons (48 + n) v (omega (arith, ltb-true n 10 q)) p)
-    go (inr q) r = rw q (omega (arith, r .0), r .1)
-
 decimal-fine : (n : ℕ) → Fine (decimal n)
-decimal-fine n = let r = digits-bytes 20 n [] (λ i. omega arith) in record { short = omega (arith, r .0); bytes = r .1 }
+decimal-fine n = record { short = omega (arith, decimal-most n); bytes = λ i. byte-at (decimal n) i (decimal-digits n) }
 
 -- a result fits, if there is one
 AllFine : Option Value → Type 0
@@ -50,27 +35,27 @@ AllFine o = (v : Value) → o ≡ some v → Fine v
 
 fits-fine : (v : Value) → Bytes v → AllFine (fits v)
 unfolding AllFine
-fits-fine v p = Views.if-ind (λ (o : Option Value). (u : Value) → o ≡ some u → Fine u) (leb (length v) valueMax)
+fits-fine v p = if-ind (λ (o : Option Value). (u : Value) → o ≡ some u → Fine u) (leb (length v) valueMax)
     (λ q u e. subst Fine (Views.some-eq v u e) (record { short = leb-true (length v) valueMax q; bytes = p })) (λ q u e. Views.no-some u e)
 
 counts-fine : (operation : ℕ) (a b : Count) → AllFine (counts operation a b)
 unfolding AllFine
 counts-fine operation Count.Not b v e = Views.no-some v e
 counts-fine operation (Count.Is a) Count.Not v e = Views.no-some v e
-counts-fine operation (Count.Is a) (Count.Is b) v e = subst Fine (Views.some-eq _ v e) (decimal-fine (if eqb operation 3 then raised a b else lowered a b))
+counts-fine operation (Count.Is a) (Count.Is b) v e = subst Fine (Views.some-eq _ v e) (decimal-fine (if eqb operation INCREMENT then raised a b else lowered a b))
 
 operate-fine : (operation : ℕ) (x v : Value) → Bytes x → Fine v → AllFine (operate operation x v)
 unfolding operate
-operate-fine operation x v px fv = Views.if-ind AllFine (eqb operation 1) (λ a. fits-fine (v ++ x) (bytes-append v x (fv .bytes) px)) (λ a.
-    Views.if-ind AllFine (eqb operation 2) (λ b. fits-fine (x ++ v) (bytes-append x v px (fv .bytes))) (λ b.
+operate-fine operation x v px fv = if-ind AllFine (eqb operation APPEND) (λ a. fits-fine (v ++ x) (bytes-append v x (fv .bytes) px)) (λ a.
+    if-ind AllFine (eqb operation PREPEND) (λ b. fits-fine (x ++ v) (bytes-append x v px (fv .bytes))) (λ b.
     counts-fine operation (readCount v) (readCount x)))
 
-or-drop-fits : (o : Option Value) → AllFine o → StagedFits 3 (orDrop o)
+or-drop-fits : (o : Option Value) → AllFine o → StagedFits INCREMENTAL (orDrop o)
 unfolding AllFine
 or-drop-fits none f = refl
 or-drop-fits (some v) f = (omega arith, f v refl)
 
-pub changed-fits : (operation : ℕ) (x : Value) (u : Staged) (o : Option Value) → Bytes x → StagedFits 3 u → ((v : Value) → o ≡ some v → Fine v) → StagedFits 3 (changed operation x u o)
+pub changed-fits : (operation : ℕ) (x : Value) (u : Staged) (o : Option Value) → Bytes x → StagedFits INCREMENTAL u → ((v : Value) → o ≡ some v → Fine v) → StagedFits INCREMENTAL (changed operation x u o)
 unfolding changed
 changed-fits operation x nothing none px fu fo = refl
 changed-fits operation x nothing (some v) px fu fo = or-drop-fits (operate operation x v) (operate-fine operation x v px (fo v refl))

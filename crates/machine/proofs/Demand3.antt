@@ -9,18 +9,19 @@ use mathlib.Core.Option.{Option, none, some}
 use Prim.Native.Nat.{ℕ}
 use native.Mathlib.Omega.{arith}
 use lib.Dec.{eqb}
+use Rattle.lent.proofs.Choices.{clash, if-ind}
 use Rattle.machine.specs.Tables.{first}
-use Rattle.machine.specs.Words.{wordOf}
+use Rattle.machine.specs.Words.{wordOf, HIT}
 use Rattle.machine.specs.State.{Value, Row, noRow, State, freeRow, rowOf, rowPlace, cached}
 use Rattle.machine.specs.Expiry.{expire}
 use Rattle.machine.specs.Refusals.{blocked, Sight, cachedSight, rowSight, sight, refusal, showRefusals}
 use Rattle.machine.specs.Effects.{Outcome, told, wait, leased, missed, looked, effect}
 use Rattle.machine.specs.Step.{settled, step, showing, show}
-use Rattle.machine.specs.World.{Event, command, World, quarantined, begun, commanded, next, run, AllKept, Consistent}
+use Rattle.machine.specs.World.{Event, command, World, quarantined, freshWorld, commanded, next, run, AllKept, Consistent}
 use Rattle.machine.specs.declared.Answer.{Answer}
 use Rattle.machine.specs.declared.Command.the-variants.{Get}
 use Rattle.machine.proofs.Views
-use Rattle.machine.proofs.Invariant.{Good, begun-good, quarantined-by, quarantining}
+use Rattle.machine.proofs.Invariant.{Good, fresh-good, quarantined-by, quarantining}
 use Rattle.machine.proofs.Promise.{next-good, run-good}
 
 -- without a row, what is in sight is the cached value
@@ -39,15 +40,15 @@ Handed : (n k at size : ℕ) → Outcome → Type 0
 Handed n k at size r = r .answer ≡ Answer.Hit at size → rowOf (r .after) n k ≡ noRow → cached (r .after) k ≡ some (r .handed)
 
 -- another word is no hit
-another : (n k at size : ℕ) (r : Outcome) → eqb (wordOf (r .answer)) 3 ≡ false → Handed n k at size r
+another : (n k at size : ℕ) (r : Outcome) → eqb (wordOf (r .answer)) HIT ≡ false → Handed n k at size r
 unfolding Handed
-another n k at size r q e f = Views.clash (eqb (wordOf (r .answer)) 3) (rw e refl) q
+another n k at size r q e f = clash (eqb (wordOf (r .answer)) HIT) (rw e refl) q
 
 looked-hit : (s : State) (now n k at size : ℕ) (o : Option Sight) → sight s n k ≡ o → Handed n k at size (looked s now n k o)
 unfolding Handed looked missed leased
 looked-hit s now n k at size (some x) p = λ e f. sight-cached s n k x f p
-looked-hit s now n k at size none p = Views.if-ind (Handed n k at size) (freeRow (rowOf s n k))
-    (λ q. Views.if-ind (Handed n k at size) (blocked s k) (λ b. another n k at size (told (Answer.Backoff (wait s k now)) s) refl) (λ b. another n k at size (leased s now k) refl))
+looked-hit s now n k at size none p = if-ind (Handed n k at size) (freeRow (rowOf s n k))
+    (λ q. if-ind (Handed n k at size) (blocked s k) (λ b. another n k at size (told (Answer.Backoff (wait s k now)) s) refl) (λ b. another n k at size (leased s now k) refl))
     (λ q. another n k at size (told Answer.Ask s) refl)
 
 settled-hit : (s t : State) (now n k at size : ℕ) (v : Value) (o : Option ℕ) → Handed n k at size (settled s now o (effect t now (Get n k) v))
@@ -76,7 +77,7 @@ unquarantined-key : (w : World) → Good w → (k : ℕ) → quarantined (w .sta
 unquarantined-key w g k e none p = inl refl
 unquarantined-key w g k e (some v) p = elim (g .current k v p) [
   | inl h ↦ inr (ap some h)
-  | inr h ↦ Views.clash (quarantined (w .state) k) (quarantined-by (w .state .rows) k (record { number = h .number; holds = h .holds })) e
+  | inr h ↦ clash (quarantined (w .state) k) (quarantined-by (w .state .rows) k (record { number = h .number; holds = h .holds })) e
 ]
 
 pub consistent : (w : World) → Good w → Consistent w
@@ -90,13 +91,13 @@ consistent w g = record {
 -- The theorem
 
 -- of a whole run
-pub demand-3-whole : (readLife writeLife : ℕ) (es : List Event) → AllKept (begun readLife writeLife) es → Consistent (run (begun readLife writeLife) es)
-demand-3-whole readLife writeLife es h = consistent (run (begun readLife writeLife) es) (run-good (begun readLife writeLife) es (begun-good readLife writeLife) h)
+pub demand-3-whole : (readLife writeLife : ℕ) (es : List Event) → AllKept (freshWorld readLife writeLife) es → Consistent (run (freshWorld readLife writeLife) es)
+demand-3-whole readLife writeLife es h = consistent (run (freshWorld readLife writeLife) es) (run-good (freshWorld readLife writeLife) es (fresh-good readLife writeLife) h)
 
 kept-before : (w : World) (es fs : List Event) → AllKept w (es ++ fs) → AllKept w es
 kept-before w [] fs h = tt
 kept-before w (e ∷ es) fs h = (h .0, kept-before (next w e) es fs (h .1))
 
 -- at each moment of each run: after each first part of it
-pub demand-3 : (readLife writeLife : ℕ) (es fs : List Event) → AllKept (begun readLife writeLife) (es ++ fs) → Consistent (run (begun readLife writeLife) es)
-demand-3 readLife writeLife es fs h = demand-3-whole readLife writeLife es (kept-before (begun readLife writeLife) es fs h)
+pub demand-3 : (readLife writeLife : ℕ) (es fs : List Event) → AllKept (freshWorld readLife writeLife) (es ++ fs) → Consistent (run (freshWorld readLife writeLife) es)
+demand-3 readLife writeLife es fs h = demand-3-whole readLife writeLife es (kept-before (freshWorld readLife writeLife) es fs h)

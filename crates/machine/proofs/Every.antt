@@ -8,11 +8,11 @@ use Prim.Native.Nat.{ℕ, _≤_, _<_}
 use native.Mathlib.Omega.{arith}
 use lib.Dec.{eqb, ltb}
 use lib.ListN.{length, getD, List·getD-eq-default}
-use borrow.Author.Tests.{eqb-true, eqb-false, eq-eqb, ne-eqb, ltb-true, ltb-false}
+use borrow.Author.Tests.{eqb-true, eqb-false, eq-eqb, ne-eqb, ltb-true, ltb-false, not-true}
 use Rattle.lent.specs.Tables.{every}
 use Rattle.lent.proofs.Walks.{every-all, all-every}
+use Rattle.lent.proofs.Choices.{case-of, clash}
 use Rattle.machine.specs.Sound.{newAt, distinct}
-use Rattle.machine.proofs.Views.{caseOf, clash, not-true′}
 
 -- pairs, the lower index first
 module _ (q : ℕ → ℕ → Bool) where
@@ -24,7 +24,7 @@ module _ (q : ℕ → ℕ → Bool) where
 
 -- one of three orders
 pub order : (i j : ℕ) → (i ≡ j) ⊎ ((i < j) ⊎ (j < i))
-order i j = go (caseOf (eqb i j)) (caseOf (ltb i j))
+order i j = go (case-of (eqb i j)) (case-of (ltb i j))
   where
     go : (eqb i j ≡ true) ⊎ (eqb i j ≡ false) → (ltb i j ≡ true) ⊎ (ltb i j ≡ false) → (i ≡ j) ⊎ ((i < j) ⊎ (j < i))
     go (inl e) l = inl (eqb-true i j e)
@@ -35,7 +35,7 @@ order i j = go (caseOf (eqb i j)) (caseOf (ltb i j))
 module _ (f : ℕ → ℕ) where
   new-differs : (i j : ℕ) → newAt f i ≡ true → 1 ≤ f i → j < i → f j ≡ f i → ⊥
   unfolding newAt
-  new-differs i j e h l q = clash (eqb (f j) (f i)) (eq-eqb (f j) (f i) q) (not-true′ _ (every-all (λ j. not (eqb (f j) (f i))) i j (rw (ne-eqb (f i) 0 (λ z. omega arith)) at e) l))
+  new-differs i j e h l q = clash (eqb (f j) (f i)) (eq-eqb (f j) (f i) q) (not-true _ (every-all (λ j. not (eqb (f j) (f i))) i j (rw (ne-eqb (f i) 0 (λ z. omega arith)) at e) l))
 
   pub distinct-same : (n i j : ℕ) → distinct f n ≡ true → i < n → j < n → 1 ≤ f i → f i ≡ f j → i ≡ j
   unfolding distinct
@@ -48,7 +48,7 @@ module _ (f : ℕ → ℕ) where
 
   pub same-distinct : (n : ℕ) → ((i j : ℕ) → 1 ≤ f i → f i ≡ f j → i ≡ j) → distinct f n ≡ true
   unfolding distinct newAt
-  same-distinct n g = all-every (newAt f) n (λ i h. at i (caseOf (eqb (f i) 0)))
+  same-distinct n g = all-every (newAt f) n (λ i h. at i (case-of (eqb (f i) 0)))
     where
       at : (i : ℕ) → (eqb (f i) 0 ≡ true) ⊎ (eqb (f i) 0 ≡ false) → newAt f i ≡ true
       at i (inl e) = rw e
@@ -57,7 +57,7 @@ module _ (f : ℕ → ℕ) where
 -- a place that is not free is inside the table
 module _ {A : Type 0} (l : List A) (d : A) where
   pub place-inside : (i : ℕ) → (getD l i d ≡ d → ⊥) → i < length l
-  place-inside i f = go (caseOf (ltb i (length l)))
+  place-inside i f = go (case-of (ltb i (length l)))
     where
       go : (ltb i (length l) ≡ true) ⊎ (ltb i (length l) ≡ false) → i < length l
       go (inl e) = ltb-true i (length l) e
@@ -65,7 +65,7 @@ module _ {A : Type 0} (l : List A) (d : A) where
 
   -- a test that the free entry passes: at each place below the length, so at every place
   pub every-place : (p : A → Bool) (n : ℕ) → length l ≡ n → p d ≡ true → every (λ i. p (getD l i d)) n ≡ true → (i : ℕ) → p (getD l i d) ≡ true
-  every-place p n e q h i = go (caseOf (ltb i n))
+  every-place p n e q h i = go (case-of (ltb i n))
     where
       go : (ltb i n ≡ true) ⊎ (ltb i n ≡ false) → p (getD l i d) ≡ true
       go (inl x) = every-all (λ i. p (getD l i d)) n i h (ltb-true i n x)

@@ -8,8 +8,8 @@ use Rattle.machine.specs.Expiry.{leave, finish, expire}
 use Rattle.machine.specs.Refusals.{decide, blocked, sight, wouldLease, wouldGrant, refusals, refusal}
 use Rattle.machine.specs.Effects.{begins, wait, leased, missed, looked, fills, asks, operate, changed, stages, effect}
 use Rattle.machine.specs.Step.{settled, step}
-use Rattle.machine.specs.Examples.{told, examples}
+use Rattle.machine.specs.Examples.{answered, examples}
 
-pub examples-hold : map told examples ≡ map (λ e. e .gives) examples
+pub examples-hold : map answered examples ≡ map (λ e. e .gives) examples
 unfolding readCount decision fresh leave finish expire decide blocked sight wouldLease wouldGrant refusals refusal begins wait leased missed looked fills asks operate changed stages effect settled step
 examples-hold = refl

@@ -2,7 +2,7 @@
 -- the sealed; UNDO, ABORTED and LOST end a session that has not written; DONE settles its keys to the register's values by
 -- rule 4); FILL stores the register's value by rule 1; every other effect keeps all values.
 use mathlib.Core.Path.{_≡_, refl, sym, ap, _∙_}
-use mathlib.Core.Bool.{Bool, true, false}
+use mathlib.Core.Bool.{Bool, true, false, and-true}
 use mathlib.Core.Logic.{_⊎_, inl, inr}
 use mathlib.Core.List.{List, [], _∷_, map, List·Memᴰ, List·Memᴰ·eq-of-singleton}
 use mathlib.Core.Option.{Option, none, some}
@@ -11,8 +11,9 @@ use native.Mathlib.Omega.{arith}
 use borrow.Author.Tests.{eq-eqb, ne-eqb}
 use lib.Dec.{eqb, ltb}
 use lib.ListN.{getD, set, List·getD-map}
+use Rattle.lent.proofs.Choices.{case-of, clash, if-ind}
 use Rattle.machine.specs.Tables.{place, mem, putAt, isNone}
-use Rattle.machine.specs.Words.{wordOf}
+use Rattle.machine.specs.Words.{wordOf, LEASE, INVALIDATE}
 use Rattle.machine.specs.Session.{opened, advanced, sealed, isDue}
 use Rattle.machine.specs.Decision.{grants}
 use Rattle.machine.specs.State.{Value, Lease, Key, blank, noSession, session, Staged, nothing, staged, DROP, Row, noRow, row, State, free, freeRow, kindOf, stagedIn, sessionPlace, sessionOf, rowOf, cached, leaseOn, sessionAt, rowAt}
@@ -62,7 +63,7 @@ still-written ns rs wrote k f q = record {
 }
 
 -- the answer that stages grants no lease
-staged-quiet : (u : Staged) → eqb (wordOf (stagedAnswer u)) 6 ≡ false
+pub staged-quiet : (u : Staged) → eqb (wordOf (stagedAnswer u)) LEASE ≡ false
 staged-quiet nothing = refl
 staged-quiet (staged v) = refl
 staged-quiet DROP = refl
@@ -72,7 +73,7 @@ module _ (w : World) (g : Good w) where
   Framed r = Frame w (r .answer) (r .after)
 
   -- nothing changes
-  pub stays : (a : Answer) → eqb (wordOf a) 6 ≡ false → Frame w a (w .state)
+  pub stays : (a : Answer) → eqb (wordOf a) LEASE ≡ false → Frame w a (w .state)
   stays a quiet = record {
     keeps = λ k v p q. p;
     value = λ k v p. inr (p, λ q. q);
@@ -82,7 +83,7 @@ module _ (w : World) (g : Good w) where
   }
 
   -- values and leases change, nothing else: no lease is new, and no value but the register's, on a key with no row
-  keyed : (a : Answer) (ks : List Key) → eqb (wordOf a) 6 ≡ false
+  keyed : (a : Answer) (ks : List Key) → eqb (wordOf a) LEASE ≡ false
       → ((k : ℕ) (v : Value) → getD ks k blank .value ≡ some v → (cached (w .state) k ≡ some v) ⊎ ((v ≡ w .register k) × (RowOn (w .state .rows) k → ⊥)))
       → ((k : ℕ) (l : Lease) → getD ks k blank .lease ≡ some l → leaseOn (w .state) k ≡ some l)
       → Frame w a (withKeys (w .state) ks)
@@ -95,7 +96,7 @@ module _ (w : World) (g : Good w) where
   }
 
   -- sessions end, and no value or lease is new; a value stays only where no writer among them has a row
-  ends : (a : Answer) (ns : List ℕ) (ks : List Key) → eqb (wordOf a) 6 ≡ false
+  ends : (a : Answer) (ns : List ℕ) (ks : List Key) → eqb (wordOf a) LEASE ≡ false
       → ((k : ℕ) (v : Value) → getD ks k blank .value ≡ some v → (cached (w .state) k ≡ some v) × ((i n d : ℕ) (u : Staged) → rowAt (w .state) i ≡ row n k d u → w .wrote n ≡ true → mem n ns ≡ false))
       → ((k : ℕ) (l : Lease) → getD ks k blank .lease ≡ some l → leaseOn (w .state) k ≡ some l)
       → Frame w a (leave ns (withKeys (w .state) ks))
@@ -115,7 +116,7 @@ module _ (w : World) (g : Good w) where
       (λ k v p. (expire-value now (w .state) k v p, λ i n d u r did. spared n did)) (expire-lease now (w .state))
     where
       spared : (n : ℕ) → w .wrote n ≡ true → mem n (those (isDue now) (w .state .sessions)) ≡ false
-      spared n did = elim (Views.caseOf (mem n (those (isDue now) (w .state .sessions)))) [
+      spared n did = elim (case-of (mem n (those (isDue now) (w .state .sessions)))) [
         | inl q ↦ absurd (let r = Views.among-those (isDue now) (w .state .sessions) n q in Views.due-open now (r .1 .life) (r .4) (g .writers n did .1 (r .0) (r .1) (r .2) (r .3)))
         | inr q ↦ q
       ]
@@ -152,24 +153,24 @@ module _ (w : World) (g : Good w) where
           was : (rowAt s (q .holds .place) ≡ row (q .number) k (q .holds .kind) (q .holds .what)) × (mem (q .number) (n ∷ []) ≡ false)
           was = Orderly.was-row (n ∷ []) (s .rows) (q .holds .place) (q .number) k (q .holds .kind) (q .holds .what) (q .holds .is)
 
-          apart : (h .kind ≡ 1) ⊎ (h .place ≡ q .holds .place) → ⊥
+          apart : (h .kind ≡ INVALIDATE) ⊎ (h .place ≡ q .holds .place) → ⊥
           apart (inl e) = g .orderly .plain (h .place) (h .number) k v (had k v h ∙ ap (λ (x : ℕ). row (h .number) k x (staged v)) e)
           apart (inr e) =
               let same : row (h .number) k (h .kind) (h .what) ≡ row (q .number) k (q .holds .kind) (q .holds .what) = sym (h .is) ∙ ap (rowAt s) e ∙ was .0 in
               let who : h .number ≡ q .number = cc in
-              Views.clash (mem (q .number) (n ∷ [])) (rw who at (h .among)) (was .1)
+              clash (mem (q .number) (n ∷ [])) (rw who at (h .among)) (was .1)
 
   -- UNDO, by rule 3, ABORTED and LOST: the session has not written
-  leaves : (a : Answer) (n : ℕ) → eqb (wordOf a) 6 ≡ false → w .wrote n ≡ false → Frame w a (leave (n ∷ []) (w .state))
+  leaves : (a : Answer) (n : ℕ) → eqb (wordOf a) LEASE ≡ false → w .wrote n ≡ false → Frame w a (leave (n ∷ []) (w .state))
   leaves a n quiet never = ends a (n ∷ []) (w .state .keys) quiet (λ k v p. (p, λ i m d u r did. spared m did)) (λ k l p. p)
     where
       spared : (m : ℕ) → w .wrote m ≡ true → mem m (n ∷ []) ≡ false
-      spared m did = elim (Views.caseOf (mem m (n ∷ []))) [ inl q ↦ Views.clash (w .wrote m) did (rw (Views.mem-one m n q) never) | inr q ↦ q ]
+      spared m did = elim (case-of (mem m (n ∷ []))) [ inl q ↦ clash (w .wrote m) did (rw (Views.mem-one m n q) never) | inr q ↦ q ]
 
   -- an open session has not written
   unwrote : (n : ℕ) → free (sessionOf (w .state) n) ≡ false → sealedIn (w .state) n ≡ false → w .wrote n ≡ false
-  unwrote n e f = elim (Views.caseOf (w .wrote n)) [
-    | inl q ↦ (let r = Accepted.session-of (w .state) n e in let life = g .writers n q .1 (sessionPlace (w .state) n) (r .0) (r .1) (r .2) in Views.clash true refl (rw life at (rw (r .1) at f)))
+  unwrote n e f = elim (case-of (w .wrote n)) [
+    | inl q ↦ (let r = Accepted.session-of (w .state) n e in let life = g .writers n q .1 (sessionPlace (w .state) n) (r .0) (r .1) (r .2) in clash true refl (rw life at (rw (r .1) at f)))
     | inr q ↦ q
   ]
 
@@ -268,7 +269,7 @@ module _ (w : World) (g : Good w) where
       stays-row : (i m j d : ℕ) (v : Staged) → rowAt s i ≡ row m j d v → getD (putAt freeRow (row n k kind nothing) (s .rows)) i noRow ≡ row m j d v
       stays-row i m j d v e = elim (Orderly.still-set (s .rows) at (row n k kind nothing) i noRow (row m j d v) (Views.no-row m j d v) e) [
         | inl p ↦ p
-        | inr p ↦ Views.no-row m j d v (sym (Views.free-is (rowAt s at) (Views.free-place freeRow noRow (s .rows) refl)) ∙ ap (rowAt s) (p .0) ∙ e)
+        | inr p ↦ Views.no-row m j d v (sym (Views.free-row-is (rowAt s at) (Views.free-place freeRow noRow (s .rows) refl)) ∙ ap (rowAt s) (p .0) ∙ e)
       ]
 
   -- a session put through f, which keeps its number and its seal, stands where it stood
@@ -314,31 +315,31 @@ module _ (w : World) (g : Good w) where
   gets : (now n k : ℕ) (o : Option Sight) → Framed (looked (w .state) now n k o)
   unfolding looked missed
   gets now n k (some x) = stays (Answer.Hit (x .at) _) refl
-  gets now n k none = Views.if-ind Framed (freeRow (rowOf (w .state) n k))
-      (λ e. Views.if-ind Framed (blocked (w .state) k) (λ b. stays (Answer.Backoff (wait (w .state) k now)) refl) (λ b. leases now k))
+  gets now n k none = if-ind Framed (freeRow (rowOf (w .state) n k))
+      (λ e. if-ind Framed (blocked (w .state) k) (λ b. stays (Answer.Backoff (wait (w .state) k now)) refl) (λ b. leases now k))
       (λ e. stays Answer.Ask refl)
 
   quars : (n k kind : ℕ) → w .wrote n ≡ false → Framed (asks (w .state) n k kind)
   unfolding asks
-  quars n k kind never = Views.if-ind Framed (grants (decide (w .state) k kind)) (λ e. granted n k kind) (λ e. leaves Answer.Aborted n refl never)
+  quars n k kind never = if-ind Framed (grants (decide (w .state) k kind)) (λ e. granted n k kind) (λ e. leaves Answer.Aborted n refl never)
 
   staging : (n i k : ℕ) (u : Staged) → Framed (stages (w .state) n i k u)
   unfolding stages
-  staging n i k u = Views.if-ind Framed (ltb i (countOf (w .state) n)) (λ p. stays Answer.Repeated refl) (λ p. stages-row n k u)
+  staging n i k u = if-ind Framed (ltb i (countOf (w .state) n)) (λ p. stays Answer.Repeated refl) (λ p. stages-row n k u)
 
   pub framed : (now : ℕ) (c : Command) (v : Value) → refusal (w .state) now c v ≡ none → Rules w c v (effect (w .state) now c v .answer) → Framed (effect (w .state) now c v)
   unfolding effect refusals
   framed now Begin v e rule = new-session now
   framed now (Get n k) v e rule = gets now n k (sight (w .state) n k)
-  framed now (Fill t k) v e rule = Views.if-ind (λ (r : Outcome). (r .answer ≡ Answer.Stored → List·Memᴰ v (w .since t k)) → Framed r) (matches t (leaseOn (w .state) k))
+  framed now (Fill t k) v e rule = if-ind (λ (r : Outcome). (r .answer ≡ Answer.Stored → List·Memᴰ v (w .since t k)) → Framed r) (matches t (leaseOn (w .state) k))
       (λ m rule. let r = Accepted.matched t (leaseOn (w .state) k) m in filled t k v (r .0) (r .1) (r .2) rule) (λ m rule. stays Answer.Ignored refl) rule
   framed now (Quar n k kind) v e rule = let no = Accepted.passed (w .state) now (Quar n k kind) v e in
-      Views.if-ind Framed (eqb (kindOf (rowOf (w .state) n k)) kind) (λ m. stays Answer.Held refl) (λ m. quars n k kind (unwrote n (no 2) (no 3)))
+      if-ind Framed (eqb (kindOf (rowOf (w .state) n k)) kind) (λ m. stays Answer.Held refl) (λ m. quars n k kind (unwrote n (no 2) (no 3)))
   framed now (Stage n i k) v e rule = staging n i k (staged v)
   framed now (Delta n i k o) v e rule = staging n i k (changed o v (stagedIn (rowOf (w .state) n k)) (cached (w .state) k))
-  framed now (Validate n m) v e rule = let no = Accepted.passed (w .state) now (Validate n m) v e in Views.if-ind Framed (eqb m (countOf (w .state) n))
-      (λ p. seals n) (λ p. leaves Answer.Lost n refl (unwrote n (no 2) (Views.and-false (sealedIn (w .state) n) (rw p at (no 3)))))
+  framed now (Validate n m) v e rule = let no = Accepted.passed (w .state) now (Validate n m) v e in if-ind Framed (eqb m (countOf (w .state) n))
+      (λ p. seals n) (λ p. leaves Answer.Lost n refl (unwrote n (no 2) (sym (and-true (sealedIn (w .state) n)) ∙ rw p at (no 3))))
   framed now (Done n) v e rule = dones n (rule refl)
   framed now (Undo n) v e rule = leaves Answer.Undone n refl (rule refl)
-  framed now (Evict k) v e rule = Views.if-ind Framed (isNone (cached (w .state) k)) (λ p. stays Answer.Empty refl) (λ p. evicts k)
+  framed now (Evict k) v e rule = if-ind Framed (isNone (cached (w .state) k)) (λ p. stays Answer.Empty refl) (λ p. evicts k)
   framed now Tick v e rule = stays Answer.Ticked refl

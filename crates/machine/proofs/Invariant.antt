@@ -3,7 +3,7 @@
 -- value, since a leased key has no row and so is not written.
 -- Here: the invariant, the frame that a command's effect has to prove, that the frame gives the invariant, START, and a register write.
 use mathlib.Core.Path.{_≡_, refl, sym, ap, _∙_}
-use mathlib.Core.Bool.{Bool, true, false, not, _&&_, _||_}
+use mathlib.Core.Bool.{Bool, true, false, not, _&&_, _||_, or-true}
 use mathlib.Core.Logic.{_⊎_, inl, inr}
 use mathlib.Core.List.{List, List·Memᴰ, _∷_}
 use mathlib.Core.Option.{some}
@@ -13,26 +13,28 @@ use borrow.Author.Tests.{eqb-true, eq-eqb}
 use lib.Dec.{eqb}
 use lib.ListN.{getD}
 use Rattle.lent.specs.Tables.{if_then_else_}
+use Rattle.lent.proofs.Choices.{case-of, clash}
 use Rattle.machine.specs.Sizes.{keyCount}
 use Rattle.machine.specs.Tables.{any}
-use Rattle.machine.specs.State.{Value, Lease, Key, blank, Slot, noSession, session, Row, noRow, State, fresh, free, numbered, on, sessionOf, cached, leaseOn, sessionAt}
+use Rattle.machine.specs.State.{Value, Lease, Key, blank, noSession, session, Row, noRow, State, fresh, numbered, on, sessionOf, cached, leaseOn, sessionAt}
 use Rattle.machine.specs.Refusals.{notLive}
-use Rattle.machine.specs.World.{World, begun, sinceGrant, written, Holds, Sealed}
+use Rattle.machine.specs.World.{World, freshWorld, sinceGrant, written, HasRow, Sealed}
+use Rattle.machine.specs.WellFormed.{Orderly}
 use Rattle.machine.specs.declared.Life.{Life}
 use Rattle.machine.specs.declared.Session.{Session}
 use Rattle.machine.specs.declared.Answer.{Answer}
 use Rattle.machine.proofs.Views
-use Rattle.machine.proofs.Orderly.{Orderly, orderly-fresh}
+use Rattle.machine.proofs.Orderly.{orderly-fresh}
 
 -- a row on the key
 pub record RowOn (rows : List Row) (k : ℕ) : Type 0 where
   pub number : ℕ
-  pub holds : Holds rows number k
+  pub holds : HasRow rows number k
 
 -- a row on it of a session for which the register has written
 pub record Written (rows : List Row) (wrote : ℕ → Bool) (k : ℕ) : Type 0 where
   pub number : ℕ
-  pub holds : Holds rows number k
+  pub holds : HasRow rows number k
   pub did : wrote number ≡ true
 
 pub record Good (w : World) : Type 0 where
@@ -79,33 +81,29 @@ pub no-row-on : (s : State) → Orderly s → (k : ℕ) (l : Lease) → leaseOn 
 no-row-on s h k l e q = h .leases k l e .1 (q .holds .place) (q .number) (q .holds .kind) (q .holds .what) (q .holds .is)
 
 -- START
-pub begun-good : (readLife writeLife : ℕ) → Good (begun readLife writeLife)
+pub fresh-good : (readLife writeLife : ℕ) → Good (freshWorld readLife writeLife)
 unfolding fresh
-begun-good readLife writeLife = record {
+fresh-good readLife writeLife = record {
   orderly = orderly-fresh readLife writeLife;
   current = λ k v e. Views.no-some v (sym (ap (λ (x : Key). x .value) (Views.getD-same keyCount k blank)) ∙ e);
   older = λ k v e q. Views.no-some v (sym (ap (λ (x : Key). x .value) (Views.getD-same keyCount k blank)) ∙ e);
   unwritten = λ k l e u m. Views.no-some l (sym (ap (λ (x : Key). x .lease) (Views.getD-same keyCount k blank)) ∙ e);
-  writers = λ n e. Views.clash false e refl;
+  writers = λ n e. clash false e refl;
 }
 
 -- a session of number n is found by it
 pub found-live : (s : State) (n i : ℕ) (x : Session) → sessionAt s i ≡ session x → x .number ≡ n → notLive s n ≡ false
-found-live s n i x e num = go (sessionOf s n) (Views.find-passes (numbered n) noSession (s .sessions) i refl (rw e (eq-eqb (x .number) n num)))
-  where
-    go : (y : Slot) → numbered n y ≡ true → free y ≡ false
-    go noSession p = Views.clash false p refl
-    go (session m) p = refl
+found-live s n i x e num = Views.numbered-live n (sessionOf s n) (Views.find-passes (numbered n) noSession (s .sessions) i refl (rw e (eq-eqb (x .number) n num)))
 
 -- a register write, by rule 2
-pub written-good : (w : World) → Good w → (n k : ℕ) (v : Value) → Sealed (w .state) n → Holds (w .state .rows) n k → Good (written w n k v)
+pub written-good : (w : World) → Good w → (n k : ℕ) (v : Value) → Sealed (w .state) n → HasRow (w .state .rows) n k → Good (written w n k v)
 unfolding written
 written-good w g n k v live holds = record {
   orderly = g .orderly;
-  current = λ j u p. current j u (Views.caseOf (eqb j k)) (g .current j u p);
+  current = λ j u p. current j u (case-of (eqb j k)) (g .current j u p);
   older = g .older;
-  unwritten = λ j l p u m. unwritten j l p u m (Views.caseOf (eqb j k));
-  writers = λ m e. writers m e (Views.caseOf (eqb m n));
+  unwritten = λ j l p u m. unwritten j l p u m (case-of (eqb j k));
+  writers = λ m e. writers m e (case-of (eqb m n));
 }
   where
     wrote′ : ℕ → Bool
@@ -115,13 +113,13 @@ written-good w g n k v live holds = record {
     did = rw (eq-eqb n n refl, found-live (w .state) n (live .place) (live .live) (live .is) (live .number))
 
     -- the session's row, as one on j
-    held : (j : ℕ) → eqb j k ≡ true → Holds (w .state .rows) n j
+    held : (j : ℕ) → eqb j k ≡ true → HasRow (w .state .rows) n j
     held j e = record { place = holds .place; kind = holds .kind; what = holds .what; is = rw (eqb-true j k e) (holds .is) }
 
     current : (j : ℕ) (u : Value) → (eqb j k ≡ true) ⊎ (eqb j k ≡ false) → (u ≡ w .register j) ⊎ Written (w .state .rows) (w .wrote) j → (u ≡ (if eqb j k then v else w .register j)) ⊎ Written (w .state .rows) wrote′ j
     current j u (inl e) q = inr (record { number = n; did = did; holds = held j e })
     current j u (inr e) (inl q) = inl (rw e q)
-    current j u (inr e) (inr q) = inr (record { number = q .number; holds = q .holds; did = rw (q .did) (Views.or-true (eqb (q .number) n && not (notLive (w .state) n))) })
+    current j u (inr e) (inr q) = inr (record { number = q .number; holds = q .holds; did = rw (q .did) (or-true (eqb (q .number) n && not (notLive (w .state) n))) })
 
     unwritten : (j : ℕ) (l : Lease) → leaseOn (w .state) j ≡ some l → (u : Value) → List·Memᴰ u (if eqb j k then v ∷ w .since (l .token) j else w .since (l .token) j) → (eqb j k ≡ true) ⊎ (eqb j k ≡ false) → u ≡ (if eqb j k then v else w .register j)
     unwritten j l p u m (inl e) = absurd (no-row-on (w .state) (g .orderly) j l p (record { number = n; holds = held j e }))

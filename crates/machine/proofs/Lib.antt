@@ -4,7 +4,6 @@ pub mod Examples
 pub mod Table
 pub mod Refused
 pub mod Every
-pub mod WellFormed
 pub mod SoundMeans
 pub mod Orderly
 pub mod Accepted

@@ -6,30 +6,22 @@ use mathlib.Core.Bool.{true, false}
 use mathlib.Core.Logic.{_⊎_, inl, inr}
 use mathlib.Core.List.{List, map}
 use mathlib.Core.Option.{Option, none, some}
-use Prim.Native.Nat.{ℕ, suc, _+_, _≤_, _<_}
+use Prim.Native.Nat.{ℕ, suc, _+_, _<_}
 use native.Mathlib.Omega.{arith}
 use borrow.Author.Tests.{eqb-true}
 use lib.Dec.{eqb}
 use lib.ListN.{getD, set, List·getD-map}
+use Rattle.lent.proofs.Choices.{and-yes}
 use Rattle.machine.specs.Sizes.{keyCount, sessionCount, rowCount}
 use Rattle.machine.specs.Tables.{place, mem, putAt}
 use Rattle.machine.specs.Session.{opened, advanced, sealed, isDue}
 use Rattle.machine.specs.State.{Value, Lease, Key, blank, Slot, noSession, session, Staged, nothing, staged, Row, noRow, row, State, fresh, free, freeRow, numbered, ofOn, sessionOf, rowOf, leaseOn, sessionAt, rowAt}
 use Rattle.machine.specs.Expiry.{withKeys, withSessions, withRows, withClock, setValue, setLease, freeIfOf, freeSession, settle, leave, finish, lapsedValue, lapsedLease, those, expire}
 use Rattle.machine.specs.Effects.{begins, leased, fills, onSlot, restaged, withSession, withStaged}
+use Rattle.machine.specs.WellFormed.{Orderly, Within}
+use Rattle.machine.specs.Words.{INVALIDATE, INCREMENTAL}
 use Rattle.machine.specs.declared.Session.{Session}
 use Rattle.machine.proofs.Views
-
-pub record Orderly (s : State) : Type 0 where
-  -- a lease's token was given, and no row is on its key
-  pub leases : (k : ℕ) (l : Lease) → leaseOn s k ≡ some l → (l .token < s .head .nextToken) × ((i n d : ℕ) (v : Staged) → rowAt s i ≡ row n k d v → ⊥)
-  -- a session's number was given, and to it alone
-  pub numbers : (i : ℕ) (x : Session) → sessionAt s i ≡ session x → x .number < s .head .nextSession
-  pub unique : (i j : ℕ) (x y : Session) → sessionAt s i ≡ session x → sessionAt s j ≡ session y → x .number ≡ y .number → i ≡ j
-  -- a row's kind; two rows on one key are invalidations, which stage nothing
-  pub kinds : (i n k d : ℕ) (v : Staged) → rowAt s i ≡ row n k d v → (1 ≤ d) × (d ≤ 3)
-  pub alone : (i j n m k d e : ℕ) (u v : Staged) → rowAt s i ≡ row n k d u → rowAt s j ≡ row m k e v → (d ≡ 1) ⊎ (i ≡ j)
-  pub plain : (i n k : ℕ) (v : Value) → rowAt s i ≡ row n k 1 (staged v) → ⊥
 
 -- One place set
 
@@ -87,8 +79,8 @@ was-staged s n k u i m j d v e = go (was-set (s .rows) at (restaged u (rowOf s n
     mine noRow p q a h = Views.no-row m j d v h
     mine (row b c y z) p (inl q) a h = Views.no-row b c y z (sym q)
     mine (row b c y z) p (inr q) a h =
-        let mine-n : b ≡ n = eqb-true b n (Views.and-true₁ (eqb b n) (eqb c k) q) in
-        let mine-k : c ≡ k = eqb-true c k (Views.and-true₂ (eqb b n) (eqb c k) q) in
+        let mine-n : b ≡ n = eqb-true b n (and-yes (eqb b n) (eqb c k) q .0) in
+        let mine-k : c ≡ k = eqb-true c k (and-yes (eqb b n) (eqb c k) q .1) in
         let there : rowAt s i ≡ row b c y z = sym (ap (rowAt s) a) ∙ p in
         (z, cc, inr (cc, cc, cc))
 
@@ -111,19 +103,19 @@ still-staged s n k u i m j d v e = go (still-set (s .rows) at (restaged u (rowOf
 
 module _ (ns : List ℕ) where
   pub was-row : (rs : List Row) (i n k d : ℕ) (v : Staged) → getD (map (freeIfOf ns) rs) i noRow ≡ row n k d v → (getD rs i noRow ≡ row n k d v) × (mem n ns ≡ false)
-  was-row rs i n k d v e = Views.freed ns (getD rs i noRow) n k d v (sym (List·getD-map (freeIfOf ns) rs i noRow) ∙ e)
+  was-row rs i n k d v e = Views.freed-was ns (getD rs i noRow) n k d v (sym (List·getD-map (freeIfOf ns) rs i noRow) ∙ e)
 
   pub still-row : (rs : List Row) (i n k d : ℕ) (v : Staged) → getD rs i noRow ≡ row n k d v → mem n ns ≡ false → getD (map (freeIfOf ns) rs) i noRow ≡ row n k d v
   still-row rs i n k d v e q = List·getD-map (freeIfOf ns) rs i noRow ∙ Views.not-freed ns (getD rs i noRow) n k d v e q
 
   pub was-session : (l : List Slot) (i : ℕ) (x : Session) → getD (map (freeSession ns) l) i noSession ≡ session x → (getD l i noSession ≡ session x) × (mem (x .number) ns ≡ false)
-  was-session l i x e = Views.ended ns (getD l i noSession) x (sym (List·getD-map (freeSession ns) l i noSession) ∙ e)
+  was-session l i x e = Views.ended-was ns (getD l i noSession) x (sym (List·getD-map (freeSession ns) l i noSession) ∙ e)
 
 -- Leases that are left
 
 -- a lease that has not lapsed
 pub lapsed-was : (s : State) (now k : ℕ) (l : Lease) → getD (map (lapsedLease now) (s .keys)) k blank .lease ≡ some l → leaseOn s k ≡ some l
-lapsed-was s now k l e = Views.unlapsed-was now (leaseOn s k) l (sym (ap (λ (x : Key). x .lease) (List·getD-map (lapsedLease now) (s .keys) k blank)) ∙ e)
+lapsed-was s now k l e = Views.unlapsed-was now (leaseOn s k) l (sym (ap (λ (x : Key). x .lease) (List·getD-map (lapsedLease now) (s .keys) k blank)) ∙ e) .0
 
 -- a lease, once key k is filled
 pub filled-was : (s : State) (k : ℕ) (v : Value) (j : ℕ) (l : Lease) → getD (set (s .keys) k (record { value = some v; lease = none })) j blank .lease ≡ some l → leaseOn s j ≡ some l
@@ -171,7 +163,7 @@ orderly-sessions s l f h = record {
 
 -- each row stood at its place with its session, key and kind, and an invalidation with what it stages
 pub orderly-rows : (s : State) (rs : List Row)
-    → ((i n k d : ℕ) (v : Staged) → getD rs i noRow ≡ row n k d v → (u : Staged) × (rowAt s i ≡ row n k d u) × (d ≡ 1 → v ≡ u))
+    → ((i n k d : ℕ) (v : Staged) → getD rs i noRow ≡ row n k d v → (u : Staged) × (rowAt s i ≡ row n k d u) × (d ≡ INVALIDATE → v ≡ u))
     → Orderly s → Orderly (withRows s rs)
 orderly-rows s rs f h = record {
   leases = λ k l e. (h .leases k l e .0, λ i n d v p. let r = f i n k d v p in h .leases k l e .1 i n d (r .0) (r .1));
@@ -222,13 +214,13 @@ pub orderly-seal : (s : State) (n : ℕ) → Orderly s → Orderly (withSession 
 orderly-seal s n h = orderly-session s n sealed (λ x. refl) h
 
 -- STAGE and DELTA, in a row that is no invalidation
-pub orderly-staged : (s : State) (n k i d : ℕ) (u v : Staged) → rowAt s i ≡ row n k d v → (d ≡ 1 → ⊥) → Orderly s → Orderly (withStaged (withSession s n advanced) n k u)
+pub orderly-staged : (s : State) (n k i d : ℕ) (u v : Staged) → rowAt s i ≡ row n k d v → (d ≡ INVALIDATE → ⊥) → Orderly s → Orderly (withStaged (withSession s n advanced) n k u)
 orderly-staged s n k i d u v mine apart h = orderly-rows s₁ (withStaged s₁ n k u .rows) (λ j m l c y e. let r = was-staged s₁ n k u j m l c y e in (r .0, r .1, λ one. plain j m l c y (r .0) (r .1) one (r .2))) (orderly-session s n advanced (λ x. refl) h)
   where
     s₁ : State
     s₁ = withSession s n advanced
 
-    plain : (j m l c : ℕ) (y y′ : Staged) → rowAt s j ≡ row m l c y′ → c ≡ 1 → (y ≡ y′) ⊎ ((m ≡ n) × (l ≡ k) × (y ≡ u)) → y ≡ y′
+    plain : (j m l c : ℕ) (y y′ : Staged) → rowAt s j ≡ row m l c y′ → c ≡ INVALIDATE → (y ≡ y′) ⊎ ((m ≡ n) × (l ≡ k) × (y ≡ u)) → y ≡ y′
     plain j m l c y y′ e one (inl f) = f
     plain j m l c y y′ e one (inr f) = absurd (elim (h .alone i j n m k d c v y′ mine (e ∙ ap (λ (z : ℕ). row m z c y′) (f .1))) [
       | inl q ↦ apart q
@@ -293,7 +285,7 @@ orderly-leased s now k bare h = record {
     ]
 
 -- QUAR granted: who else has a row on the key invalidates, as the asker does, and the key's lease is voided
-pub orderly-granted : (s : State) (n k kind : ℕ) → (1 ≤ kind) × (kind ≤ 3) → ((i m d : ℕ) (v : Staged) → rowAt s i ≡ row m k d v → (kind ≡ 1) × (d ≡ 1)) → Orderly s
+pub orderly-granted : (s : State) (n k kind : ℕ) → Within INVALIDATE INCREMENTAL kind → ((i m d : ℕ) (v : Staged) → rowAt s i ≡ row m k d v → (kind ≡ INVALIDATE) × (d ≡ INVALIDATE)) → Orderly s
     → Orderly (withKeys (withRows s (putAt freeRow (row n k kind nothing) (s .rows))) (setLease (s .keys) k none))
 orderly-granted s n k kind range sharing h = record {
   leases = λ j l e.
@@ -316,7 +308,7 @@ orderly-granted s n k kind range sharing h = record {
     seen : (i m j d : ℕ) (v : Staged) → getD (putAt freeRow (row n k kind nothing) (s .rows)) i noRow ≡ row m j d v → Seen i m j d v
     seen i m j d v e = elim (was-set (s .rows) at (row n k kind nothing) i noRow (row m j d v) (Views.no-row m j d v) e) [ inl p ↦ inl p | inr p ↦ (let q = p .1 in inr (p .0, cc, cc, cc)) ]
 
-    two : (i i′ m m′ j d c : ℕ) (u v : Staged) → Seen i m j d u → Seen i′ m′ j c v → (d ≡ 1) ⊎ (i ≡ i′)
+    two : (i i′ m m′ j d c : ℕ) (u v : Staged) → Seen i m j d u → Seen i′ m′ j c v → (d ≡ INVALIDATE) ⊎ (i ≡ i′)
     two i i′ m m′ j d c u v (inl x) (inl y) = h .alone i i′ m m′ j d c u v x y
     two i i′ m m′ j d c u v (inl x) (inr y) = inl (sharing i m d u (rw (y .1) at x) .1)
     two i i′ m m′ j d c u v (inr x) (inl y) = inl (x .2 ∙ sharing i′ m′ c v (rw (x .1) at y) .0)
@@ -331,5 +323,5 @@ orderly-fresh readLife writeLife = record {
   unique = λ i j x y e f q. Views.no-session x (sym (Views.getD-same sessionCount i noSession) ∙ e);
   kinds = λ i n k d v e. Views.no-row n k d v (sym (Views.getD-same rowCount i noRow) ∙ e);
   alone = λ i j n m k d c u v e f. Views.no-row n k d u (sym (Views.getD-same rowCount i noRow) ∙ e);
-  plain = λ i n k v e. Views.no-row n k 1 (staged v) (sym (Views.getD-same rowCount i noRow) ∙ e);
+  plain = λ i n k v e. Views.no-row n k INVALIDATE (staged v) (sym (Views.getD-same rowCount i noRow) ∙ e);
 }

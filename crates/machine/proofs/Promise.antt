@@ -7,6 +7,7 @@ use mathlib.Core.List.{List, [], _∷_}
 use mathlib.Core.Option.{Option, none, some}
 use Prim.Native.Nat.{ℕ}
 use Rattle.lent.specs.Tables.{if_then_else_}
+use Rattle.lent.proofs.Choices.{clash}
 use Rattle.machine.specs.State.{Value, State, cached}
 use Rattle.machine.specs.Expiry.{withClock, expire}
 use Rattle.machine.specs.Refusals.{refusal}
@@ -15,7 +16,6 @@ use Rattle.machine.specs.Step.{settled, step}
 use Rattle.machine.specs.World.{Event, command, write, World, quarantined, commanded, next, run, Rules, expired, Kept, AllKept}
 use Rattle.machine.specs.declared.Answer.{Answer}
 use Rattle.machine.specs.declared.Command.{Command}
-use Rattle.machine.proofs.Views.{clash}
 use Rattle.machine.proofs.Orderly.{orderly-expire, orderly-clock}
 use Rattle.machine.proofs.Shape.{orderly-effect}
 use Rattle.machine.proofs.Invariant.{RowOn, Good, Frame, reframed, quarantined-by, quarantining, written-good}

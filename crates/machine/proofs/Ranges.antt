@@ -1,4 +1,4 @@
--- A range's test, from where the number lies.
+-- The test of a range by where the number lies: within it, below it, where the lower bound fails, or above it, where the upper one does.
 use mathlib.Core.Path.{_≡_}
 use mathlib.Core.Bool.{true, false}
 use Prim.Native.Nat.{ℕ, _≤_, _<_}

@@ -1,41 +1,35 @@
 -- Refusals: a refused command keeps nothing, a number is given exactly when its test is the first that holds, and the numbers
 -- stand in the order of the document's table. An accepted command is answered with one of its own words, so no effect looks like a refusal.
-use mathlib.Core.Path.{_≡_, refl, sym, ap, _∙_}
-use mathlib.Core.Bool.{Bool, true, false, not, _&&_, _||_}
+use mathlib.Core.Path.{_≡_, refl, ap, _∙_}
+use mathlib.Core.Bool.{Bool, true, false}
 use mathlib.Core.Logic.{_⊎_, inl, inr}
 use mathlib.Core.List.{List, [], _∷_, map}
 use mathlib.Core.Option.{Option, none, some}
-use Prim.Native.Nat.{ℕ, zero, suc, _+_, _<_}
+use Prim.Native.Nat.{ℕ, zero, suc, _<_}
 use native.Mathlib.Omega.{arith}
 use lib.Dec.{eqb, ltb}
 use lib.ListN.{getD}
 use borrow.Author.Tests.{eqb-true}
-use Rattle.lent.specs.Tables.{if_then_else_}
+use Rattle.lent.proofs.Choices.{case-of, clash, if-ind}
 use Rattle.machine.specs.Tables.{mem, first, isNone}
 use Rattle.machine.specs.Words.{wordOf, wordsOf}
 use Rattle.machine.specs.Decision.{grants}
-use Rattle.machine.specs.State.{Value, Staged, nothing, staged, DROP, State, freeRow, kindOf, stagedIn, rowOf, cached, leaseOn, fresh}
+use Rattle.machine.specs.State.{Value, Staged, nothing, staged, DROP, State, freeRow, kindOf, stagedIn, rowOf, cached, leaseOn}
 use Rattle.machine.specs.Expiry.{expire}
-use Rattle.machine.specs.Refusals.{decide, blocked, Sight, sight, countOf, clockRefusal, refusals, refusal, startRefusals, showRefusals}
+use Rattle.machine.specs.Refusals.{decide, blocked, Sight, sight, countOf, refusals, refusal, startRefusals, showRefusals}
 use Rattle.machine.specs.Effects.{Outcome, begins, leased, missed, looked, matches, fills, asks, stagedAnswer, changed, stages, effect}
 use Rattle.machine.specs.Step.{settled, step, started, start, showing, show}
+use Rattle.machine.specs.Statements.{First, tests, ascend}
 use Rattle.machine.specs.declared.Answer.{Answer}
 use Rattle.machine.specs.declared.Command.{Command}
 use Rattle.machine.specs.declared.Command.the-variants.{Begin, Get, Fill, Quar, Stage, Delta, Validate, Done, Undo, Evict, Tick}
-use Rattle.machine.proofs.Views.{caseOf, clash, if-ind, some-eq}
+use Rattle.machine.proofs.Views.{some-eq}
 
 -- The first test that holds
 
--- e is the number of the test at some place, which holds, and no test before it does
-pub record First (l : List (Bool × ℕ)) (e : ℕ) : Type 0 where
-  pub place : ℕ
-  pub holds : getD l place (false, 0) .0 ≡ true
-  pub number : getD l place (false, 0) .1 ≡ e
-  pub before : (j : ℕ) → j < place → getD l j (false, 0) .0 ≡ false
-
 pub first-is : (l : List (Bool × ℕ)) (e : ℕ) → first l ≡ some e → First l e
 first-is [] e p = absurd (let z : _≡_ {A = ℕ} 0 1 = cc in omega arith)
-first-is (x ∷ l) e p = go (caseOf (x .0)) (first-is l e)
+first-is (x ∷ l) e p = go (case-of (x .0)) (first-is l e)
   where
     up : (j : ℕ) (f : First l e) → x .0 ≡ false → j < suc (f .place) → getD (x ∷ l) j (false, 0) .0 ≡ false
     up zero f q h = q
@@ -64,7 +58,7 @@ module _ (s : State) (now : ℕ) (v : Value) where
   get-worded n k (some x) = refl
   get-worded n k none = if-ind (Worded (Get n k)) (freeRow (rowOf s n k)) (λ p. if-ind (Worded (Get n k)) (blocked s k) (λ q. refl) (λ q. refl)) (λ p. refl)
 
-  delta-word : (c : Command) (u : Staged) → mem 12 (wordsOf c) ≡ true → mem 14 (wordsOf c) ≡ true → mem (wordOf (stagedAnswer u)) (wordsOf c) ≡ true
+  delta-word : (c : Command) (u : Staged) → mem (wordOf Answer.Staged) (wordsOf c) ≡ true → mem (wordOf Answer.Dropped) (wordsOf c) ≡ true → mem (wordOf (stagedAnswer u)) (wordsOf c) ≡ true
   delta-word c nothing a b = b
   delta-word c (staged w) a b = a
   delta-word c DROP a b = b
@@ -100,7 +94,7 @@ no-refusal-word Tick = refl
 -- so an effect is never answered with one
 pub effect-accepts : (s : State) (now : ℕ) (c : Command) (v : Value) → eqb (wordOf (effect s now c v .answer)) 0 ≡ false
 unfolding Worded
-effect-accepts s now c v = go (caseOf (eqb (wordOf (effect s now c v .answer)) 0))
+effect-accepts s now c v = go (case-of (eqb (wordOf (effect s now c v .answer)) 0))
   where
     go : (eqb (wordOf (effect s now c v .answer)) 0 ≡ true) ⊎ (eqb (wordOf (effect s now c v .answer)) 0 ≡ false) → eqb (wordOf (effect s now c v .answer)) 0 ≡ false
     go (inr q) = q
@@ -110,10 +104,6 @@ not-refused : (s : State) (now : ℕ) (c : Command) (v : Value) (e : ℕ) → ef
 not-refused s now c v e p = clash (eqb (wordOf (effect s now c v .answer)) 0) (rw p refl) (effect-accepts s now c v)
 
 -- The theorems
-
--- the tests of a command, on the state after expiry, in order
-abbrev pub tests : State → ℕ → Command → Value → List (Bool × ℕ)
-tests s now c v = clockRefusal (expire now s) now ∷ refusals (expire now s) c v
 
 module _ (s : State) (now : ℕ) (c : Command) (v : Value) where
   -- a refusal, by its number
@@ -141,10 +131,6 @@ module _ (s : State) (now : ℕ) (c : Command) (v : Value) where
   accepted-word p = rw p (effect-worded (expire now s) now v c)
 
 -- The order of the table: each command's numbers ascend
-
-abbrev pub ascend : ℕ → List ℕ → Bool
-ascend n [] = true
-ascend n (m ∷ l) = ltb n m && ascend m l
 
 pub in-order : (s : State) (now : ℕ) (c : Command) (v : Value) → ascend 1 (map (λ x. x .1) (tests s now c v)) ≡ true
 unfolding refusals

@@ -1,30 +1,20 @@
--- What a sound state promises, by name: sizes and bounds of each field, so that code which finds an entry knows its numbers' ranges.
+-- What a sound state promises, by name: bounds of each field, so that code which finds an entry knows its numbers' ranges.
 -- Each law is a field of the record that `sound-means` gives; a place that is not free lies inside its table.
-use mathlib.Core.Path.{_≡_, refl}
+use mathlib.Core.Path.{_≡_}
 use mathlib.Core.Bool.{true}
-use mathlib.Core.Option.{Option, none, some}
+use mathlib.Core.Option.{some}
 use Prim.Native.Nat.{ℕ, _+_, _≤_, _<_}
 use native.Mathlib.Omega.{arith}
-use lib.ListN.{length}
-use Rattle.machine.specs.Sizes.{keyCount, sessionCount, rowCount, stepMax, lifeMax, timeMax, numberMax}
+use Rattle.machine.specs.Sizes.{sessionCount, rowCount, stepMax, lifeMax, timeMax, numberMax}
 use Rattle.machine.specs.State.{Value, Lease, session, Staged, row, State, sessionAt, rowAt, cached, leaseOn}
 use Rattle.machine.specs.Sound.{sound}
+use Rattle.machine.specs.WellFormed.{Fine, Within, StagedFits, LiveAs}
+use Rattle.machine.specs.Words.{INVALIDATE, INCREMENTAL}
 use Rattle.machine.specs.declared.Life.{Life}
 use Rattle.machine.specs.declared.Session.{Session}
-use Rattle.machine.proofs.WellFormed.{Fine, Within, StagedFits, LiveAs}
-use Rattle.machine.proofs.SoundMeans.{session-inside, row-inside, sound-means}
+use Rattle.machine.proofs.SoundMeans.{session-inside, row-inside, sessions-length, rows-length, sound-means}
 
 module _ (s : State) (e : sound s ≡ true) where
-  -- 256 keys, 128 sessions, 384 Q rows
-  pub keys-length : length (s .keys) ≡ keyCount
-  keys-length = sound-means s e .keys .length
-
-  pub sessions-length : length (s .sessions) ≡ sessionCount
-  sessions-length = sound-means s e .sessions .length
-
-  pub rows-length : length (s .rows) ≡ rowCount
-  rows-length = sound-means s e .rows .length
-
   -- the head
   pub clock-bound : s .head .clock ≤ timeMax
   clock-bound = sound-means s e .head .time
@@ -51,12 +41,9 @@ module _ (s : State) (e : sound s ≡ true) where
   pub lease-until : (k : ℕ) {l : Lease} → leaseOn s k ≡ some l → l .until ≤ s .head .clock + s .head .readLife
   lease-until k p = sound-means s e .keys .leases k p .deadline
 
-  pub tokens-distinct : (k j : ℕ) {l m : Lease} → leaseOn s k ≡ some l → leaseOn s j ≡ some m → l .token ≡ m .token → k ≡ j
-  tokens-distinct k j p q t = sound-means s e .keys .distinct k j p q t
-
   -- a session
   pub session-place : (i : ℕ) {x : Session} → sessionAt s i ≡ session x → i < sessionCount
-  session-place i {x} p = session-inside s i x sessions-length p
+  session-place i {x} p = session-inside s i x (sessions-length s e) p
 
   pub session-number : (i : ℕ) {x : Session} → sessionAt s i ≡ session x → (1 ≤ x .number) × (x .number < s .head .nextSession)
   session-number i {x} p = (sound-means s e .sessions .each i p .positive, sound-means s e .orderly .numbers i x p)
@@ -67,12 +54,12 @@ module _ (s : State) (e : sound s ≡ true) where
   pub session-until : (i : ℕ) {x : Session} {t : ℕ} → sessionAt s i ≡ session x → x .life ≡ Life.Open t → t ≤ s .head .clock + s .head .writeLife
   session-until i {t} p q = sound-means s e .sessions .each i p .deadline t q
 
-  pub numbers-distinct : (i j : ℕ) {x y : Session} → sessionAt s i ≡ session x → sessionAt s j ≡ session y → x .number ≡ y .number → i ≡ j
-  numbers-distinct i j {x} {y} p q t = sound-means s e .orderly .unique i j x y p q t
+  pub numbers-distinct : (i j : ℕ) (x y : Session) → sessionAt s i ≡ session x → sessionAt s j ≡ session y → x .number ≡ y .number → i ≡ j
+  numbers-distinct = sound-means s e .orderly .unique
 
   -- a Q row
   pub row-place : (i : ℕ) {n k d : ℕ} {u : Staged} → rowAt s i ≡ row n k d u → i < rowCount
-  row-place i {n} {k} {d} {u} p = row-inside s i n k d u rows-length p
+  row-place i {n} {k} {d} {u} p = row-inside s i n k d u (rows-length s e) p
 
   pub row-live : (i : ℕ) {n k d : ℕ} {u : Staged} → rowAt s i ≡ row n k d u → LiveAs (s .sessions) n
   row-live i p = sound-means s e .live i p
@@ -80,22 +67,8 @@ module _ (s : State) (e : sound s ≡ true) where
   pub row-number : (i : ℕ) {n k d : ℕ} {u : Staged} → rowAt s i ≡ row n k d u → (1 ≤ n) × (n < s .head .nextSession)
   row-number i p = let x = row-live i p in let y = session-number (x .place) (x .is) in let z = x .number in (omega (arith, y .0), omega (arith, y .1))
 
-  pub row-key : (i : ℕ) {n k d : ℕ} {u : Staged} → rowAt s i ≡ row n k d u → k < keyCount
-  row-key i p = sound-means s e .rows .each i p .key
-
-  pub row-kind : (i : ℕ) {n k d : ℕ} {u : Staged} → rowAt s i ≡ row n k d u → Within 1 3 d
+  pub row-kind : (i : ℕ) {n k d : ℕ} {u : Staged} → rowAt s i ≡ row n k d u → Within INVALIDATE INCREMENTAL d
   row-kind i {n} {k} {d} {u} p = sound-means s e .orderly .kinds i n k d u p
 
   pub row-staged : (i : ℕ) {n k d : ℕ} {u : Staged} → rowAt s i ≡ row n k d u → StagedFits d u
   row-staged i p = sound-means s e .rows .each i p .what
-
-  pub row-once : (i j : ℕ) {n k d c : ℕ} {u v : Staged} → rowAt s i ≡ row n k d u → rowAt s j ≡ row n k c v → i ≡ j
-  row-once i j p q = sound-means s e .rows .once i j p q
-
-  -- a key with a Q row has no I lease
-  pub row-leaseless : (i : ℕ) {n k d : ℕ} {u : Staged} → rowAt s i ≡ row n k d u → leaseOn s k ≡ none
-  row-leaseless i {n} {k} {d} {u} p = go (leaseOn s k) refl
-    where
-      go : (o : Option Lease) → leaseOn s k ≡ o → o ≡ none
-      go none q = refl
-      go (some l) q = absurd (sound-means s e .orderly .leases k l q .1 i n d u p)

@@ -11,19 +11,19 @@ use lib.Dec.{eqb, leb, ltb}
 use lib.ListN.{length, getD}
 use borrow.Author.Tests.{eqb-true, eq-eqb, leb-true, le-leb, ltb-true, lt-ltb}
 use Rattle.lent.specs.Tables.{if_then_else_, every, some as someAt}
-use Rattle.lent.proofs.Choices.{and-yes}
+use Rattle.lent.proofs.Choices.{and-yes, case-of, clash}
 use Rattle.lent.proofs.Walks.{all-every, some-at, some-is}
 use Rattle.machine.specs.Sizes.{keyCount, sessionCount, rowCount, valueMax, stepMax, lifeMax, timeMax, numberMax}
-use Rattle.machine.specs.Words.{within, isKind}
+use Rattle.machine.specs.Words.{within, isKind, INVALIDATE, REFRESH, INCREMENTAL}
 use Rattle.machine.specs.State.{Value, Head, Lease, Key, blank, Slot, noSession, session, Staged, nothing, staged, DROP, Row, noRow, row, State, keyOf, sessionAt, rowAt, leaseOn}
 use Rattle.machine.specs.Sound.{clockSound, lifetime, nextSound, headSound, valueSound, cachedSound, given, leaseSound, keySound, lifeSound, sessionSound, stagedSound, rowSound}
 use Rattle.machine.specs.Sound.{tokenIn, numberIn, numberAt, tokenAt, distinct, numbersDistinct, tokensDistinct, liveRow, rowsLive, once, rowsOnce, shares, rowsAlone, leaseless, rowsLeaseless, joined, sized, sound}
+use Rattle.machine.specs.WellFormed.{Fine, Within, LeaseFits, SessionFits, StagedFits, RowFits, LiveAs, WellFormed}
 use Rattle.machine.specs.declared.Life.{Life}
 use Rattle.machine.specs.declared.Session.{Session}
-use Rattle.machine.proofs.Views.{caseOf, clash, no-some, no-row, no-session}
+use Rattle.machine.proofs.Views.{no-some, no-row, no-session}
 use Rattle.machine.proofs.Ranges.{within-inside}
 use Rattle.machine.proofs.Every.{pairs-all, all-pairs, distinct-same, same-distinct, place-inside, every-place, order}
-use Rattle.machine.proofs.WellFormed.{Fine, Within, LeaseFits, SessionFits, StagedFits, RowFits, LiveAs, WellFormed}
 
 both : {a b : Bool} → a ≡ true → b ≡ true → (a && b) ≡ true
 both p q = rw (p, q)
@@ -70,27 +70,27 @@ means-cached (some v) f = means-value v (f v refl)
 
 staged-means : (d : ℕ) (u : Staged) → stagedSound d u ≡ true → StagedFits d u
 staged-means d nothing e = tt
-staged-means d (staged v) e = let r = and-yes (leb 2 d) (valueSound v) e in (leb-true 2 d (r .0), value-means v (r .1))
-staged-means d DROP e = eqb-true d 3 e
+staged-means d (staged v) e = let r = and-yes (leb REFRESH d) (valueSound v) e in (leb-true REFRESH d (r .0), value-means v (r .1))
+staged-means d DROP e = eqb-true d INCREMENTAL e
 
 means-staged : (d : ℕ) (u : Staged) → StagedFits d u → stagedSound d u ≡ true
 means-staged d nothing f = refl
-means-staged d (staged v) f = both (le-leb 2 d (f .0)) (means-value v (f .1))
-means-staged d DROP f = eq-eqb d 3 f
+means-staged d (staged v) f = both (le-leb REFRESH d (f .0)) (means-value v (f .1))
+means-staged d DROP f = eq-eqb d INCREMENTAL f
 
-row-means : (n k d : ℕ) (u : Staged) → rowSound (row n k d u) ≡ true → (1 ≤ n) × Within 1 3 d × RowFits k d u
+row-means : (n k d : ℕ) (u : Staged) → rowSound (row n k d u) ≡ true → (1 ≤ n) × Within INVALIDATE INCREMENTAL d × RowFits k d u
 unfolding rowSound
 row-means n k d u e =
     let a = and-yes (leb 1 n) (ltb k keyCount && (isKind d && stagedSound d u)) e in
     let b = and-yes (ltb k keyCount) (isKind d && stagedSound d u) (a .1) in
     let c = and-yes (isKind d) (stagedSound d u) (b .1) in
-    (leb-true 1 n (a .0), within-means 1 3 d (c .0), record { key = ltb-true k keyCount (b .0); what = staged-means d u (c .1) })
+    (leb-true 1 n (a .0), within-means INVALIDATE INCREMENTAL d (c .0), record { key = ltb-true k keyCount (b .0); what = staged-means d u (c .1) })
 
-means-row : (r : Row) → ((n k d : ℕ) (u : Staged) → r ≡ row n k d u → (1 ≤ n) × Within 1 3 d × RowFits k d u) → rowSound r ≡ true
+means-row : (r : Row) → ((n k d : ℕ) (u : Staged) → r ≡ row n k d u → (1 ≤ n) × Within INVALIDATE INCREMENTAL d × RowFits k d u) → rowSound r ≡ true
 unfolding rowSound
 means-row noRow f = refl
 means-row (row n k d u) f = let g = f n k d u refl in
-    both (le-leb 1 n (g .0)) (both (lt-ltb k keyCount (g .2 .key)) (both (means-within 1 3 d (g .1)) (means-staged d u (g .2 .what))))
+    both (le-leb 1 n (g .0)) (both (lt-ltb k keyCount (g .2 .key)) (both (means-within INVALIDATE INCREMENTAL d (g .1)) (means-staged d u (g .2 .what))))
 
 module _ (h : Head) where
   LeaseOf : Lease → Type 0
@@ -137,23 +137,23 @@ once-means r t {n} {k} h p q = clash false (rw (p, q, eq-eqb n n refl, eq-eqb k 
 means-once : (r t : Row) → ((n k d e : ℕ) (u v : Staged) → r ≡ row n k d u → t ≡ row n k e v → ⊥) → once r t ≡ true
 means-once noRow t f = refl
 means-once (row m j d u) noRow f = refl
-means-once (row m j d u) (row n k e v) f = go (caseOf (eqb m n && eqb j k))
+means-once (row m j d u) (row n k e v) f = go (case-of (eqb m n && eqb j k))
   where
     go : ((eqb m n && eqb j k) ≡ true) ⊎ ((eqb m n && eqb j k) ≡ false) → not (eqb m n && eqb j k) ≡ true
     go (inl h) = let r = and-yes (eqb m n) (eqb j k) h in
         let p : row n k e v ≡ row m j e v = rw (eqb-true m n (r .0), eqb-true j k (r .1)) in absurd (f m j d e u v refl p)
     go (inr h) = rw h
 
-shares-means : (r t : Row) {m n k d e : ℕ} {u v : Staged} → shares r t ≡ true → r ≡ row m k d u → t ≡ row n k e v → (d ≡ 1) × (e ≡ 1)
-shares-means r t {k} {d} {e} h p q = let x = and-yes (eqb d 1) (eqb e 1) (rw (p, q, eq-eqb k k refl) at h) in (eqb-true d 1 (x .0), eqb-true e 1 (x .1))
+shares-means : (r t : Row) {m n k d e : ℕ} {u v : Staged} → shares r t ≡ true → r ≡ row m k d u → t ≡ row n k e v → (d ≡ INVALIDATE) × (e ≡ INVALIDATE)
+shares-means r t {k} {d} {e} h p q = let x = and-yes (eqb d INVALIDATE) (eqb e INVALIDATE) (rw (p, q, eq-eqb k k refl) at h) in (eqb-true d INVALIDATE (x .0), eqb-true e INVALIDATE (x .1))
 
-means-shares : (r t : Row) → ((m n k d e : ℕ) (u v : Staged) → r ≡ row m k d u → t ≡ row n k e v → (d ≡ 1) × (e ≡ 1)) → shares r t ≡ true
+means-shares : (r t : Row) → ((m n k d e : ℕ) (u v : Staged) → r ≡ row m k d u → t ≡ row n k e v → (d ≡ INVALIDATE) × (e ≡ INVALIDATE)) → shares r t ≡ true
 means-shares noRow t f = refl
 means-shares (row m j d u) noRow f = refl
-means-shares (row m j d u) (row n k e v) f = go (caseOf (eqb j k))
+means-shares (row m j d u) (row n k e v) f = go (case-of (eqb j k))
   where
-    go : (eqb j k ≡ true) ⊎ (eqb j k ≡ false) → (if eqb j k then eqb d 1 && eqb e 1 else true) ≡ true
-    go (inl h) = let p : row n k e v ≡ row n j e v = rw (eqb-true j k h) in let x = f m n j d e u v refl p in rw h (both (eq-eqb d 1 (x .0)) (eq-eqb e 1 (x .1)))
+    go : (eqb j k ≡ true) ⊎ (eqb j k ≡ false) → (if eqb j k then eqb d INVALIDATE && eqb e INVALIDATE else true) ≡ true
+    go (inl h) = let p : row n k e v ≡ row n j e v = rw (eqb-true j k h) in let x = f m n j d e u v refl p in rw h (both (eq-eqb d INVALIDATE (x .0)) (eq-eqb e INVALIDATE (x .1)))
     go (inr h) = rw h
 
 -- What stands in the tables
@@ -204,13 +204,14 @@ module _ (s : State) (e : sound s ≡ true) where
   unfolding joined
   joins = parts (numbersDistinct s ∷ tokensDistinct s ∷ rowsLive s ∷ rowsOnce s ∷ rowsAlone s ∷ rowsLeaseless s ∷ []) (sound-parts 5)
 
-  keys-length : length (s .keys) ≡ keyCount
+  -- 256 keys, 128 sessions, 384 Q rows
+  pub keys-length : length (s .keys) ≡ keyCount
   keys-length = eqb-true (length (s .keys)) keyCount (sizes 0)
 
-  sessions-length : length (s .sessions) ≡ sessionCount
+  pub sessions-length : length (s .sessions) ≡ sessionCount
   sessions-length = eqb-true (length (s .sessions)) sessionCount (sizes 1)
 
-  rows-length : length (s .rows) ≡ rowCount
+  pub rows-length : length (s .rows) ≡ rowCount
   rows-length = eqb-true (length (s .rows)) rowCount (sizes 2)
 
   key-at : (k : ℕ) → (cachedSound (keyOf s k .value) ≡ true) × (leaseSound (s .head) (leaseOn s k) ≡ true)
@@ -224,7 +225,7 @@ module _ (s : State) (e : sound s ≡ true) where
   unfolding sessionSound
   session-at i x p = session-means (s .head) x (rw p at (every-place (s .sessions) noSession (sessionSound (s .head)) sessionCount sessions-length refl (sound-parts 4) i))
 
-  row-at : (i n k d : ℕ) (u : Staged) → rowAt s i ≡ row n k d u → (1 ≤ n) × Within 1 3 d × RowFits k d u
+  row-at : (i n k d : ℕ) (u : Staged) → rowAt s i ≡ row n k d u → (1 ≤ n) × Within INVALIDATE INCREMENTAL d × RowFits k d u
   unfolding rowSound
   row-at i n k d u p = row-means n k d u (rw p at (every-place (s .rows) noRow rowSound rowCount rows-length refl (sound-parts 3) i))
 
@@ -315,7 +316,7 @@ module _ (s : State) (h : WellFormed s (s .head .clock)) where
       go none q = refl
       go (some l) q = absurd (h .orderly .leases k l q .1 i n d u p)
 
-  both-one : (i j m n k d e : ℕ) (u v : Staged) → j < i → rowAt s j ≡ row m k d u → rowAt s i ≡ row n k e v → (d ≡ 1) × (e ≡ 1)
+  both-one : (i j m n k d e : ℕ) (u v : Staged) → j < i → rowAt s j ≡ row m k d u → rowAt s i ≡ row n k e v → (d ≡ INVALIDATE) × (e ≡ INVALIDATE)
   both-one i j m n k d e u v l p q = (elim (h .orderly .alone j i m n k d e u v p q) [ inl z ↦ z | inr z ↦ absurd (omega arith) ], elim (h .orderly .alone i j n m k e d v u q p) [ inl z ↦ z | inr z ↦ absurd (omega arith) ])
 
   joined-sound : joined s ≡ true

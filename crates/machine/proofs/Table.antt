@@ -1,29 +1,19 @@
 -- The decision table, once over all of it: the twenty entries are those of a rule in words (`verdictBy`), which is computed
 -- over the whole table, and what the rule says of sharing, of the I lease on a quarantined key, and of voiding follows from it.
-use mathlib.Core.Path.{_≡_, refl, sym, ap, _∙_}
-use mathlib.Core.Bool.{Bool, true, false, _&&_}
+use mathlib.Core.Path.{_≡_, refl, ap, _∙_}
+use mathlib.Core.Bool.{true, false, _&&_}
 use mathlib.Core.List.{List, [], _∷_, map}
 use Prim.Native.Nat.{ℕ, zero, suc, _+_, _≤_, _<_}
 use native.Mathlib.Omega.{arith}
 use lib.Dec.{eqb}
 use borrow.Author.Tests.{eqb-true, ne-eqb}
 use lib.ListN.{length, getD, length-map, List·getD-map}
-use Rattle.lent.specs.Tables.{if_then_else_}
 use Rattle.machine.specs.Decision.{decisions, decision, grants}
 use Rattle.machine.specs.declared.Verdict.{Verdict}
 use Rattle.machine.specs.declared.Verdict.the-variants.{Grant, Void, BackOff, Abort}
-use Rattle.machine.proofs.Views.{caseOf, clash, and-true₁, and-true₂}
 use mathlib.Core.Logic.{_⊎_, inl, inr}
-
--- nothing held: granted; an I lease asked where anything is held: back off; a Q where an I lease is held: granted and the I lease voided;
--- Q1 where Q1 is held: granted; every other Q: the asker is aborted
-abbrev pub verdictBy : ℕ → ℕ → Verdict
-verdictBy held asked =
-    if eqb held 0 then Grant
-    else if eqb asked 0 then BackOff
-    else if eqb held 1 then Void
-    else if eqb held 2 && eqb asked 1 then Grant
-    else Abort
+use Rattle.lent.proofs.Choices.{and-yes, case-of, clash}
+use Rattle.machine.specs.Statements.{verdictBy}
 
 abbrev from : ℕ → ℕ → List ℕ
 from i zero = []
@@ -67,13 +57,13 @@ decision-by held asked h a =
 
 -- of two Q leases on one key, held (one more than its kind) and asked, only Q1 shares with Q1
 pub only-Q1-shares : (held asked : ℕ) → 2 ≤ held → held < 5 → 1 ≤ asked → asked < 4 → grants (decision held asked) ≡ true → (held ≡ 2) × (asked ≡ 1)
-only-Q1-shares held asked l h m a e = go (caseOf (eqb held 2 && eqb asked 1))
+only-Q1-shares held asked l h m a e = go (case-of (eqb held 2 && eqb asked 1))
   where
     here : grants (verdictBy held asked) ≡ true
     here = rw (decision-by held asked h a) at e
 
     go : ((eqb held 2 && eqb asked 1) ≡ true) ⊎ ((eqb held 2 && eqb asked 1) ≡ false) → (held ≡ 2) × (asked ≡ 1)
-    go (inl q) = (eqb-true held 2 (and-true₁ (eqb held 2) (eqb asked 1) q), eqb-true asked 1 (and-true₂ (eqb held 2) (eqb asked 1) q))
+    go (inl q) = (eqb-true held 2 (and-yes (eqb held 2) (eqb asked 1) q .0), eqb-true asked 1 (and-yes (eqb held 2) (eqb asked 1) q .1))
     go (inr q) = clash false (rw (ne-eqb held 0 (λ p. omega arith), ne-eqb asked 0 (λ p. omega arith), ne-eqb held 1 (λ p. omega arith), q) at here) refl
 
 pub Q1-shares : decision 2 1 ≡ Grant

@@ -1,40 +1,41 @@
 -- The test of the rules is right: an event breaks no rule by the test exactly if it keeps the rules, in a world whose tables have
 -- their shape. Each direction reads one rule: equal values are `same`, what is found by number is there, a word belongs to one answer.
 use mathlib.Core.Path.{_≡_, refl, sym, ap, _∙_}
-use mathlib.Core.Bool.{Bool, true, false, not, _&&_}
+use mathlib.Core.Bool.{Bool, true, false, not, _&&_, or-true}
 use mathlib.Core.Logic.{_⊎_, inl, inr}
 use mathlib.Core.List.{List, [], _∷_, List·Memᴰ, List·Memᴰ·head, List·Memᴰ·tail}
 use mathlib.Core.Option.{Option, none, some}
 use Prim.Native.Nat.{ℕ, suc}
 use native.Mathlib.Omega.{arith}
-use borrow.Author.Tests.{eqb-true, eq-eqb}
+use borrow.Author.Tests.{eqb-true, eq-eqb, not-false, not-true}
 use lib.Dec.{eqb}
 use lib.ListN.{getD}
 use Rattle.lent.specs.Tables.{if_then_else_, same, allZero}
 use Rattle.lent.proofs.Equal.{same-eq, eq-same}
+use Rattle.lent.proofs.Choices.{and-yes, case-of, clash, if-ind}
 use Rattle.machine.specs.Tables.{any}
-use Rattle.machine.specs.Words.{wordOf}
+use Rattle.machine.specs.Words.{wordOf, STORED, DONE, UNDONE}
 use Rattle.machine.specs.Session.{sealedLife}
 use Rattle.machine.specs.State.{Value, Slot, noSession, session, nothing, staged, DROP, Row, noRow, row, State, freeRow, numbered, ofOn, sessionPlace, sessionOf, rowOf, leaseOn, sessionAt}
 use Rattle.machine.specs.Refusals.{sealedIn, sealedSlot, refusal}
 use Rattle.machine.specs.Expiry.{expire}
 use Rattle.machine.specs.Effects.{Outcome, matches, fills, effect}
 use Rattle.machine.specs.Step.{settled, step}
-use Rattle.machine.specs.World.{Event, command, write, World, next, Holds, Sealed, Rules, expired, Kept, AllKept}
+use Rattle.machine.specs.World.{Event, command, write, World, next, HasRow, Sealed, Rules, expired, Kept, AllKept}
 use Rattle.machine.specs.Test.{differs, brokenBy, broken, verdicts}
+use Rattle.machine.specs.WellFormed.{Orderly}
 use Rattle.machine.specs.declared.Life.{Life}
 use Rattle.machine.specs.declared.Session.{Session}
 use Rattle.machine.specs.declared.Answer.{Answer}
 use Rattle.machine.specs.declared.Command.{Command}
 use Rattle.machine.specs.declared.Command.the-variants.{Begin, Get, Fill, Quar, Stage, Delta, Validate, Done, Undo, Evict, Tick}
 use Rattle.machine.proofs.Views
-use Rattle.machine.proofs.Orderly.{Orderly}
 use Rattle.machine.proofs.Accepted.{row-of}
 use Rattle.machine.proofs.Shape.{orderly-next}
 
 any-mem : (v : Value) (l : List Value) → any (same v) l ≡ true → List·Memᴰ v l
-any-mem v [] e = Views.clash false e refl
-any-mem v (x ∷ l) e = go (Views.caseOf (same v x)) (any-mem v l)
+any-mem v [] e = clash false e refl
+any-mem v (x ∷ l) e = go (case-of (same v x)) (any-mem v l)
   where
     go : (same v x ≡ true) ⊎ (same v x ≡ false) → (any (same v) l ≡ true → List·Memᴰ v l) → List·Memᴰ v (x ∷ l)
     go (inl q) f = List·Memᴰ·head (same-eq v x q)
@@ -42,14 +43,14 @@ any-mem v (x ∷ l) e = go (Views.caseOf (same v x)) (any-mem v l)
 
 mem-any : (v : Value) (l : List Value) → List·Memᴰ v l → any (same v) l ≡ true
 mem-any v (x ∷ l) (List·Memᴰ·head e) = rw (eq-same v x e)
-mem-any v (x ∷ l) (List·Memᴰ·tail m) = rw (mem-any v l m) (Views.or-true (same v x))
+mem-any v (x ∷ l) (List·Memᴰ·tail m) = rw (mem-any v l m) (or-true (same v x))
 
 -- A rule under its answer: b is the test of the answer, c that the rule is broken
 
 broken-not : (b c : Bool) (n : ℕ) → (if b && c then suc n else 0) ≡ 0 → b ≡ true → c ≡ false
 broken-not true true n e p = absurd (omega arith)
 broken-not true false n e p = refl
-broken-not false c n e p = Views.clash false p refl
+broken-not false c n e p = clash false p refl
 
 not-broken : (b c : Bool) (n : ℕ) → (b ≡ true → c ≡ false) → (if b && c then n else 0) ≡ 0
 not-broken true c n f = rw (f refl)
@@ -62,7 +63,7 @@ Says a r = eqb (wordOf (r .answer)) (wordOf a) ≡ true → r .answer ≡ a
 says-settled : (a : Answer) (s : State) (now : ℕ) (o : Option ℕ) (r : Outcome) → eqb 0 (wordOf a) ≡ false → Says a r → Says a (settled s now o r)
 unfolding Says settled
 says-settled a s now none r q f = f
-says-settled a s now (some e) r q f = λ p. Views.clash (eqb 0 (wordOf a)) p q
+says-settled a s now (some e) r q f = λ p. clash (eqb 0 (wordOf a)) p q
 
 module _ (s : State) (now : ℕ) (v : Value) where
   says-step : (a : Answer) (c : Command) → eqb 0 (wordOf a) ≡ false → Says a (effect (expire now s) now c v) → Says a (step s now c v)
@@ -71,7 +72,7 @@ module _ (s : State) (now : ℕ) (v : Value) where
 
   says-stored : (t k : ℕ) → Says Answer.Stored (step s now (Fill t k) v)
   unfolding Says effect fills
-  says-stored t k = says-step Answer.Stored (Fill t k) refl (Views.if-ind (Says Answer.Stored) (matches t (leaseOn (expire now s) k)) (λ m p. refl) (λ m p. Views.clash false p refl))
+  says-stored t k = says-step Answer.Stored (Fill t k) refl (if-ind (Says Answer.Stored) (matches t (leaseOn (expire now s) k)) (λ m p. refl) (λ m p. clash false p refl))
 
   says-done : (n : ℕ) → Says Answer.Done (step s now (Done n) v)
   unfolding Says effect
@@ -84,29 +85,29 @@ module _ (s : State) (now : ℕ) (v : Value) where
 -- Rule 4
 
 agreeing : (register : ℕ → Value) (n : ℕ) (rs : List Row) → any (differs register n) rs ≡ false → (i k d : ℕ) (u : Value) → getD rs i noRow ≡ row n k d (staged u) → u ≡ register k
-agreeing register n rs e i k d u p = elim (Views.caseOf (same u (register k))) [
+agreeing register n rs e i k d u p = elim (case-of (same u (register k))) [
   | inl q ↦ same-eq u (register k) q
-  | inr q ↦ Views.clash (any (differs register n) rs) (Views.any-at (differs register n) noRow rs i refl (rw (p, eq-eqb n n refl, q))) e
+  | inr q ↦ clash (any (differs register n) rs) (Views.any-at (differs register n) noRow rs i refl (rw (p, eq-eqb n n refl, q))) e
 ]
 
 differing : (register : ℕ → Value) (n : ℕ) (r : Row) → differs register n r ≡ true → (k : ℕ) × (d : ℕ) × (u : Value) × (r ≡ row n k d (staged u)) × (same u (register k) ≡ false)
-differing register n noRow e = Views.clash false e refl
-differing register n (row m k d nothing) e = Views.clash false e refl
-differing register n (row m k d DROP) e = Views.clash false e refl
+differing register n noRow e = clash false e refl
+differing register n (row m k d nothing) e = clash false e refl
+differing register n (row m k d DROP) e = clash false e refl
 differing register n (row m k d (staged u)) e = (
   k,
   d,
   u,
-  ap (λ (x : ℕ). row x k d (staged u)) (eqb-true m n (Views.and-true₁ (eqb m n) (not (same u (register k))) e)),
-  Views.not-true′ (same u (register k)) (Views.and-true₂ (eqb m n) (not (same u (register k))) e),
+  ap (λ (x : ℕ). row x k d (staged u)) (eqb-true m n (and-yes (eqb m n) (not (same u (register k))) e .0)),
+  not-true (same u (register k)) (and-yes (eqb m n) (not (same u (register k))) e .1),
 )
 
 none-differs : (register : ℕ → Value) (n : ℕ) (rs : List Row) → ((i k d : ℕ) (u : Value) → getD rs i noRow ≡ row n k d (staged u) → u ≡ register k) → any (differs register n) rs ≡ false
-none-differs register n rs f = elim (Views.caseOf (any (differs register n) rs)) [
+none-differs register n rs f = elim (case-of (any (differs register n) rs)) [
   | inl q ↦
       (let p = Views.any-place (differs register n) noRow rs q in
       let r = differing register n (getD rs (p .0) noRow) (p .1) in
-      Views.clash (same (r .2) (register (r .0))) (eq-same (r .2) (register (r .0)) (f (p .0) (r .0) (r .1) (r .2) (r .3))) (r .4))
+      clash (same (r .2) (register (r .0))) (eq-same (r .2) (register (r .0)) (f (p .0) (r .0) (r .1) (r .2) (r .3))) (r .4))
   | inr q ↦ q
 ]
 
@@ -114,13 +115,13 @@ none-differs register n rs f = elim (Views.caseOf (any (differs register n) rs))
 
 sealed-life : (p : Life) → sealedLife p ≡ true → p ≡ Life.Sealed
 sealed-life Life.Sealed e = refl
-sealed-life (Life.Open t) e = Views.clash false e refl
+sealed-life (Life.Open t) e = clash false e refl
 
 sealed-is : (s : State) (n : ℕ) → sealedIn s n ≡ true → Sealed s n
 sealed-is s n e = go (sessionOf s n) refl (Views.find-test (numbered n) noSession (s .sessions)) e
   where
     go : (y : Slot) → sessionOf s n ≡ y → (y ≡ noSession) ⊎ (numbered n y ≡ true) → sealedSlot y ≡ true → Sealed s n
-    go noSession p q r = Views.clash false r refl
+    go noSession p q r = clash false r refl
     go (session x) p (inl q) r = Views.no-session x (sym q)
     go (session x) p (inr q) r = record { place = sessionPlace s n; live = x; is = p; number = eqb-true (x .number) n q; life = sealed-life (x .life) r }
 
@@ -129,40 +130,36 @@ is-sealed : (s : State) (n : ℕ) → Orderly s → Sealed s n → sealedIn s n 
 is-sealed s n h w = go (sessionOf s n) refl (Views.find-passes (numbered n) noSession (s .sessions) (w .place) refl (rw (w .is) (eq-eqb (w .live .number) n (w .number))))
   where
     go : (y : Slot) → sessionOf s n ≡ y → numbered n y ≡ true → sealedSlot y ≡ true
-    go noSession p q = Views.clash false q refl
+    go noSession p q = clash false q refl
     go (session x) p q =
         let here : sessionPlace s n ≡ w .place = h .unique (sessionPlace s n) (w .place) x (w .live) p (w .is) (eqb-true (x .number) n q ∙ sym (w .number)) in
         let same : session x ≡ session (w .live) = sym p ∙ ap (sessionAt s) here ∙ w .is in
         let it : x ≡ w .live = cc in
         rw (ap (λ (y : Session). y .life) it ∙ w .life)
 
-holds-row : (s : State) (n k : ℕ) → Holds (s .rows) n k → freeRow (rowOf s n k) ≡ false
-holds-row s n k w = go (rowOf s n k) (Views.find-passes (ofOn n k) noRow (s .rows) (w .place) refl (rw (w .is, eq-eqb n n refl, eq-eqb k k refl)))
-  where
-    go : (r : Row) → ofOn n k r ≡ true → freeRow r ≡ false
-    go noRow e = Views.clash false e refl
-    go (row m j d u) e = refl
+row-taken : (s : State) (n k : ℕ) → HasRow (s .rows) n k → freeRow (rowOf s n k) ≡ false
+row-taken s n k w = Views.of-on-taken n k (rowOf s n k) (Views.find-passes (ofOn n k) noRow (s .rows) (w .place) refl (rw (w .is, eq-eqb n n refl, eq-eqb k k refl)))
 
 -- Each event
 
 rules-of : (w : World) (c : Command) (v : Value) (a : Answer) → brokenBy w c v a ≡ 0 → Rules w c v a
 rules-of w Begin v a e = tt
 rules-of w (Get n k) v a e = tt
-rules-of w (Fill t k) v a e = λ p. any-mem v (w .since t k) (Views.not-false′ _ (broken-not (eqb (wordOf a) 7) (not (any (same v) (w .since t k))) 0 e (rw p)))
+rules-of w (Fill t k) v a e = λ p. any-mem v (w .since t k) (not-false _ (broken-not (eqb (wordOf a) STORED) (not (any (same v) (w .since t k))) 0 e (rw p)))
 rules-of w (Quar n k d) v a e = tt
 rules-of w (Stage n i k) v a e = tt
 rules-of w (Delta n i k o) v a e = tt
 rules-of w (Validate n m) v a e = tt
-rules-of w (Done n) v a e = λ p. agreeing (w .register) n (w .state .rows) (broken-not (eqb (wordOf a) 17) (any (differs (w .register) n) (w .state .rows)) 3 e (rw p))
-rules-of w (Undo n) v a e = λ p. broken-not (eqb (wordOf a) 18) (w .wrote n) 2 e (rw p)
+rules-of w (Done n) v a e = λ p. agreeing (w .register) n (w .state .rows) (broken-not (eqb (wordOf a) DONE) (any (differs (w .register) n) (w .state .rows)) 3 e (rw p))
+rules-of w (Undo n) v a e = λ p. broken-not (eqb (wordOf a) UNDONE) (w .wrote n) 2 e (rw p)
 rules-of w (Evict k) v a e = tt
 rules-of w Tick v a e = tt
 
 pub kept-of : (w : World) (e : Event) → broken w e ≡ 0 → Kept w e
 kept-of w (command now c v) e = rules-of (expired w now) c v (step (w .state) now c v .answer) e
-kept-of w (write n k v) e = go (Views.caseOf (sealedIn (w .state) n)) (Views.caseOf (freeRow (rowOf (w .state) n k)))
+kept-of w (write n k v) e = go (case-of (sealedIn (w .state) n)) (case-of (freeRow (rowOf (w .state) n k)))
   where
-    go : (sealedIn (w .state) n ≡ true) ⊎ (sealedIn (w .state) n ≡ false) → (freeRow (rowOf (w .state) n k) ≡ true) ⊎ (freeRow (rowOf (w .state) n k) ≡ false) → Sealed (w .state) n × Holds (w .state .rows) n k
+    go : (sealedIn (w .state) n ≡ true) ⊎ (sealedIn (w .state) n ≡ false) → (freeRow (rowOf (w .state) n k) ≡ true) ⊎ (freeRow (rowOf (w .state) n k) ≡ false) → Sealed (w .state) n × HasRow (w .state .rows) n k
     go (inl p) (inr q) = (sealed-is (w .state) n p, (let r = row-of (w .state) n k q in record { place = r .0; kind = _; what = r .1; is = r .2 }))
     go (inl p) (inl q) = absurd (let z : _≡_ {A = ℕ} 2 0 = rw (p, q) at e in omega arith)
     go (inr p) q = absurd (let z : _≡_ {A = ℕ} 2 0 = rw p at e in omega arith)
@@ -171,25 +168,25 @@ pub kept-unbroken : (w : World) (e : Event) → Orderly (w .state) → Kept w e 
 unfolding Says
 kept-unbroken w (command now Begin v) h rule = refl
 kept-unbroken w (command now (Get n k) v) h rule = refl
-kept-unbroken w (command now (Fill t k) v) h rule = not-broken (eqb (wordOf (step (w .state) now (Fill t k) v .answer)) 7) (not (any (same v) (w .since t k))) 1
+kept-unbroken w (command now (Fill t k) v) h rule = not-broken (eqb (wordOf (step (w .state) now (Fill t k) v .answer)) STORED) (not (any (same v) (w .since t k))) 1
     (λ p. rw (mem-any v (w .since t k) (rule (says-stored (w .state) now v t k p))))
 kept-unbroken w (command now (Quar n k d) v) h rule = refl
 kept-unbroken w (command now (Stage n i k) v) h rule = refl
 kept-unbroken w (command now (Delta n i k o) v) h rule = refl
 kept-unbroken w (command now (Validate n m) v) h rule = refl
-kept-unbroken w (command now (Done n) v) h rule = not-broken (eqb (wordOf (step (w .state) now (Done n) v .answer)) 17) (any (differs (w .register) n) (expire now (w .state) .rows)) 4
+kept-unbroken w (command now (Done n) v) h rule = not-broken (eqb (wordOf (step (w .state) now (Done n) v .answer)) DONE) (any (differs (w .register) n) (expire now (w .state) .rows)) 4
     (λ p. none-differs (w .register) n (expire now (w .state) .rows) (rule (says-done (w .state) now v n p)))
-kept-unbroken w (command now (Undo n) v) h rule = not-broken (eqb (wordOf (step (w .state) now (Undo n) v .answer)) 18) (w .wrote n) 3 (λ p. rule (says-undone (w .state) now v n p))
+kept-unbroken w (command now (Undo n) v) h rule = not-broken (eqb (wordOf (step (w .state) now (Undo n) v .answer)) UNDONE) (w .wrote n) 3 (λ p. rule (says-undone (w .state) now v n p))
 kept-unbroken w (command now (Evict k) v) h rule = refl
 kept-unbroken w (command now Tick v) h rule = refl
-kept-unbroken w (write n k v) h rule = rw (is-sealed (w .state) n h (rule .0), holds-row (w .state) n k (rule .1))
+kept-unbroken w (write n k v) h rule = rw (is-sealed (w .state) n h (rule .0), row-taken (w .state) n k (rule .1))
 
 -- Each run
 
 pub allKept-of : (w : World) (es : List Event) → allZero (verdicts w es) ≡ true → AllKept w es
 unfolding allZero
 allKept-of w [] e = tt
-allKept-of w (x ∷ es) e = (kept-of w x (eqb-true (broken w x) 0 (Views.and-true₁ (eqb (broken w x) 0) (allZero (verdicts (next w x) es)) e)), allKept-of (next w x) es (Views.and-true₂ (eqb (broken w x) 0) (allZero (verdicts (next w x) es)) e))
+allKept-of w (x ∷ es) e = (kept-of w x (eqb-true (broken w x) 0 (and-yes (eqb (broken w x) 0) (allZero (verdicts (next w x) es)) e .0)), allKept-of (next w x) es (and-yes (eqb (broken w x) 0) (allZero (verdicts (next w x) es)) e .1))
 
 pub allKept-unbroken : (w : World) (es : List Event) → Orderly (w .state) → AllKept w es → allZero (verdicts w es) ≡ true
 unfolding allZero

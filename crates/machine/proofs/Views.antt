@@ -1,71 +1,47 @@
 -- Views of the tables after a change: each law says what stands at a place of a table, in terms of what stood there before.
 -- A fact about a table is always an equation on the entry at a place, so that constructors tell entries apart by themselves.
 use mathlib.Core.Path.{_≡_, refl, sym, ap, _∙_, subst}
-use mathlib.Core.Bool.{Bool, true, false, not, _&&_, _||_}
+use mathlib.Core.Bool.{Bool, true, false, _||_, or-true}
 use mathlib.Core.Logic.{_⊎_, inl, inr}
-use mathlib.Core.List.{List, [], _∷_, map}
+use mathlib.Core.List.{List, [], _∷_}
 use mathlib.Core.Option.{Option, none, some}
-use Prim.Native.Nat.{ℕ, zero, suc, _+_, _≤_, _<_}
+use Prim.Native.Nat.{ℕ, zero, suc, _<_}
 use native.Mathlib.Omega.{arith}
-use lib.Dec.{eqb, leb, ltb}
-use borrow.Author.Tests.{eqb-true, eqb-false, eq-eqb, ne-eqb, leb-true, leb-false, ltb-true, ltb-false}
-use lib.ListN.{length, getD, set, replicate, List·getD-map}
+use lib.Dec.{eqb, leb}
+use borrow.Author.Tests.{eqb-true, eqb-false, eq-eqb, leb-false}
+use lib.ListN.{getD, set, replicate}
 use Rattle.lent.specs.Tables.{if_then_else_}
-use Rattle.machine.specs.Tables.{place, find, any, putAt, first, mem}
+use Rattle.lent.proofs.Choices.{case-of, clash}
+use Rattle.machine.specs.Tables.{place, find, any, first, mem}
 use Rattle.machine.specs.Session.{dueLife}
-use Rattle.machine.specs.State.{Value, Lease, Key, blank, Slot, noSession, session, Staged, nothing, staged, DROP, Row, noRow, row, State, on, free, freeRow}
+use Rattle.machine.specs.State.{Value, Lease, Key, blank, Slot, noSession, session, Staged, nothing, staged, DROP, Row, noRow, row, on, free, freeRow, ofOn, numbered}
 use Rattle.machine.specs.Expiry.{freeIfOf, freeSession, setValue, setLease, settle, those, unlapsed}
 use Rattle.machine.specs.Effects.{toCache}
 use Rattle.machine.specs.declared.Life.{Life}
 use Rattle.machine.specs.declared.Session.{Session}
 
--- Tests
+-- Constructors that differ
 
-pub caseOf : (b : Bool) → (b ≡ true) ⊎ (b ≡ false)
-caseOf true = inl refl
-caseOf false = inr refl
+pub no-some : {A B : Type 0} (b : B) → none ≡ some b → A
+no-some b e = absurd (let z : _≡_ {A = ℕ} 0 1 = cc in omega arith)
 
-pub clash : {A : Type 0} (b : Bool) → b ≡ true → b ≡ false → A
-clash b p q = absurd (let z : _≡_ {A = ℕ} 0 1 = cc in omega arith)
+pub no-row : {A : Type 0} (n k d : ℕ) (v : Staged) → noRow ≡ row n k d v → A
+no-row n k d v e = absurd (let z : _≡_ {A = ℕ} 0 1 = cc in omega arith)
 
-pub if-ind {ℓ κ} : {A : Type ℓ} (P : A → Type κ) (b : Bool) {x y : A} → (b ≡ true → P x) → (b ≡ false → P y) → P (if b then x else y)
-if-ind P true f g = f refl
-if-ind P false f g = g refl
+pub no-session : {A : Type 0} (l : Session) → noSession ≡ session l → A
+no-session l e = absurd (let z : _≡_ {A = ℕ} 0 1 = cc in omega arith)
 
-pub and-true₁ : (a b : Bool) → (a && b) ≡ true → a ≡ true
-and-true₁ true b e = refl
-and-true₁ false b e = e
-
-pub and-true₂ : (a b : Bool) → (a && b) ≡ true → b ≡ true
-and-true₂ true b e = e
-and-true₂ false b e = absurd (let z : _≡_ {A = ℕ} 0 1 = cc in omega arith)
-
-pub or-false₁ : (a b : Bool) → (a || b) ≡ false → a ≡ false
-or-false₁ true b e = e
-or-false₁ false b e = refl
-
-pub or-false₂ : (a b : Bool) → (a || b) ≡ false → b ≡ false
-or-false₂ true b e = absurd (let z : _≡_ {A = ℕ} 0 1 = cc in omega arith)
-or-false₂ false b e = e
-
-pub or-true : (a : Bool) → (a || true) ≡ true
-or-true true = refl
-or-true false = refl
-
-pub not-true′ : (b : Bool) → not b ≡ true → b ≡ false
-not-true′ true e = sym e
-not-true′ false e = refl
-
-pub not-false′ : (b : Bool) → not b ≡ false → b ≡ true
-not-false′ true e = refl
-not-false′ false e = sym e
+pub some-eq : {A : Type 0} (a b : A) → some a ≡ some b → a ≡ b
+some-eq a b e = cc
 
 -- Refusals: where none applies, each test is false
 
 pub first-none : (l : List (Bool × ℕ)) → first l ≡ none → (i : ℕ) → getD l i (false, 0) .0 ≡ false
 first-none [] e i = refl
-first-none (x ∷ l) e zero = elim (caseOf (x .0)) [ inl p ↦ absurd (let z : _≡_ {A = ℕ} 0 1 = cc in omega arith) | inr p ↦ p ]
-first-none (x ∷ l) e (suc i) = elim (caseOf (x .0)) [ inl p ↦ absurd (let z : _≡_ {A = ℕ} 0 1 = cc in omega arith) | inr p ↦ first-none l (rw p at e) i ]
+first-none (x ∷ l) e zero = elim (case-of (x .0)) [ inl p ↦ no-some (x .1) (sym (rw p at e)) | inr p ↦ p ]
+first-none (x ∷ l) e (suc i) = elim (case-of (x .0)) [ inl p ↦ no-some (x .1) (sym (rw p at e)) | inr p ↦ first-none l (rw p at e) i ]
+
+-- Tables
 
 module _ {A : Type 0} where
   -- an entry after `set`
@@ -75,7 +51,7 @@ module _ {A : Type 0} where
     out : i ≡ j → getD (set l i a) j d ≡ d → getD l j d ≡ d → AfterSet l i a j d
 
   pub after-set : (l : List A) (i : ℕ) (a : A) (j : ℕ) (d : A) → AfterSet l i a j d
-  after-set [] i a j d = elim (caseOf (eqb i j)) [ inl e ↦ out (eqb-true i j e) refl refl | inr e ↦ other (eqb-false i j e) refl ]
+  after-set [] i a j d = elim (case-of (eqb i j)) [ inl e ↦ out (eqb-true i j e) refl refl | inr e ↦ other (eqb-false i j e) refl ]
   after-set (x ∷ l) zero a zero d = here refl refl
   after-set (x ∷ l) zero a (suc j) d = other (λ p. omega arith) refl
   after-set (x ∷ l) (suc i) a zero d = other (λ p. omega arith) refl
@@ -89,7 +65,7 @@ module _ {A : Type 0} where
   -- the entry at the place of the first that passes passes; where none does, it is the default
   pub find-test : (p : A → Bool) (d : A) (l : List A) → (find p d l ≡ d) ⊎ (p (find p d l) ≡ true)
   find-test p d [] = inl refl
-  find-test p d (x ∷ l) = go (caseOf (p x)) (find-test p d l)
+  find-test p d (x ∷ l) = go (case-of (p x)) (find-test p d l)
     where
       go : (p x ≡ true) ⊎ (p x ≡ false) → (find p d l ≡ d) ⊎ (p (find p d l) ≡ true) → (find p d (x ∷ l) ≡ d) ⊎ (p (find p d (x ∷ l)) ≡ true)
       go (inl q) r = inr (rw q q)
@@ -98,7 +74,7 @@ module _ {A : Type 0} where
   pub find-passes : (p : A → Bool) (d : A) (l : List A) (i : ℕ) → p d ≡ false → p (getD l i d) ≡ true → p (find p d l) ≡ true
   find-passes p d [] i e h = clash (p d) h e
   find-passes p d (x ∷ l) zero e h = rw h h
-  find-passes p d (x ∷ l) (suc i) e h = go (caseOf (p x)) (find-passes p d l i e h)
+  find-passes p d (x ∷ l) (suc i) e h = go (case-of (p x)) (find-passes p d l i e h)
     where
       go : (p x ≡ true) ⊎ (p x ≡ false) → p (find p d l) ≡ true → p (find p d (x ∷ l)) ≡ true
       go (inl q) r = rw q q
@@ -119,21 +95,39 @@ module _ {A : Type 0} where
 
   pub any-place : (p : A → Bool) (d : A) (l : List A) → any p l ≡ true → (i : ℕ) × (p (getD l i d) ≡ true)
   any-place p d [] h = clash false h refl
-  any-place p d (x ∷ l) h = go (caseOf (p x)) (any-place p d l)
+  any-place p d (x ∷ l) h = go (case-of (p x)) (any-place p d l)
     where
       go : (p x ≡ true) ⊎ (p x ≡ false) → (any p l ≡ true → (i : ℕ) × (p (getD l i d) ≡ true)) → (i : ℕ) × (p (getD (x ∷ l) i d) ≡ true)
       go (inl q) r = (0, q)
       go (inr q) r = let u = r (rw q at h) in (suc (u .0), u .1)
 
--- Rows
+-- a table of one entry, many times
+pub getD-same : {A : Type 0} (n i : ℕ) (a : A) → getD (replicate n a) i a ≡ a
+getD-same zero i a = refl
+getD-same (suc n) zero a = refl
+getD-same (suc n) (suc i) a = getD-same n i a
 
-pub free-is : (r : Row) → freeRow r ≡ true → r ≡ noRow
-free-is noRow e = refl
-free-is (row n k d v) e = clash false e refl
+-- a list of one number
+pub mem-one : (m n : ℕ) → mem m (n ∷ []) ≡ true → m ≡ n
+mem-one m n e = go (case-of (eqb n m))
+  where
+    go : (eqb n m ≡ true) ⊎ (eqb n m ≡ false) → m ≡ n
+    go (inl q) = sym (eqb-true n m q)
+    go (inr q) = clash false (rw q at e) refl
 
-pub free-is-not : (e : Slot) → free e ≡ true → e ≡ noSession
-free-is-not noSession e = refl
-free-is-not (session l) e = clash false e refl
+-- Rows and sessions
+
+pub free-row-is : (r : Row) → freeRow r ≡ true → r ≡ noRow
+free-row-is noRow e = refl
+free-row-is (row n k d v) e = clash false e refl
+
+pub free-slot-is : (e : Slot) → free e ≡ true → e ≡ noSession
+free-slot-is noSession e = refl
+free-slot-is (session l) e = clash false e refl
+
+pub numbered-live : (n : ℕ) (e : Slot) → numbered n e ≡ true → free e ≡ false
+numbered-live n noSession e = sym e
+numbered-live n (session x) e = refl
 
 pub on-row : (k : ℕ) (r : Row) → on k r ≡ true → (n : ℕ) × (d : ℕ) × (v : Staged) × (r ≡ row n k d v)
 on-row k noRow e = clash false e refl
@@ -142,30 +136,34 @@ on-row k (row n j d v) e = (n, d, v, ap (λ (x : ℕ). row n x d v) (eqb-true j 
 pub row-on : (n k d : ℕ) (v : Staged) (r : Row) → r ≡ row n k d v → on k r ≡ true
 row-on n k d v r e = rw e (eq-eqb k k refl)
 
-pub freed : (ns : List ℕ) (r : Row) (n k d : ℕ) (v : Staged) → freeIfOf ns r ≡ row n k d v → (r ≡ row n k d v) × (mem n ns ≡ false)
-freed ns noRow n k d v e = absurd (let z : _≡_ {A = ℕ} 0 1 = cc in omega arith)
-freed ns (row m j c u) n k d v e = go (caseOf (mem m ns))
+pub of-on-taken : (n k : ℕ) (r : Row) → ofOn n k r ≡ true → freeRow r ≡ false
+of-on-taken n k noRow e = sym e
+of-on-taken n k (row m j d v) e = refl
+
+pub freed-was : (ns : List ℕ) (r : Row) (n k d : ℕ) (v : Staged) → freeIfOf ns r ≡ row n k d v → (r ≡ row n k d v) × (mem n ns ≡ false)
+freed-was ns noRow n k d v e = no-row n k d v e
+freed-was ns (row m j c u) n k d v e = go (case-of (mem m ns))
   where
     go : (mem m ns ≡ true) ⊎ (mem m ns ≡ false) → (row m j c u ≡ row n k d v) × (mem n ns ≡ false)
-    go (inl q) = absurd (let f : noRow ≡ row n k d v = rw q at e in let z : _≡_ {A = ℕ} 0 1 = cc in omega arith)
+    go (inl q) = no-row n k d v (rw q at e)
     go (inr q) = let f : row m j c u ≡ row n k d v = rw q at e in let g : m ≡ n = cc in (f, rw (← g) q)
 
 pub not-freed : (ns : List ℕ) (r : Row) (n k d : ℕ) (v : Staged) → r ≡ row n k d v → mem n ns ≡ false → freeIfOf ns r ≡ row n k d v
 not-freed ns r n k d v e q = rw e (rw q)
 
-pub ended : (ns : List ℕ) (r : Slot) (l : Session) → freeSession ns r ≡ session l → (r ≡ session l) × (mem (l .number) ns ≡ false)
-ended ns noSession l e = absurd (let z : _≡_ {A = ℕ} 0 1 = cc in omega arith)
-ended ns (session m) l e = go (caseOf (mem (m .number) ns))
+pub ended-was : (ns : List ℕ) (r : Slot) (l : Session) → freeSession ns r ≡ session l → (r ≡ session l) × (mem (l .number) ns ≡ false)
+ended-was ns noSession l e = no-session l e
+ended-was ns (session m) l e = go (case-of (mem (m .number) ns))
   where
     go : (mem (m .number) ns ≡ true) ⊎ (mem (m .number) ns ≡ false) → (session m ≡ session l) × (mem (l .number) ns ≡ false)
-    go (inl h) = absurd (let f : noSession ≡ session l = rw h at e in let z : _≡_ {A = ℕ} 0 1 = cc in omega arith)
+    go (inl h) = no-session l (rw h at e)
     go (inr h) = let f : session m ≡ session l = rw h at e in let g : m ≡ l = cc in (f, sym (ap (λ (x : Session). mem (x .number) ns) g) ∙ h)
 
 -- who is among those passes the test; and who passes it is among them
 pub among-those : (p : Session → Bool) (l : List Slot) (n : ℕ) → mem n (those p l) ≡ true → (i : ℕ) × (m : Session) × (getD l i noSession ≡ session m) × (m .number ≡ n) × (p m ≡ true)
 among-those p [] n e = clash false e refl
 among-those p (noSession ∷ l) n e = let r = among-those p l n e in (suc (r .0), r .1, r .2, r .3, r .4)
-among-those p (session m ∷ l) n e = go (caseOf (p m)) (caseOf (eqb (m .number) n)) (among-those p l n)
+among-those p (session m ∷ l) n e = go (case-of (p m)) (case-of (eqb (m .number) n)) (among-those p l n)
   where
     Place : List Slot → Type 0
     Place l′ = (i : ℕ) × (x : Session) × (getD l′ i noSession ≡ session x) × (x .number ≡ n) × (p x ≡ true)
@@ -175,19 +173,31 @@ among-those p (session m ∷ l) n e = go (caseOf (p m)) (caseOf (eqb (m .number)
     go (inl h) (inr q) f = let r = f (rw q at (rw h at e)) in (suc (r .0), r .1, r .2, r .3, r .4)
     go (inr h) q f = let r = f (rw h at e) in (suc (r .0), r .1, r .2, r .3, r .4)
 
+pub those-has : (p : Session → Bool) (l : List Slot) (i : ℕ) (m : Session) → getD l i noSession ≡ session m → p m ≡ true → mem (m .number) (those p l) ≡ true
+those-has p [] i m e h = no-session m e
+those-has p (noSession ∷ l) zero m e h = no-session m e
+those-has p (noSession ∷ l) (suc i) m e h = those-has p l i m e h
+those-has p (session x ∷ l) zero m e h = let f : x ≡ m = cc in subst (λ (y : Session). mem (m .number) (those p (session y ∷ l)) ≡ true) (sym f) (rw h (rw (eq-eqb (m .number) (m .number) refl) refl))
+those-has p (session x ∷ l) (suc i) m e h = go (case-of (p x)) (those-has p l i m e h)
+  where
+    go : (p x ≡ true) ⊎ (p x ≡ false) → mem (m .number) (those p l) ≡ true → mem (m .number) (those p (session x ∷ l)) ≡ true
+    go (inl q) r = rw q (rw r (or-true (eqb (x .number) (m .number))))
+    go (inr q) r = rw q r
+
 pub due-open : (now : ℕ) (p : Life) → dueLife now p ≡ true → p ≡ Life.Sealed → ⊥
 due-open now Life.Sealed e q = clash false e refl
 due-open now (Life.Open t) e q = let z : _≡_ {A = ℕ} 0 1 = cc in omega arith
 
-pub unlapsed-was : (now : ℕ) (o : Option Lease) (l : Lease) → unlapsed now o ≡ some l → o ≡ some l
-unlapsed-was now none l e = absurd (let z : _≡_ {A = ℕ} 0 1 = cc in omega arith)
-unlapsed-was now (some m) l e = go (caseOf (leb (m .until) now))
+-- a lease that is left was there, and ends after now
+pub unlapsed-was : (now : ℕ) (o : Option Lease) (l : Lease) → unlapsed now o ≡ some l → (o ≡ some l) × (now < l .until)
+unlapsed-was now none l e = no-some l e
+unlapsed-was now (some m) l e = go (case-of (leb (m .until) now))
   where
-    go : (leb (m .until) now ≡ true) ⊎ (leb (m .until) now ≡ false) → some m ≡ some l
-    go (inl h) = absurd (let f : none ≡ some l = rw h at e in let z : _≡_ {A = ℕ} 0 1 = cc in omega arith)
-    go (inr h) = rw h at e
+    go : (leb (m .until) now ≡ true) ⊎ (leb (m .until) now ≡ false) → (some m ≡ some l) × (now < l .until)
+    go (inl h) = no-some l (rw h at e)
+    go (inr h) = let f : some m ≡ some l = rw h at e in (f, subst (λ (x : Lease). now < x .until) (some-eq m l f) (leb-false (m .until) now h))
 
--- Values
+-- Values and leases
 
 pub value-after : (l : List Key) (j : ℕ) (o : Option Value) (k : ℕ) → (getD (setValue l j o) k blank .value ≡ getD l k blank .value) ⊎ ((j ≡ k) × (getD (setValue l j o) k blank .value ≡ o))
 value-after l j o k = go (after-set l j (record { value = o; lease = getD l j blank .lease }) k blank)
@@ -247,13 +257,13 @@ module _ (ns : List ℕ) (f : Staged → Option Value) (k : ℕ) (v : Value) whe
 
   pub settle-value : (rs : List Row) (ks : List Key) → getD (settle ns f rs ks) k blank .value ≡ some v
       → ((getD ks k blank .value ≡ some v) × Untouched ns rs k) ⊎ SetBy ns f rs k v
-  settle-value [] ks e = inl (e, λ i n d u h. absurd (let z : _≡_ {A = ℕ} 0 1 = cc in omega arith))
+  settle-value [] ks e = inl (e, λ i n d u h. no-row n k d u h)
   settle-value (noRow ∷ rs) ks e = up (settle-value rs ks e)
     where
       up : ((getD ks k blank .value ≡ some v) × Untouched ns rs k) ⊎ SetBy ns f rs k v → ((getD ks k blank .value ≡ some v) × Untouched ns (noRow ∷ rs) k) ⊎ SetBy ns f (noRow ∷ rs) k v
-      up (inl h) = inl (h .0, untouched-cons ns k noRow rs (λ n d u q. absurd (let z : _≡_ {A = ℕ} 0 1 = cc in omega arith)) (h .1))
+      up (inl h) = inl (h .0, untouched-cons ns k noRow rs (λ n d u q. no-row n k d u q) (h .1))
       up (inr s) = inr (set-by-cons noRow rs s)
-  settle-value (row m j d u ∷ rs) ks e = go (caseOf (mem m ns)) (settle-value rs)
+  settle-value (row m j d u ∷ rs) ks e = go (case-of (mem m ns)) (settle-value rs)
     where
       Result : List Key → List Row → Type 0
       Result ks′ rs′ = ((getD ks′ k blank .value ≡ some v) × Untouched ns rs′ k) ⊎ SetBy ns f rs′ k v
@@ -268,7 +278,7 @@ module _ (ns : List ℕ) (f : Staged → Option Value) (k : ℕ) (v : Value) whe
       set-here q a (inr s) = inr (set-by-cons (row m j d u) rs s)
       set-here q (other p x) (inl h) = inl (sym (ap (λ (y : Key). y .value) x) ∙ h .0, untouched-cons ns k (row m j d u) rs (λ n d′ u′ y. absurd (p (cc))) (h .1))
       set-here q (here p x) (inl h) = inr (record { place = 0; number = m; kind = d; what = u; is = ap (λ (y : ℕ). row m y d u) p; among = q; gives = sym (ap (λ (y : Key). y .value) x) ∙ h .0 })
-      set-here q (out p x y) (inl h) = absurd (let b : none ≡ some v = sym (ap (λ (y : Key). y .value) x) ∙ h .0 in let z : _≡_ {A = ℕ} 0 1 = cc in omega arith)
+      set-here q (out p x y) (inl h) = no-some v (sym (ap (λ (y : Key). y .value) x) ∙ h .0)
 
       go : (mem m ns ≡ true) ⊎ (mem m ns ≡ false) → ((ks′ : List Key) → getD (settle ns f rs ks′) k blank .value ≡ some v → Result ks′ rs) → Result ks (row m j d u ∷ rs)
       go (inl q) r = set-here q (after-set ks j (record { value = f u; lease = getD ks j blank .lease }) k blank) (r (setValue ks j (f u)) (rw q at e))
@@ -283,46 +293,8 @@ settle-lease ns f k (row m j d u ∷ rs) ks = go (mem m ns) (settle-lease ns f k
     go true r = r (setValue ks j (f u)) ∙ value-lease ks j (f u) k
     go false r = r ks
 
-pub no-some : {A B : Type 0} (b : B) → none ≡ some b → A
-no-some b e = absurd (let z : _≡_ {A = ℕ} 0 1 = cc in omega arith)
-
-pub no-row : {A : Type 0} (n k d : ℕ) (v : Staged) → noRow ≡ row n k d v → A
-no-row n k d v e = absurd (let z : _≡_ {A = ℕ} 0 1 = cc in omega arith)
-
-pub no-session : {A : Type 0} (l : Session) → noSession ≡ session l → A
-no-session l e = absurd (let z : _≡_ {A = ℕ} 0 1 = cc in omega arith)
-
+-- what DONE caches was staged
 pub to-cache : (u : Staged) (v : Value) → toCache u ≡ some v → u ≡ staged v
 to-cache nothing v e = no-some v e
 to-cache (staged w) v e = let f : w ≡ v = cc in ap staged f
 to-cache DROP v e = no-some v e
-
-pub mem-one : (m n : ℕ) → mem m (n ∷ []) ≡ true → m ≡ n
-mem-one m n e = go (caseOf (eqb n m))
-  where
-    go : (eqb n m ≡ true) ⊎ (eqb n m ≡ false) → m ≡ n
-    go (inl q) = sym (eqb-true n m q)
-    go (inr q) = clash false (rw q at e) refl
-
-pub and-false : (a : Bool) → (a && true) ≡ false → a ≡ false
-and-false true e = e
-and-false false e = refl
-
-pub getD-same : {A : Type 0} (n i : ℕ) (a : A) → getD (replicate n a) i a ≡ a
-getD-same zero i a = refl
-getD-same (suc n) zero a = refl
-getD-same (suc n) (suc i) a = getD-same n i a
-
-pub those-has : (p : Session → Bool) (l : List Slot) (i : ℕ) (m : Session) → getD l i noSession ≡ session m → p m ≡ true → mem (m .number) (those p l) ≡ true
-those-has p [] i m e h = no-session m e
-those-has p (noSession ∷ l) zero m e h = no-session m e
-those-has p (noSession ∷ l) (suc i) m e h = those-has p l i m e h
-those-has p (session x ∷ l) zero m e h = let f : x ≡ m = cc in subst (λ (y : Session). mem (m .number) (those p (session y ∷ l)) ≡ true) (sym f) (rw h (rw (eq-eqb (m .number) (m .number) refl) refl))
-those-has p (session x ∷ l) (suc i) m e h = go (caseOf (p x)) (those-has p l i m e h)
-  where
-    go : (p x ≡ true) ⊎ (p x ≡ false) → mem (m .number) (those p l) ≡ true → mem (m .number) (those p (session x ∷ l)) ≡ true
-    go (inl q) r = rw q (rw r (or-true (eqb (x .number) (m .number))))
-    go (inr q) r = rw q r
-
-pub some-eq : {A : Type 0} (a b : A) → some a ≡ some b → a ≡ b
-some-eq a b e = cc

@@ -10,16 +10,19 @@ use native.Mathlib.Omega.{arith}
 use lib.Dec.{eqb, leb}
 use lib.ListN.{getD, List·getD-map}
 use borrow.Author.Tests.{eqb-true, eqb-false, eq-eqb, leb-true, leb-false}
+use Rattle.lent.proofs.Choices.{case-of, clash}
 use Rattle.machine.specs.Tables.{place, find, mem}
 use Rattle.machine.specs.Session.{isDue}
 use Rattle.machine.specs.Decision.{decision}
-use Rattle.machine.specs.State.{Value, Lease, Key, blank, Slot, noSession, session, Staged, Row, noRow, row, State, free, freeRow, numbered, on, sessionPlace, sessionOf, rowOf, sessionAt, leaseOn}
+use Rattle.machine.specs.State.{Value, Lease, Key, blank, Slot, noSession, session, Staged, Row, noRow, row, State, freeRow, numbered, on, sessionPlace, sessionOf, rowOf, sessionAt, leaseOn}
 use Rattle.machine.specs.Sound.{sound}
-use Rattle.machine.specs.Expiry.{leave, finish, lapsedValue, unlapsed, lapsedLease, those, expire}
+use Rattle.machine.specs.Expiry.{leave, finish, lapsedValue, lapsedLease, those, expire}
 use Rattle.machine.specs.Refusals.{decide, blocked, Sight, sight, refusal}
 use Rattle.machine.specs.Effects.{lifeEnd, slotEnd, later, latest, leaseEnd, lessNow, wait, leased, missed, looked, effect}
 use Rattle.machine.specs.Step.{settled, step}
-use Rattle.machine.specs.World.{Holds, Sealed}
+use Rattle.machine.specs.World.{HasRow, Sealed}
+use Rattle.machine.specs.WellFormed.{Within, WellFormed}
+use Rattle.machine.specs.Statements.{OpenUntil, Waits, for-lease, for-sealed, for-open}
 use Rattle.machine.specs.declared.Life.{Life}
 use Rattle.machine.specs.declared.Session.{Session}
 use Rattle.machine.specs.declared.Answer.{Answer}
@@ -27,52 +30,24 @@ use Rattle.machine.specs.declared.Command.the-variants.{Get}
 use Rattle.machine.proofs.Views
 use Rattle.machine.proofs.Orderly
 use Rattle.machine.proofs.Accepted
-use Rattle.machine.proofs.WellFormed.{Within, WellFormed}
 use Rattle.machine.proofs.KeepsSound.{well-expired}
-
--- session n is live and open until a deadline
-pub record OpenUntil (s : State) (n until : ℕ) : Type 0 where
-  pub place : ℕ
-  pub live : Session
-  pub is : sessionAt s place ≡ session live
-  pub number : live .number ≡ n
-  pub life : live .life ≡ Life.Open until
-
--- "w is 0 if a sealed session blocks, else the latest blocking deadline less now, so from 1 to the lifetime of the blocking lease"
-pub data Waits (t : State) (now k w : ℕ) : Type 0 where
-  -- an I lease is on the key
-  for-lease : (l : Lease) → leaseOn t k ≡ some l → w + now ≡ l .until → Within 1 (t .head .readLife) w → Waits t now k w
-  -- a sealed session has a row on it
-  for-sealed : (n : ℕ) → Holds (t .rows) n k → Sealed t n → w ≡ 0 → Waits t now k w
-  -- each session with a row on it is open, and n ends last
-  for-open : (n : ℕ) → Holds (t .rows) n k → OpenUntil t n (w + now)
-      → ((m : ℕ) → Holds (t .rows) m k → (until : ℕ) × OpenUntil t m until × (until ≤ w + now))
-      → Within 1 (t .head .writeLife) w → Waits t now k w
 
 -- After expiry
 
 module _ (now : ℕ) (s : State) where
-  lapsed-rest : (o : Option Lease) (l : Lease) → unlapsed now o ≡ some l → now < l .until
-  lapsed-rest none l e = Views.no-some l e
-  lapsed-rest (some m) l e = go (Views.caseOf (leb (m .until) now))
-    where
-      go : (leb (m .until) now ≡ true) ⊎ (leb (m .until) now ≡ false) → now < l .until
-      go (inl q) = Views.no-some l (rw q at e)
-      go (inr q) = let p : some m ≡ some l = rw q at e in subst (λ (x : Lease). now < x .until) (Views.some-eq m l p) (leb-false (m .until) now q)
-
   -- no lease ends at or before now
   pub expired-leases : (k : ℕ) (l : Lease) → leaseOn (expire now s) k ≡ some l → now < l .until
   unfolding expire finish leave
-  expired-leases k l e = lapsed-rest (leaseOn s k) l
-      (ap (λ (x : Key). x .lease) (sym (List·getD-map (lapsedLease now) (s .keys) k blank)) ∙ sym (Views.settle-lease (those (isDue now) (s .sessions)) lapsedValue k (s .rows) (map (lapsedLease now) (s .keys))) ∙ e)
+  expired-leases k l e = Views.unlapsed-was now (leaseOn s k) l
+      (ap (λ (x : Key). x .lease) (sym (List·getD-map (lapsedLease now) (s .keys) k blank)) ∙ sym (Views.settle-lease (those (isDue now) (s .sessions)) lapsedValue k (s .rows) (map (lapsedLease now) (s .keys))) ∙ e) .1
 
   -- and no open session
   pub expired-sessions : (i : ℕ) (x : Session) (until : ℕ) → sessionAt (expire now s) i ≡ session x → x .life ≡ Life.Open until → now < until
   unfolding expire finish leave
-  expired-sessions i x until e q = let r = Orderly.was-session (those (isDue now) (s .sessions)) (s .sessions) i x e in go (r .0) (r .1) (Views.caseOf (leb until now))
+  expired-sessions i x until e q = let r = Orderly.was-session (those (isDue now) (s .sessions)) (s .sessions) i x e in go (r .0) (r .1) (case-of (leb until now))
     where
       go : sessionAt s i ≡ session x → mem (x .number) (those (isDue now) (s .sessions)) ≡ false → (leb until now ≡ true) ⊎ (leb until now ≡ false) → now < until
-      go p m (inl d) = Views.clash _ (Views.those-has (isDue now) (s .sessions) i x p (rw q d)) m
+      go p m (inl d) = clash _ (Views.those-has (isDue now) (s .sessions) i x p (rw q d)) m
       go p m (inr d) = leb-false until now d
 
 -- The latest deadline
@@ -80,7 +55,7 @@ module _ (now : ℕ) (s : State) where
 module _ (s : State) (k : ℕ) where
   -- the deadline of the session with a row, or none
   End : List Row → Option ℕ → Type 0
-  End rs o = (n : ℕ) × Holds rs n k × (slotEnd (sessionOf s n) ≡ o)
+  End rs o = (n : ℕ) × HasRow rs n k × (slotEnd (sessionOf s n) ≡ o)
 
   -- each session with a row on the key ends by then, and one of them then; or there is none
   record Latest (rs : List Row) (until : ℕ) : Type 0 where
@@ -110,7 +85,7 @@ module _ (s : State) (k : ℕ) where
   unfolding LatestOr End
   counted-in n d u rs none b p x = (n, record { place = 0; kind = d; what = u; is = refl }, p)
   counted-in n d u rs (some t) none p x = held-cons (row n k d u) rs none x
-  counted-in n d u rs (some t) (some until) p x = record { each = each; one = one (Views.caseOf (leb until t)) }
+  counted-in n d u rs (some t) (some until) p x = record { each = each; one = one (case-of (leb until t)) }
     where
       each : (i m c : ℕ) (v : Staged) → getD (row n k d u ∷ rs) i noRow ≡ row m k c v → (t′ : ℕ) × (slotEnd (sessionOf s m) ≡ some t′) × (t′ ≤ max t until)
       each zero m c v e = let q : n ≡ m = cc in (t, rw (← q) p, omega arith)
@@ -124,7 +99,7 @@ module _ (s : State) (k : ℕ) where
   unfolding LatestOr
   latest-is [] = record { each = λ i n d u e. Views.no-row n k d u e; one = inl refl }
   latest-is (noRow ∷ rs) = passed-over noRow rs (λ n d u e. Views.no-row n k d u e) (latest s k rs) (latest-is rs)
-  latest-is (row n j d u ∷ rs) = go (Views.caseOf (eqb j k)) (latest-is rs)
+  latest-is (row n j d u ∷ rs) = go (case-of (eqb j k)) (latest-is rs)
     where
       go : (eqb j k ≡ true) ⊎ (eqb j k ≡ false) → LatestOr rs (latest s k rs) → LatestOr (row n j d u ∷ rs) (latest s k (row n j d u ∷ rs))
       go (inl q) x = rw (q, eqb-true j k q) (counted-in n d u rs (slotEnd (sessionOf s n)) (latest s k rs) refl x)
@@ -148,23 +123,19 @@ open-of s n t e = go (sessionOf s n) refl e
     go (session x) p q = let r = Accepted.session-of s n (rw p refl) in record { place = sessionPlace s n; live = x; is = p; number = (let z : session x ≡ session (r .0) = sym p ∙ r .1 in cc); life = ended-open (x .life) t q }
 
 module _ (t : State) (now k : ℕ) (h : WellFormed t now) where
-  sealed-of : (n : ℕ) → Holds (t .rows) n k → slotEnd (sessionOf t n) ≡ none → Sealed t n
+  sealed-of : (n : ℕ) → HasRow (t .rows) n k → slotEnd (sessionOf t n) ≡ none → Sealed t n
   sealed-of n r e =
       let x = h .live (r .place) (r .is) in
-      let y = Accepted.session-of t n (live (sessionOf t n) (Views.find-passes (numbered n) noSession (t .sessions) (x .place) refl (rw (x .is) (eq-eqb (x .live .number) n (x .number))))) in
+      let y = Accepted.session-of t n (Views.numbered-live n (sessionOf t n) (Views.find-passes (numbered n) noSession (t .sessions) (x .place) refl (rw (x .is) (eq-eqb (x .live .number) n (x .number))))) in
       record { place = sessionPlace t n; live = y .0; is = y .1; number = y .2; life = ended-sealed (y .0 .life) (rw (y .1) at e) }
-    where
-      live : (y : Slot) → numbered n y ≡ true → free y ≡ false
-      live noSession p = sym p
-      live (session x) p = refl
 
   -- a key that is blocked with no I lease on it has a row on it
-  blocked-row : blocked t k ≡ true → leaseOn t k ≡ none → (n : ℕ) × Holds (t .rows) n k
+  blocked-row : blocked t k ≡ true → leaseOn t k ≡ none → (n : ℕ) × HasRow (t .rows) n k
   unfolding blocked decide decision
   blocked-row b e = go (find (on k) noRow (t .rows)) refl (Views.find-test (on k) noRow (t .rows))
     where
-      go : (r : Row) → find (on k) noRow (t .rows) ≡ r → (r ≡ noRow) ⊎ (on k r ≡ true) → (n : ℕ) × Holds (t .rows) n k
-      go noRow p q = Views.clash false (rw (p, e) at b) refl
+      go : (r : Row) → find (on k) noRow (t .rows) ≡ r → (r ≡ noRow) ⊎ (on k r ≡ true) → (n : ℕ) × HasRow (t .rows) n k
+      go noRow p q = clash false (rw (p, e) at b) refl
       go (row n j d u) p (inl q) = Views.no-row n j d u (sym q)
       go (row n j d u) p (inr q) = (n, record { place = place (on k) (t .rows); kind = d; what = u; is = p ∙ ap (λ (x : ℕ). row n x d u) (eqb-true j k q) })
 
@@ -178,11 +149,11 @@ module _ (t : State) (now k : ℕ) (h : WellFormed t now) where
       go none p none x = for-sealed (x .0) (x .1) (sealed-of (x .0) (x .1) (x .2)) refl
       go none p (some until) x = last (x .one)
         where
-          held : (n : ℕ) × Holds (t .rows) n k
+          held : (n : ℕ) × HasRow (t .rows) n k
           held = blocked-row b p
 
           -- what a session with a row on the key is open until
-          ends : (m : ℕ) → Holds (t .rows) m k → (u : ℕ) × OpenUntil t m u × (u ≤ until) × (now < u)
+          ends : (m : ℕ) → HasRow (t .rows) m k → (u : ℕ) × OpenUntil t m u × (u ≤ until) × (now < u)
           ends m r = let y = x .each (r .place) m (r .kind) (r .what) (r .is) in let z = open-of t m (y .0) (y .1) in (y .0, z, y .2, sessions (z .place) (z .live) (y .0) (z .is) (z .life))
 
           after : now < until
@@ -191,7 +162,7 @@ module _ (t : State) (now k : ℕ) (h : WellFormed t now) where
           back : until - now + now ≡ until
           back = omega (arith, after)
 
-          last : (until ≡ 0) ⊎ ((n : ℕ) × Holds (t .rows) n k × (slotEnd (sessionOf t n) ≡ some until)) → Waits t now k (until - now)
+          last : (until ≡ 0) ⊎ ((n : ℕ) × HasRow (t .rows) n k × (slotEnd (sessionOf t n) ≡ some until)) → Waits t now k (until - now)
           last (inl z) = absurd (omega (arith, after))
           last (inr z) = let y = open-of t (z .0) until (z .2) in let a = h .sessions .each (y .place) (y .is) .deadline until (y .life) in
               for-open (z .0) (z .1) (rw back y) (λ m r. let v = ends m r in (v .0, v .1, rw back (v .2))) (omega (arith, after), omega (arith, after))
@@ -202,7 +173,7 @@ module _ (t : State) (now k : ℕ) (h : WellFormed t now) where
 looked-backoff : (t : State) (now n k w : ℕ) (o : Option Sight) → looked t now n k o .answer ≡ Answer.Backoff w → (blocked t k ≡ true) × (wait t k now ≡ w)
 unfolding looked missed leased
 looked-backoff t now n k w (some x) e = absurd (let z : _≡_ {A = ℕ} 0 1 = cc in omega arith)
-looked-backoff t now n k w none e = go (Views.caseOf (freeRow (rowOf t n k))) (Views.caseOf (blocked t k))
+looked-backoff t now n k w none e = go (case-of (freeRow (rowOf t n k))) (case-of (blocked t k))
   where
     go : (freeRow (rowOf t n k) ≡ true) ⊎ (freeRow (rowOf t n k) ≡ false) → (blocked t k ≡ true) ⊎ (blocked t k ≡ false) → (blocked t k ≡ true) × (wait t k now ≡ w)
     go (inl p) (inl q) = let z : Answer.Backoff (wait t k now) ≡ Answer.Backoff w = rw (p, q) at e in (q, cc)

@@ -15,10 +15,11 @@ use Rattle.machine.specs.Session.{opened, advanced, sealed, isDue}
 use Rattle.machine.specs.State.{Value, Lease, Key, blank, noSession, session, Staged, nothing, staged, DROP, Row, noRow, row, State, free, freeRow, sessionPlace, sessionOf, rowPlace, rowOf, sessionAt, rowAt, cached, leaseOn}
 use Rattle.machine.specs.Expiry.{withKeys, withRows, withClock, setValue, setLease, freeIfOf, freeSession, settle, leave, finish, lapsedValue, lapsedLease, those, expire}
 use Rattle.machine.specs.Effects.{begins, leased, fills, toCache, onSlot, restaged, withSession, withStaged}
+use Rattle.machine.specs.WellFormed.{Fine, LeaseFits, SessionFits, StagedFits, RowFits, LiveAs, WellFormed, Orderly, Within}
+use Rattle.machine.specs.Words.{INVALIDATE, INCREMENTAL}
 use Rattle.machine.specs.declared.Session.{Session}
 use Rattle.machine.proofs.Views
 use Rattle.machine.proofs.Orderly
-use Rattle.machine.proofs.WellFormed.{Fine, LeaseFits, SessionFits, StagedFits, RowFits, LiveAs, WellFormed}
 
 -- time passes
 pub well-later : (s : State) (a b : ℕ) → a ≤ b → b ≤ timeMax → WellFormed s a → WellFormed s b
@@ -195,7 +196,7 @@ module _ (s : State) (now : ℕ) (h : WellFormed s now) where
       still : (j : ℕ) (x : Session) → sessionAt s j ≡ session x → getD (set (s .sessions) at (session new)) j noSession ≡ session x
       still j x e = elim (Orderly.still-set (s .sessions) at (session new) j noSession (session x) (Views.no-session x) e) [
         | inl p ↦ p
-        | inr p ↦ Views.no-session x (sym (Views.free-is-not (sessionAt s at) (Views.free-place free noSession (s .sessions) refl)) ∙ ap (sessionAt s) (p .0) ∙ e)
+        | inr p ↦ Views.no-session x (sym (Views.free-slot-is (sessionAt s at) (Views.free-place free noSession (s .sessions) refl)) ∙ ap (sessionAt s) (p .0) ∙ e)
       ]
 
   -- the session of number n is put through f, which keeps its number
@@ -225,8 +226,8 @@ module _ (s : State) (now : ℕ) (h : WellFormed s now) where
       record { positive = y .positive; steps = y .steps; deadline = λ t p. absurd (let z : _≡_ {A = ℕ} 0 1 = cc in omega arith) })
 
   -- QUAR granted: to a live session with no row on the key
-  pub well-granted : (n k kind : ℕ) → k < keyCount → (1 ≤ kind) × (kind ≤ 3) → LiveAs (s .sessions) n → ((i d : ℕ) (v : Staged) → rowAt s i ≡ row n k d v → ⊥)
-      → ((i m d : ℕ) (v : Staged) → rowAt s i ≡ row m k d v → (kind ≡ 1) × (d ≡ 1))
+  pub well-granted : (n k kind : ℕ) → k < keyCount → Within INVALIDATE INCREMENTAL kind → LiveAs (s .sessions) n → ((i d : ℕ) (v : Staged) → rowAt s i ≡ row n k d v → ⊥)
+      → ((i m d : ℕ) (v : Staged) → rowAt s i ≡ row m k d v → (kind ≡ INVALIDATE) × (d ≡ INVALIDATE))
       → WellFormed (withKeys (withRows s (putAt freeRow (row n k kind nothing) (s .rows))) (setLease (s .keys) k none)) now
   well-granted n k kind small range alive unheld sharing = record {
     orderly = Orderly.orderly-granted s n k kind range sharing (h .orderly);
@@ -265,7 +266,7 @@ module _ (s : State) (now : ℕ) (h : WellFormed s now) where
       two i j m q d c u v (inr x) (inr y) = sym (x .0) ∙ y .0
 
   -- what is staged in the row of session n on key k becomes u, which fits its kind
-  pub well-restaged : (n k : ℕ) (u : Staged) → ((i d : ℕ) (v : Staged) → rowAt s i ≡ row n k d v → StagedFits d u) → Orderly.Orderly (withStaged s n k u) → WellFormed (withStaged s n k u) now
+  pub well-restaged : (n k : ℕ) (u : Staged) → ((i d : ℕ) (v : Staged) → rowAt s i ≡ row n k d v → StagedFits d u) → Orderly (withStaged s n k u) → WellFormed (withStaged s n k u) now
   well-restaged n k u fits o = record {
     orderly = o;
     head = h .head;
@@ -284,7 +285,7 @@ module _ (s : State) (now : ℕ) (h : WellFormed s now) where
           record { key = x .key; what = elim (r .2) [ inl p ↦ rw p (x .what) | inr p ↦ rw (p .2) (fits i d (r .0) (rw (p .0, p .1) at (r .1))) ] }
 
 -- STAGE and DELTA: the session's count has room, and its row on the key, which is no invalidation, takes u
-pub well-staged : (s : State) (now : ℕ) (h : WellFormed s now) (n k i d : ℕ) (u v : Staged) → rowAt s i ≡ row n k d v → (d ≡ 1 → ⊥) → StagedFits d u
+pub well-staged : (s : State) (now : ℕ) (h : WellFormed s now) (n k i d : ℕ) (u v : Staged) → rowAt s i ≡ row n k d v → (d ≡ INVALIDATE → ⊥) → StagedFits d u
     → ((j : ℕ) (x : Session) → sessionAt s j ≡ session x → x .number ≡ n → x .count < stepMax) → WellFormed (withStaged (withSession s n advanced) n k u) now
 well-staged s now h n k i d u v mine apart fits room = well-restaged (withSession s n advanced) now stepped n k u same (Orderly.orderly-staged s n k i d u v mine apart (h .orderly))
   where

@@ -1,5 +1,5 @@
 -- How a state changes: its parts replaced, sessions ended; and 01, "Expiry comes first".
-use mathlib.Core.Bool.{Bool, true, false}
+use mathlib.Core.Bool.{Bool}
 use mathlib.Core.List.{List, [], _∷_, map}
 use mathlib.Core.Option.{Option, none, some}
 use Prim.Native.Nat.{ℕ}
@@ -8,7 +8,7 @@ use lib.ListN.{getD, set}
 use Rattle.lent.specs.Tables.{if_then_else_}
 use Rattle.machine.specs.Tables.{mem}
 use Rattle.machine.specs.Session.{isDue}
-use Rattle.machine.specs.State.{Value, Head, Lease, Key, blank, Slot, noSession, session, Staged, nothing, staged, DROP, Row, noRow, row, State}
+use Rattle.machine.specs.State.{Value, Head, Lease, Key, blank, Slot, noSession, session, Staged, Row, noRow, row, State}
 use Rattle.machine.specs.declared.Session.{Session}
 
 abbrev pub withHead : State → Head → State

@@ -10,5 +10,8 @@ pub mod Refusals
 pub mod Effects
 pub mod Step
 pub mod World
+pub mod WellFormed
+pub mod Statements
 pub mod Test
 pub mod Examples
+pub mod Witness

@@ -1,19 +1,18 @@
 -- 01, "Refusal numbers": the tests of each command, in the order of the table; the first that holds is given.
-use mathlib.Core.Bool.{Bool, true, false, not, _&&_, _||_}
+use mathlib.Core.Bool.{Bool, false, not, _&&_, _||_}
 use mathlib.Core.List.{List, [], _∷_}
 use mathlib.Core.Option.{Option, none, some}
-use Prim.Native.Nat.{ℕ, suc, _+_, _*_}
+use Prim.Native.Nat.{ℕ, suc}
 use lib.Dec.{eqb, leb, ltb}
 use lib.ListN.{length}
 use Rattle.lent.specs.Tables.{if_then_else_}
 use Rattle.machine.specs.Sizes.{keyCount, sessionCount, rowCount, valueMax, stepMax, timeMax, numberMax, valueAt, stagedAt}
-use Rattle.machine.specs.Tables.{place, find, count, first, isNone}
+use Rattle.machine.specs.Tables.{find, count, first, isNone}
 use Rattle.machine.specs.Words.{CLOCK, ARG, LONG, NO-SESSION, SEALED, NOT-SEALED, NO-LEASE, KIND, AHEAD, FULL, ROOM, NUMBERS, INVALIDATE, REFRESH, INCREMENTAL, isKind, isOperation}
 use Rattle.machine.specs.Session.{isSealed}
 use Rattle.machine.specs.Decision.{decision, grants}
 use Rattle.machine.specs.Sound.{lifetime}
-use Rattle.machine.specs.State.{Value, Slot, noSession, session, Staged, nothing, staged, DROP, Row, noRow, row, State, free, freeRow, on, kindOf, sessionOf, rowPlace, rowOf, cached, leaseOn}
-use Rattle.machine.specs.declared.Session.{Session}
+use Rattle.machine.specs.State.{Value, Slot, noSession, session, nothing, staged, DROP, Row, noRow, row, State, free, freeRow, on, kindOf, sessionOf, rowPlace, rowOf, cached, leaseOn}
 use Rattle.machine.specs.declared.Verdict.{Verdict}
 use Rattle.machine.specs.declared.Command.{Command}
 use Rattle.machine.specs.declared.Command.the-variants.{Begin, Get, Fill, Quar, Stage, Delta, Validate, Done, Undo, Evict, Tick}

@@ -38,7 +38,7 @@ abbrev pub headSize : ℕ
 headSize = 64
 
 abbrev pub keysFrom : ℕ
-keysFrom = 64
+keysFrom = headSize
 
 abbrev pub keyWidth : ℕ
 keyWidth = 80

@@ -1,16 +1,14 @@
 -- 01, "A state is well formed if all this holds": each condition with its name.
 use Prim.Native.Nat.{ℕ, _+_}
-use mathlib.Core.Bool.{Bool, true, false, not, _&&_}
-use mathlib.Core.List.{List, [], _∷_}
+use mathlib.Core.Bool.{Bool, true, not, _&&_}
 use mathlib.Core.Option.{Option, none, some}
 use lib.ListN.{length, getD}
 use lib.Dec.{eqb, leb, ltb}
 use Rattle.lent.specs.Tables.{if_then_else_, every, some as someAt}
 use Rattle.machine.specs.Sizes.{keyCount, sessionCount, rowCount, valueMax, stepMax, lifeMax, timeMax, numberMax}
-use Rattle.machine.specs.Words.{INVALIDATE, INCREMENTAL, within, isKind}
-use Rattle.machine.specs.State.{Value, Head, Lease, Key, Slot, noSession, session, Staged, nothing, staged, DROP, Row, noRow, row, State, blank, keyOf, sessionAt, rowAt}
+use Rattle.machine.specs.Words.{INVALIDATE, INCREMENTAL, within, isKind, REFRESH}
+use Rattle.machine.specs.State.{Value, Head, Lease, Key, Slot, noSession, session, Staged, nothing, staged, DROP, Row, noRow, row, State, keyOf, sessionAt, rowAt}
 use Rattle.machine.specs.declared.Life.{Life}
-use Rattle.machine.specs.declared.Session.{Session}
 
 -- The numbers of the state
 
@@ -67,7 +65,7 @@ sessionSound h (session x) = given (h .nextSession) (x .number) && (leb (x .coun
 -- only kind 3 stages DROP; kind 1 stages nothing
 abbrev pub stagedSound : ℕ → Staged → Bool
 stagedSound d nothing = true
-stagedSound d (staged v) = leb 2 d && valueSound v
+stagedSound d (staged v) = leb REFRESH d && valueSound v
 stagedSound d DROP = eqb d INCREMENTAL
 
 -- a session number that is not 0, a key below 256, a kind 1 to 3

@@ -1,8 +1,8 @@
 -- Tables as lists: the first entry that passes a test, how many pass, a member of a list of numbers, and "the first that applies".
-use mathlib.Core.Bool.{Bool, true, false, not, _||_}
+use mathlib.Core.Bool.{Bool, true, false, _||_}
 use mathlib.Core.List.{List, [], _∷_}
 use mathlib.Core.Option.{Option, none, some}
-use Prim.Native.Nat.{ℕ, zero, suc, _+_}
+use Prim.Native.Nat.{ℕ, suc, _+_}
 use lib.Dec.{eqb}
 use lib.ListN.{getD, set}
 use Rattle.lent.specs.Tables.{if_then_else_}

@@ -5,7 +5,7 @@ use Prim.Native.Nat.{ℕ}
 use lib.Dec.{eqb}
 use Rattle.lent.specs.Tables.{if_then_else_, same}
 use Rattle.machine.specs.Tables.{any}
-use Rattle.machine.specs.Words.{wordOf}
+use Rattle.machine.specs.Words.{wordOf, STORED, DONE, UNDONE}
 use Rattle.machine.specs.State.{Value, nothing, staged, DROP, Row, noRow, row, freeRow, rowOf}
 use Rattle.machine.specs.Refusals.{sealedIn}
 use Rattle.machine.specs.Step.{step}
@@ -25,13 +25,13 @@ differs register n (row m k d DROP) = false
 abbrev pub brokenBy : World → Command → Value → Answer → ℕ
 brokenBy w Begin v a = 0
 brokenBy w (Get n k) v a = 0
-brokenBy w (Fill t k) v a = if eqb (wordOf a) 7 && not (any (same v) (w .since t k)) then 1 else 0
+brokenBy w (Fill t k) v a = if eqb (wordOf a) STORED && not (any (same v) (w .since t k)) then 1 else 0
 brokenBy w (Quar n k d) v a = 0
 brokenBy w (Stage n i k) v a = 0
 brokenBy w (Delta n i k o) v a = 0
 brokenBy w (Validate n m) v a = 0
-brokenBy w (Done n) v a = if eqb (wordOf a) 17 && any (differs (w .register) n) (w .state .rows) then 4 else 0
-brokenBy w (Undo n) v a = if eqb (wordOf a) 18 && w .wrote n then 3 else 0
+brokenBy w (Done n) v a = if eqb (wordOf a) DONE && any (differs (w .register) n) (w .state .rows) then 4 else 0
+brokenBy w (Undo n) v a = if eqb (wordOf a) UNDONE && w .wrote n then 3 else 0
 brokenBy w (Evict k) v a = 0
 brokenBy w Tick v a = 0
 

@@ -10,7 +10,7 @@ use lib.ListN.{getD}
 use Rattle.lent.specs.Bytes.{Bytes}
 use Rattle.lent.specs.Tables.{if_then_else_}
 use Rattle.machine.specs.Tables.{any}
-use Rattle.machine.specs.Words.{wordOf, detailOf}
+use Rattle.machine.specs.Words.{wordOf, detailOf, LEASE}
 use Rattle.machine.specs.State.{Value, session, Staged, staged, Row, noRow, row, State, fresh, on, rowOf, cached, sessionAt, rowAt}
 use Rattle.machine.specs.Expiry.{expire}
 use Rattle.machine.specs.Refusals.{notLive}
@@ -51,12 +51,12 @@ abbrev pub quarantined : State → ℕ → Bool
 quarantined s k = any (on k) (s .rows)
 
 -- after START: "The register holds one value of 0 to 64 bytes per key, empty at first"
-abbrev pub begun : ℕ → ℕ → World
-begun readLife writeLife = record { state = fresh readLife writeLife; register = λ k. []; began = λ k. []; since = λ t k. []; wrote = λ n. false }
+abbrev pub freshWorld : ℕ → ℕ → World
+freshWorld readLife writeLife = record { state = fresh readLife writeLife; register = λ k. []; began = λ k. []; since = λ t k. []; wrote = λ n. false }
 
 -- a grant of token t begins its record with what the register holds
 abbrev pub sinceGrant : (ℕ → Value) → (ℕ → ℕ → List Value) → Answer → ℕ → ℕ → List Value
-sinceGrant register since a = λ t k. if eqb (wordOf a) 6 && eqb (detailOf a) t then register k ∷ [] else since t k
+sinceGrant register since a = λ t k. if eqb (wordOf a) LEASE && eqb (detailOf a) t then register k ∷ [] else since t k
 
 -- "A quarantine is unbroken as long as after every step some Q row is on the key"
 unfoldable pub commanded : World → Outcome → World
@@ -88,7 +88,7 @@ run w (e ∷ l) = run (next w e) l
 -- The clients' four rules
 
 -- session n has a row on key k; n is live and sealed
-pub record Holds (rows : List Row) (n k : ℕ) : Type 0 where
+pub record HasRow (rows : List Row) (n k : ℕ) : Type 0 where
   pub place : ℕ
   pub kind : ℕ
   pub what : Staged
@@ -124,7 +124,7 @@ expired w now = record { state = expire now (w .state); register = w .register; 
 -- 2: "The register writes a key only for a live sealed session with a row on that key"
 abbrev pub Kept : World → Event → Type 0
 Kept w (command now c v) = Rules (expired w now) c v (step (w .state) now c v .answer)
-Kept w (write n k v) = Sealed (w .state) n × Holds (w .state .rows) n k
+Kept w (write n k v) = Sealed (w .state) n × HasRow (w .state .rows) n k
 
 abbrev pub AllKept : World → List Event → Type 0
 AllKept w [] = Unit {0}

@@ -1,7 +1,7 @@
 // The words of the machine: commands, answers, the session record with its methods, and the decision table.
 ghost use mathlib.Core.Path.{_≡_};
 ghost use Prim.Native.Nat.{_<_};
-ghost use Rattle.machine.specs.Session.{opened, stepOf, advanced, sealed, isSealed, isDue, validationOf};
+ghost use Rattle.machine.specs.Session.{opened, stepOf, sealed, isSealed, isDue, validationOf};
 ghost use Rattle.machine.specs.Sizes.{stepMax};
 
 // 01, "Refusal numbers".

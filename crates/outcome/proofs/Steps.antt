@@ -6,9 +6,10 @@ use mathlib.Core.Path.{_≡_, refl, sym, ap, _∙_}
 use mathlib.Core.Bool.{Bool, true, false, _||_}
 use mathlib.Core.Option.{Option, none, some}
 use lib.Dec.{eqb, ltb}
+use Rattle.lent.proofs.Choices.{clash}
 use Rattle.machine.specs.Sizes.{timeMax}
 use Rattle.machine.specs.Tables.{first}
-use Rattle.machine.specs.Words.{wordOf, wordsOf}
+use Rattle.machine.specs.Words.{wordOf, wordsOf, CLOCK}
 use Rattle.machine.specs.State.{Value, State}
 use Rattle.machine.specs.Expiry.{withClock, expire}
 use Rattle.machine.specs.Refusals.{refusals, refusal}
@@ -16,7 +17,6 @@ use Rattle.machine.specs.Effects.{Outcome, told, effect}
 use Rattle.machine.specs.Step.{settled, step}
 use Rattle.machine.specs.declared.Answer.{Answer}
 use Rattle.machine.specs.declared.Command.{Command}
-use Rattle.machine.proofs.Views.{clash}
 use Rattle.machine.proofs.Refused.{effect-accepts}
 use Rattle.outcome.specs.Outcome.{unless, tried, acted, isRefused}
 
@@ -29,7 +29,7 @@ clockBad s now = ltb now (s .head .clock) || ltb timeMax now
 
 module _ (s : State) (now : ℕ) (c : Command) (v : Value) where
   -- CLOCK comes first
-  pub acted-late : clockBad s now ≡ true → acted s now c v ≡ told (Answer.Refused 2) s
+  pub acted-late : clockBad s now ≡ true → acted s now c v ≡ told (Answer.Refused CLOCK) s
   unfolding acted refusal settled
   acted-late e = rw e
 

@@ -6,11 +6,11 @@ use mathlib.Core.List.{List, [], _∷_, map}
 use Prim.Native.Nat.{ℕ}
 use Rattle.lent.specs.Bytes.{Bytes}
 use Rattle.lent.specs.Tables.{every}
+use Rattle.lent.proofs.Choices.{and-yes}
 use Rattle.machine.specs.State.{State, fresh}
 use Rattle.machine.specs.Sound.{valueSound}
-use Rattle.machine.specs.Examples.{Line, Told, after, answers, Example, told, examples}
+use Rattle.machine.specs.Examples.{Line, Told, after, answers, Example, answered, examples}
 use Rattle.machine.specs.declared.Answer.{Answer}
-use Rattle.machine.proofs.Views.{and-true₁, and-true₂}
 use Rattle.machine.proofs.SoundMeans.{value-means}
 use Rattle.machine.proofs.Examples.{examples-hold}
 use Rattle.layout.specs.Layout.{decode}
@@ -28,11 +28,11 @@ valued (x ∷ l) = valueSound (x .value) && valued l
 module _ (x : Line) (l : List Line) (h : valued (x ∷ l) ≡ true) where
   head-bytes : Bytes (x .value)
   unfolding valued
-  head-bytes = value-means (x .value) (and-true₁ (valueSound (x .value)) (valued l) h) .bytes
+  head-bytes = value-means (x .value) (and-yes (valueSound (x .value)) (valued l) h .0) .bytes
 
   rest-valued : valued l ≡ true
   unfolding valued
-  rest-valued = and-true₂ (valueSound (x .value)) (valued l) h
+  rest-valued = and-yes (valueSound (x .value)) (valued l) h .1
 
 -- the commands that come first
 after-formed : (b : List ℕ) (l : List Line) → valued l ≡ true → wellFormed b ≡ true → wellFormed (afterBytes b l) ≡ true
@@ -62,19 +62,19 @@ unfolding valuedIn valued every
 examples-valued = refl
 
 module _ (b : List ℕ) (ready : startOf b 1000 5000 .answer ≡ Answer.Ready) where
-  told-follows : (e : Example) → valued (e .first) ≡ true → valued (e .then) ≡ true → toldBytes b e ≡ told e
+  told-follows : (e : Example) → valued (e .first) ≡ true → valued (e .then) ≡ true → toldBytes b e ≡ answered e
   told-follows e p q =
       let f = ready-formed b 1000 5000 ready in
       answers-follow (afterBytes (startOf b 1000 5000 .bytes) (e .first)) (e .then) q (after-formed (startOf b 1000 5000 .bytes) (e .first) p f)
       ∙ ap (λ (s : State). answers s (e .then)) (after-follows (startOf b 1000 5000 .bytes) (e .first) p f ∙ ap (λ (s : State). after s (e .first)) (ready-decodes b 1000 5000 ready))
 
-  all-follow : (l : List Example) → valuedIn l ≡ true → map (toldBytes b) l ≡ map told l
+  all-follow : (l : List Example) → valuedIn l ≡ true → map (toldBytes b) l ≡ map answered l
   unfolding valuedIn
   all-follow [] h = refl
   all-follow (e ∷ l) h =
-      let p = and-true₁ (valued (e .first) && valued (e .then)) (valuedIn l) h in
-      let q = told-follows e (and-true₁ (valued (e .first)) (valued (e .then)) p) (and-true₂ (valued (e .first)) (valued (e .then)) p) in
-      rw (q, all-follow l (and-true₂ (valued (e .first) && valued (e .then)) (valuedIn l) h)) refl
+      let p = and-yes (valued (e .first) && valued (e .then)) (valuedIn l) h .0 in
+      let q = told-follows e (and-yes (valued (e .first)) (valued (e .then)) p .0) (and-yes (valued (e .first)) (valued (e .then)) p .1) in
+      rw (q, all-follow l (and-yes (valued (e .first) && valued (e .then)) (valuedIn l) h .1)) refl
 
   pub examples-run : map (toldBytes b) examples ≡ map (λ (e : Example). e .gives) examples
   examples-run = all-follow examples examples-valued ∙ examples-hold

@@ -9,6 +9,7 @@ use Prim.Native.Nat.{ℕ}
 use lib.Dec.{eqb}
 use lib.ListN.{length}
 use Rattle.lent.specs.Bytes.{Bytes}
+use Rattle.lent.proofs.Choices.{case-of, clash, if-ind}
 use Rattle.machine.specs.Words.{wordOf}
 use Rattle.machine.specs.State.{Value, State, freeRow, rowOf}
 use Rattle.machine.specs.Expiry.{withClock, expire}
@@ -17,7 +18,6 @@ use Rattle.machine.specs.Effects.{Outcome, told, wait, leased, missed, looked, 
 use Rattle.machine.specs.Step.{settled, step, Shown, seen, show}
 use Rattle.machine.specs.declared.Answer.{Answer}
 use Rattle.machine.specs.declared.Command.the-variants.{Get}
-use Rattle.machine.proofs.Views.{caseOf, clash, if-ind}
 use Rattle.machine.proofs.Accepted.{passed}
 use Rattle.layout.specs.Layout.{decode}
 use Rattle.layout.specs.WellFormed.{wellFormed}
@@ -72,7 +72,7 @@ module _ (s : State) (now n k at size : ℕ) (v : Value) where
 pub hit-shown-bytes : (b : List ℕ) (now n k at size : ℕ) (v : Value) → Bytes v → ran b now (Get n k) v .answer ≡ Answer.Hit at size
     → Gives at size (step (decode b) now (Get n k) v .handed) (showOf (ran b now (Get n k) v .bytes) n k)
 unfolding showOf
-hit-shown-bytes b now n k at size v x p = go (caseOf (wellFormed b))
+hit-shown-bytes b now n k at size v x p = go (case-of (wellFormed b))
   where
     go : (wellFormed b ≡ true) ⊎ (wellFormed b ≡ false) → Gives at size (step (decode b) now (Get n k) v .handed) (showOf (ran b now (Get n k) v .bytes) n k)
     go (inl f) = rw (formed-kept b now (Get n k) v x f, decode-ran b now (Get n k) v x f) (hit-shown (decode b) now n k at size v (sym (ap (λ (r : Reply). r .answer) (ran-formed b now (Get n k) v f)) ∙ p))

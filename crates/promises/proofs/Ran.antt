@@ -10,6 +10,7 @@ use lib.Dec.{eqb}
 use lib.ListN.{length}
 use borrow.Author.Tests.{eqb-true, eqb-false}
 use Rattle.lent.specs.Bytes.{Bytes}
+use Rattle.lent.proofs.Choices.{case-of, clash}
 use Rattle.machine.specs.State.{Value}
 use Rattle.machine.specs.Sizes.{stateSize}
 use Rattle.machine.specs.Words.{wordOf}
@@ -17,7 +18,6 @@ use Rattle.machine.specs.Sound.{lifetime, sound}
 use Rattle.machine.specs.Step.{step}
 use Rattle.machine.specs.declared.Answer.{Answer}
 use Rattle.machine.specs.declared.Command.{Command}
-use Rattle.machine.proofs.Views.{caseOf, clash}
 use Rattle.machine.proofs.Refused.{refused-keeps}
 use Rattle.machine.proofs.KeepsSound.{step-sound}
 use Rattle.layout.specs.Layout.{encode, decode}
@@ -39,7 +39,7 @@ module _ (b : List ℕ) (now : ℕ) (c : Command) (v : Value) where
 
   -- demand 1: a refusal leaves every byte
   pub refused-bytes : (e : ℕ) → ran b now c v .answer ≡ Answer.Refused e → ran b now c v .bytes ≡ b
-  refused-bytes e p = go (caseOf (wellFormed b))
+  refused-bytes e p = go (case-of (wellFormed b))
     where
       go : (wellFormed b ≡ true) ⊎ (wellFormed b ≡ false) → ran b now c v .bytes ≡ b
       go (inl f) =
@@ -60,7 +60,7 @@ module _ (b : List ℕ) (now : ℕ) (c : Command) (v : Value) where
 
 -- demand 1 of START
 pub refused-start : (b : List ℕ) (readLife writeLife e : ℕ) → startOf b readLife writeLife .answer ≡ Answer.Refused e → startOf b readLife writeLife .bytes ≡ b
-refused-start b readLife writeLife e p = sized (caseOf (eqb (length b) stateSize))
+refused-start b readLife writeLife e p = sized (case-of (eqb (length b) stateSize))
   where
     lives : length b ≡ stateSize → (lifetime readLife ≡ true) ⊎ (lifetime readLife ≡ false) → (lifetime writeLife ≡ true) ⊎ (lifetime writeLife ≡ false) → startOf b readLife writeLife .bytes ≡ b
     lives l (inl r) (inl w) = clash (eqb (wordOf (startOf b readLife writeLife .answer)) 0) (rw p refl) (rw (started-ready b readLife writeLife l r w) refl)
@@ -68,5 +68,5 @@ refused-start b readLife writeLife e p = sized (caseOf (eqb (length b) stateSize
     lives l (inr r) w = ap (λ (x : Reply). x .bytes) (started-read b readLife writeLife l r)
 
     sized : (eqb (length b) stateSize ≡ true) ⊎ (eqb (length b) stateSize ≡ false) → startOf b readLife writeLife .bytes ≡ b
-    sized (inl l) = lives (eqb-true (length b) stateSize l) (caseOf (lifetime readLife)) (caseOf (lifetime writeLife))
+    sized (inl l) = lives (eqb-true (length b) stateSize l) (case-of (lifetime readLife)) (case-of (lifetime writeLife))
     sized (inr l) = ap (λ (x : Reply). x .bytes) (started-size b readLife writeLife (eqb-false (length b) stateSize l))

@@ -8,13 +8,14 @@ use native.Mathlib.Omega.{arith}
 use lib.Dec.{ltb}
 use borrow.Author.Tests.{ltb-true}
 use lib.ListN.{length, take, drop, take-append-drop}
+use Rattle.lent.specs.Bytes.{Bytes}
+use Rattle.lent.proofs.Choices.{and-yes}
 use Rattle.machine.specs.Sizes.{stateSize}
 use Rattle.machine.specs.State.{Value, State}
-use Rattle.machine.specs.World.{Event, command, write, World, begun, AllKept, Consistent, AllBytes}
+use Rattle.machine.specs.World.{Event, command, write, World, freshWorld, AllKept, Consistent, AllBytes}
+use Rattle.machine.specs.Witness.{events}
 use Rattle.machine.specs.declared.Answer.{Answer}
-use Rattle.machine.proofs.Views.{and-true₁, and-true₂}
-use Rattle.machine.proofs.WellFormed.{Bytes}
-use Rattle.machine.proofs.Witness.{events, witness-kept}
+use Rattle.machine.proofs.Witness.{witness-kept}
 use Rattle.layout.specs.WellFormed.{wellFormed}
 use Rattle.startup.specs.Start.{Reply, startOf}
 use Rattle.startup.proofs.Started.{started-ready}
@@ -38,8 +39,8 @@ byteTest (x ∷ v) = ltb x 256 && byteTest v
 
 pub byte-test : (v : Value) → byteTest v ≡ true → Bytes v
 byte-test [] e i = omega arith
-byte-test (x ∷ v) e zero = ltb-true x 256 (and-true₁ (ltb x 256) (byteTest v) e)
-byte-test (x ∷ v) e (suc i) = byte-test v (and-true₂ (ltb x 256) (byteTest v) e) i
+byte-test (x ∷ v) e zero = ltb-true x 256 (and-yes (ltb x 256) (byteTest v) e .0)
+byte-test (x ∷ v) e (suc i) = byte-test v (and-yes (ltb x 256) (byteTest v) e .1) i
 
 abbrev pub valuesTest : List Event → Bool
 valuesTest [] = true
@@ -48,16 +49,16 @@ valuesTest (write n k v ∷ es) = valuesTest es
 
 pub values-test : (es : List Event) → valuesTest es ≡ true → AllBytes es
 values-test [] e = tt
-values-test (command now c v ∷ es) e = (byte-test v (and-true₁ (byteTest v) (valuesTest es) e), values-test es (and-true₂ (byteTest v) (valuesTest es) e))
+values-test (command now c v ∷ es) e = (byte-test v (and-yes (byteTest v) (valuesTest es) e .0), values-test es (and-yes (byteTest v) (valuesTest es) e .1))
 values-test (write n k v ∷ es) e = (tt, values-test es e)
 
 witness-values : AllBytes events
 witness-values = values-test events refl
 
-begun-bytes : (b : List ℕ) → startOf b 1000 5000 .answer ≡ Answer.Ready → worldOf (begunOn (startOf b 1000 5000 .bytes)) ≡ begun 1000 5000
+begun-bytes : (b : List ℕ) → startOf b 1000 5000 .answer ≡ Answer.Ready → worldOf (begunOn (startOf b 1000 5000 .bytes)) ≡ freshWorld 1000 5000
 begun-bytes b ready = ap (λ (s : State). record { state = s; register = λ k. []; began = λ k. []; since = λ t k. []; wrote = λ n. false }) (ready-decodes b 1000 5000 ready)
 
-kept-begun : (b : List ℕ) → startOf b 1000 5000 .answer ≡ Answer.Ready → (es : List Event) → AllKept (begun 1000 5000) es → AllKept (worldOf (begunOn (startOf b 1000 5000 .bytes))) es
+kept-begun : (b : List ℕ) → startOf b 1000 5000 .answer ≡ Answer.Ready → (es : List Event) → AllKept (freshWorld 1000 5000) es → AllKept (worldOf (begunOn (startOf b 1000 5000 .bytes))) es
 kept-begun b ready es h = rw (begun-bytes b ready) h
 
 module _ (b : List ℕ) (size : length b ≡ stateSize) where

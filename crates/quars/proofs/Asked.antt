@@ -12,7 +12,7 @@ use Rattle.lent.specs.Tables.{if_then_else_}
 use Rattle.lent.proofs.Choices.{clash}
 use Rattle.machine.specs.Sizes.{keyCount, rowCount}
 use Rattle.machine.specs.Tables.{place, first}
-use Rattle.machine.specs.Words.{isKind}
+use Rattle.machine.specs.Words.{isKind, ARG, ROOM}
 use Rattle.machine.specs.Decision.{decision, grants}
 use Rattle.machine.specs.State.{noRow, row, Slot, noSession, session, nothing, State, freeRow, kindOf, rowOf, numbered, sessionAt}
 use Rattle.machine.specs.Expiry.{withKeys, withRows, setLease}
@@ -43,7 +43,7 @@ module _ (s : State) (n k kind : ℕ) where
   -- ---- a free row
 
   module _ (l : length (s .rows) ≡ rowCount) where
-    pub grant-full : found rowCount (place freeRow (s .rows)) ≡ Found.Nothing → grant s n k kind ≡ told (Answer.Refused 12) s
+    pub grant-full : found rowCount (place freeRow (s .rows)) ≡ Found.Nothing → grant s n k kind ≡ told (Answer.Refused ROOM) s
     grant-full f = rw (found-full freeRow noRow (s .rows) rowCount l f)
 
     pub grant-room : (i : ℕ) → found rowCount (place freeRow (s .rows)) ≡ Found.At i
@@ -78,28 +78,28 @@ module _ (s : State) (n k kind : ℕ) where
 
   -- ---- its arguments and its session
 
-  pub quar-key : keyCount ≤ k → tried s 0 (Quar n k kind) [] ≡ told (Answer.Refused 3) s
+  pub quar-key : keyCount ≤ k → tried s 0 (Quar n k kind) [] ≡ told (Answer.Refused ARG) s
   unfolding tried refusals
   quar-key h = rw (le-leb keyCount k h)
 
-  pub quar-kind : isKind kind ≡ false → tried s 0 (Quar n k kind) [] ≡ told (Answer.Refused 3) s
+  pub quar-kind : isKind kind ≡ false → tried s 0 (Quar n k kind) [] ≡ told (Answer.Refused ARG) s
   unfolding tried refusals
   quar-kind e = rw (e, or-true (badKey k))
 
   module _ (a : k < keyCount) (d : isKind kind ≡ true) where
     pub quar-refused : (e : ℕ) → askerOf s n ≡ Asker.Refused e → tried s 0 (Quar n k kind) [] ≡ told (Answer.Refused e) s
     unfolding tried refusals
-    quar-refused e q = rw (lt-leb keyCount k a, d, first-asker s n ((wouldGrant s n k kind && rowsFull s, 12) ∷ []), q)
+    quar-refused e q = rw (lt-leb keyCount k a, d, first-asker s n ((wouldGrant s n k kind && rowsFull s, ROOM) ∷ []), q)
 
     pub quar-open : (i : ℕ) (x : Session) → askerOf s n ≡ Asker.Open i x → tried s 0 (Quar n k kind) [] ≡ hold s n k kind
     unfolding tried refusals effect hold ask wouldGrant asks
     quar-open i x q =
-        rw (lt-leb keyCount k a, d, first-asker s n ((wouldGrant s n k kind && rowsFull s, 12) ∷ []), q)
+        rw (lt-leb keyCount k a, d, first-asker s n ((wouldGrant s n k kind && rowsFull s, ROOM) ∷ []), q)
         (go (eqb (kindOf (rowOf s n k)) kind) (grants (decide s k kind)) (rowsFull s))
       where
         go : (t u f : Bool)
-            → unless (first ((not t && u && f, 12) ∷ [])) s (if t then told Answer.Held s else if u then granted s n k kind else abort s n)
-            ≡ (if t then told Answer.Held s else if u then (if f then told (Answer.Refused 12) s else granted s n k kind) else abort s n)
+            → unless (first ((not t && u && f, ROOM) ∷ [])) s (if t then told Answer.Held s else if u then granted s n k kind else abort s n)
+            ≡ (if t then told Answer.Held s else if u then (if f then told (Answer.Refused ROOM) s else granted s n k kind) else abort s n)
         go true u f = refl
         go false true true = refl
         go false true false = refl

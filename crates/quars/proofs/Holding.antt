@@ -9,7 +9,6 @@ use lib.ListN.{length}
 use borrow.Author.Tests.{ne-eqb}
 use Rattle.machine.specs.Sizes.{rowCount}
 use Rattle.machine.specs.State.{noRow, State, ofOn, kindOf, rowPlace, rowOf, rowAt}
-use Rattle.machine.proofs.SoundFacts as facts
 use Rattle.layout.specs.Search.{found}
 use Rattle.layout.specs.declared.Found.{Found}
 use Rattle.layout.proofs.Search.{found-entry, nothing-entry}

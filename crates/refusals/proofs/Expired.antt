@@ -1,35 +1,31 @@
 -- A sound state after expiry, part by part. Numbers differ, so the session of a number is the one it was, or nobody if that one is due;
 -- a row goes exactly if its session is due; and a session that stays has the rows that it had.
 use mathlib.Core.Path.{_≡_, refl, sym, ap, _∙_}
-use mathlib.Core.Bool.{Bool, true, false, _&&_}
+use mathlib.Core.Bool.{Bool, true, false}
 use mathlib.Core.Logic.{_⊎_, inl, inr}
 use mathlib.Core.List.{List, [], _∷_, map}
-use Prim.Native.Nat.{ℕ, zero, suc}
+use Prim.Native.Nat.{ℕ}
 use native.Mathlib.Omega.{arith}
 use lib.Dec.{eqb}
-use lib.ListN.{length, getD, length-map, List·getD-map}
-use borrow.Author.Tests.{eqb-true, eqb-false, eq-eqb, ne-eqb}
-use Rattle.lent.specs.Tables.{if_then_else_}
-use Rattle.machine.specs.Sizes.{sessionCount, rowCount}
+use lib.ListN.{getD, List·getD-map}
+use borrow.Author.Tests.{eqb-true, eq-eqb}
+use Rattle.lent.proofs.Choices.{case-of, clash}
 use Rattle.machine.specs.Tables.{place, find, mem}
 use Rattle.machine.specs.Session.{isDue}
-use Rattle.machine.specs.State.{Slot, noSession, session, Row, noRow, row, State, numbered, on, ofOn, sessionPlace, sessionOf, rowOf, sessionAt}
+use Rattle.machine.specs.State.{Slot, noSession, session, Row, noRow, row, State, numbered, ofOn, sessionPlace, sessionOf, rowOf, sessionAt}
 use Rattle.machine.specs.Expiry.{freeIfOf, leave, finish, those, expire}
 use Rattle.machine.specs.Sound.{sound}
 use Rattle.machine.specs.declared.Session.{Session}
-use Rattle.machine.proofs.Views.{caseOf, clash, find-test, find-passes, among-those, no-session}
-use Rattle.machine.proofs.SoundFacts as facts
-use Rattle.layout.specs.Fields.{rowSession}
+use Rattle.machine.proofs.Views.{find-test, find-passes, among-those, no-session}
+use Rattle.machine.proofs.SoundFacts.{numbers-distinct}
 use Rattle.deadlines.specs.Deadlines.{dueSlot}
 use Rattle.sweep.specs.Lapsing.{freeDue}
 use Rattle.sweep.proofs.Due.{due-freed, due-number}
-use Rattle.endings.proofs.Numbers.{numbers-distinct}
-use Rattle.refusals.specs.Left.{goes}
 
 -- a place that is taken after expiry was taken, by a session that is not due
 pub stays : (now : ℕ) (e : Slot) (y : Session) → freeDue now e ≡ session y → (e ≡ session y) × (isDue now y ≡ false)
 stays now noSession y q = no-session y q
-stays now (session x) y q = go (caseOf (isDue now x))
+stays now (session x) y q = go (case-of (isDue now x))
   where
     go : (isDue now x ≡ true) ⊎ (isDue now x ≡ false) → (session x ≡ session y) × (isDue now y ≡ false)
     go (inl d) = no-session y (rw d at q)
@@ -63,7 +59,7 @@ module _ (s : State) (ok : sound s ≡ true) (now : ℕ) where
 
   module _ (n : ℕ) where
     pub due-is : mem n due ≡ dueSlot now (sessionOf s n)
-    due-is = go (caseOf (mem n due)) (sessionOf s n) refl (find-test (numbered n) noSession (s .sessions))
+    due-is = go (case-of (mem n due)) (sessionOf s n) refl (find-test (numbered n) noSession (s .sessions))
       where
         go : (mem n due ≡ true) ⊎ (mem n due ≡ false) → (e : Slot) → sessionOf s n ≡ e → (e ≡ noSession) ⊎ (numbered n e ≡ true) → mem n due ≡ dueSlot now e
         go (inl m) e q t =
@@ -86,7 +82,7 @@ module _ (s : State) (ok : sound s ≡ true) (now : ℕ) where
         go noSession (session y) p q t (inr u) =
             clash false (rw p at (find-passes (numbered n) noSession (s .sessions) (sessionPlace (expire now s) n) refl (rw (had y q .0) u))) refl
         go (session x) f p q (inl t) u = no-session x (sym t)
-        go (session x) noSession p q (inr t) u = gone (caseOf (isDue now x))
+        go (session x) noSession p q (inr t) u = gone (case-of (isDue now x))
           where
             gone : (isDue now x ≡ true) ⊎ (isDue now x ≡ false) → noSession ≡ freeDue now (session x)
             gone (inl d) = rw d
@@ -97,7 +93,7 @@ module _ (s : State) (ok : sound s ≡ true) (now : ℕ) where
         go (session x) (session y) p q (inr t) (inr u) =
             let was = had y q in
             let same : sessionPlace s n ≡ sessionPlace (expire now s) n =
-            facts.numbers-distinct s ok (sessionPlace s n) (sessionPlace (expire now s) n) p (was .0) (eqb-true (x .number) n t ∙ sym (eqb-true (y .number) n u)) in
+            numbers-distinct s ok (sessionPlace s n) (sessionPlace (expire now s) n) x y p (was .0) (eqb-true (x .number) n t ∙ sym (eqb-true (y .number) n u)) in
             let eq : session x ≡ session y = sym p ∙ ap (sessionAt s) same ∙ was .0 in
             let g : x ≡ y = cc in
             rw (g, was .1)
@@ -116,7 +112,7 @@ module _ (s : State) (ok : sound s ≡ true) (now : ℕ) where
 
         same : (r : Row) → ofOn n k (freeIfOf due r) ≡ ofOn n k r
         same noRow = refl
-        same (row m j d u) = go (caseOf (mem m due)) (caseOf (eqb m n))
+        same (row m j d u) = go (case-of (mem m due)) (case-of (eqb m n))
           where
             go : (mem m due ≡ true) ⊎ (mem m due ≡ false) → (eqb m n ≡ true) ⊎ (eqb m n ≡ false) → ofOn n k (freeIfOf due (row m j d u)) ≡ ofOn n k (row m j d u)
             go (inl q) (inl e) = clash (mem n due) (rw (eqb-true m n e) at q) free
@@ -126,7 +122,7 @@ module _ (s : State) (ok : sound s ≡ true) (now : ℕ) where
         kept : (r : Row) → (r ≡ noRow) ⊎ (ofOn n k r ≡ true) → freeIfOf due r ≡ r
         kept noRow t = refl
         kept (row m j d u) (inl t) = absurd (let z : _≡_ {A = ℕ} 0 1 = cc in omega arith)
-        kept (row m j d u) (inr t) = go (caseOf (eqb m n))
+        kept (row m j d u) (inr t) = go (case-of (eqb m n))
           where
             go : (eqb m n ≡ true) ⊎ (eqb m n ≡ false) → freeIfOf due (row m j d u) ≡ row m j d u
             go (inl e) = rw (eqb-true m n e, free)

@@ -6,21 +6,21 @@ use mathlib.Core.Logic.{_⊎_, inl, inr}
 use mathlib.Core.List.{List, [], _∷_, map}
 use mathlib.Core.Option.{Option, none, some}
 use Prim.Native.Nat.{ℕ, zero, suc}
-use native.Mathlib.Omega.{arith}
 use lib.Dec.{eqb, leb}
-use lib.ListN.{length, getD, List·getD-map}
+use lib.ListN.{getD, List·getD-map}
 use borrow.Author.Tests.{eq-eqb, ne-eqb}
 use Rattle.lent.specs.Tables.{if_then_else_}
-use Rattle.machine.specs.Sizes.{keyCount}
+use Rattle.lent.proofs.Choices.{and-yes, clash}
 use Rattle.machine.specs.Tables.{place, find, any, mem, isNone}
 use Rattle.machine.specs.Decision.{decision, grants}
-use Rattle.machine.specs.State.{Value, Lease, Key, blank, Row, noRow, row, State, freeRow, on, of, ofOn, kindOf, sessionOf, rowPlace, rowOf, cached, leaseOn, keyOf}
+use Rattle.machine.specs.State.{Value, Lease, Key, blank, Row, noRow, row, State, freeRow, on, of, ofOn, kindOf, sessionOf, rowPlace, rowOf, cached, leaseOn}
 use Rattle.machine.specs.Expiry.{setValue, freeIfOf, settle, lapsedValue, unlapsed, lapsedLease, leave, finish, expire}
 use Rattle.machine.specs.Sound.{sound, tokenIn}
-use Rattle.machine.specs.Refusals.{decide, blocked, cachedSight, rowSight, sight, wouldLease}
-use Rattle.machine.proofs.Views.{AfterSet, other, here, out, after-set, caseOf, clash, find-test, find-passes, any-at, any-place, and-true₂, settle-lease}
+use Rattle.machine.specs.Refusals.{decide, blocked, cachedSight, sight, wouldLease}
+use Rattle.machine.proofs.Views.{AfterSet, other, here, out, after-set, find-test, find-passes, any-at, any-place, settle-lease}
 use Rattle.layout.specs.Fields.{rowSession, rowKey}
 use Rattle.layout.specs.Holds.{LeaseFits, RowFits}
+use Rattle.layout.proofs.Records.{lease-none, row-none}
 use Rattle.deadlines.specs.Deadlines.{lapsed, dueSlot}
 use Rattle.refusals.specs.Left.{goes, staysOn}
 use Rattle.refusals.proofs.Searches.{any-mapped, any-same, any-both}
@@ -83,7 +83,7 @@ module _ (s : State) (n k : ℕ) where
         where
           by : (rowOf s n k ≡ noRow) ⊎ (ofOn n k (rowOf s n k) ≡ true) → rowOf s n k ≡ noRow
           by (inl e) = e
-          by (inr e) = clash (any (on k) (s .rows)) (any-at (on k) noRow (s .rows) (rowPlace s n k) refl (and-true₂ (of n (rowOf s n k)) (on k (rowOf s n k)) e)) h
+          by (inr e) = clash (any (on k) (s .rows)) (any-at (on k) noRow (s .rows) (rowPlace s n k) refl (and-yes (of n (rowOf s n k)) (on k (rowOf s n k)) e .1)) h
 
       go : (c t : Bool) → c && true && not (not (grants (decision (if t then 0 else 1) 0))) ≡ t && c
       go true true = rw nothing-blocks-not
@@ -164,8 +164,7 @@ module _ (s : State) (ok : sound s ≡ true) (now k : ℕ) where
 
 module _ (now : ℕ) where
   pub leaseless-none : (o : Option Lease) → LeaseFits o → tokenIn o ≡ 0 → isNone (unlapsed now o) ≡ true
-  leaseless-none none f e = refl
-  leaseless-none (some l) f e = absurd (omega (arith, f .given))
+  leaseless-none o f e = rw (lease-none o f e)
 
   pub leaseless-by : (o : Option Lease) → (tokenIn o ≡ 0 → ⊥) → isNone (unlapsed now o) ≡ lapsed now o
   leaseless-by none e = absurd (e refl)
@@ -177,8 +176,7 @@ module _ (now : ℕ) where
 
   module _ (s : State) (k : ℕ) where
     pub stays-free : (r : Row) → RowFits r → rowSession r ≡ 0 → staysOn now s k r ≡ false
-    stays-free noRow f e = refl
-    stays-free (row n j d u) f e = absurd (omega (arith, f .given))
+    stays-free r f e = rw (row-none r f e)
 
     pub stays-other : (r : Row) → (rowKey r ≡ k → ⊥) → staysOn now s k r ≡ false
     stays-other noRow e = refl

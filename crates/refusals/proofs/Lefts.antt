@@ -3,13 +3,14 @@
 use mathlib.Core.Path.{_≡_, refl, sym, ap, _∙_}
 use mathlib.Core.Bool.{Bool, true, false, not, _&&_}
 use mathlib.Core.Logic.{_⊎_, inl, inr}
-use mathlib.Core.List.{List, []}
+use mathlib.Core.List.{[]}
 use mathlib.Core.Option.{Option, none, some}
 use Prim.Native.Nat.{ℕ, _≤_}
 use native.Mathlib.Omega.{arith}
 use lib.Dec.{eqb, ltb}
 use borrow.Author.Tests.{eqb-true, le-ltb}
 use Rattle.lent.specs.Tables.{if_then_else_}
+use Rattle.lent.proofs.Choices.{clash}
 use Rattle.machine.specs.Sizes.{sessionCount, stepMax}
 use Rattle.machine.specs.Tables.{first}
 use Rattle.machine.specs.Session.{isDue, advanced, sealed, isSealed, validationOf}
@@ -17,11 +18,12 @@ use Rattle.machine.specs.State.{Slot, noSession, session, State, numbered, sess
 use Rattle.machine.specs.Expiry.{expire}
 use Rattle.machine.specs.Sound.{sound}
 use Rattle.machine.specs.Refusals.{countOf, stagingRefusals, refusals}
+use Rattle.machine.specs.Words.{SEALED}
 use Rattle.machine.specs.declared.Session.{Session}
 use Rattle.machine.specs.declared.Validation.{Validation}
 use Rattle.machine.specs.declared.Command.the-variants.{Validate}
-use Rattle.machine.proofs.Views.{clash, find-test, no-session}
-use Rattle.machine.proofs.SoundFacts as facts
+use Rattle.machine.proofs.Views.{find-test, no-session}
+use Rattle.machine.proofs.SoundMeans.{sessions-length}
 use Rattle.layout.specs.Fields.{sessionIn}
 use Rattle.layout.specs.Search.{found}
 use Rattle.layout.specs.declared.Found.{Found}
@@ -55,7 +57,7 @@ refusalIn (Staging.At i j x) = Refusal.Nothing
 abbrev pub clashIn : Validation → Refusal
 clashIn (Validation.Seals x) = Refusal.Nothing
 clashIn Validation.Loses = Refusal.Nothing
-clashIn Validation.Clashes = Refusal.Is 6
+clashIn Validation.Clashes = Refusal.Is SEALED
 
 told-by : (o : Option ℕ) (t : Bool) (i j : ℕ) (x : Session) → refusalOf o ≡ refusalIn (orElse o (if t then Staging.Repeated else Staging.At i j x))
 told-by none true i j x = refl
@@ -66,7 +68,7 @@ pub validates : (t : State) (n m : ℕ) (x : Session) → sessionOf t n ≡ sess
 unfolding refusals
 validates t n m x e h = rw (le-ltb stepMax m h, e) (go (isSealed x) (eqb m (x .count)))
   where
-    go : (u t : Bool) → refusalOf (if u && not t then some 6 else none) ≡ clashIn (if t then Validation.Seals (sealed x) else if u then Validation.Clashes else Validation.Loses)
+    go : (u t : Bool) → refusalOf (if u && not t then some SEALED else none) ≡ clashIn (if t then Validation.Seals (sealed x) else if u then Validation.Clashes else Validation.Loses)
     go true true = refl
     go true false = refl
     go false true = refl
@@ -80,14 +82,14 @@ module _ (s : State) (ok : sound s ≡ true) (now n : ℕ) where
   -- ---- what the search for the number finds
 
   pub left-none : found sessionCount (sessionPlace s n) ≡ Found.Nothing → sessionOf (expire now s) n ≡ noSession
-  left-none f = session-expired s ok now n ∙ ap (freeDue now) (nothing-entry (numbered n) noSession (s .sessions) sessionCount (facts.sessions-length s ok) f)
+  left-none f = session-expired s ok now n ∙ ap (freeDue now) (nothing-entry (numbered n) noSession (s .sessions) sessionCount (sessions-length s ok) f)
 
   pub left-by : (i : ℕ) → found sessionCount (sessionPlace s n) ≡ Found.At i → (t : Bool) → isDue now (sessionIn (sessionAt s i)) ≡ t
       → sessionOf (expire now s) n ≡ (if t then noSession else session (sessionIn (sessionAt s i)))
   left-by i f t d =
       session-expired s ok now n
       ∙ ap (freeDue now) (found-entry (numbered n) noSession (s .sessions) sessionCount i f)
-      ∙ slot-left now n (sessionAt s i) (found-passes (numbered n) noSession (s .sessions) sessionCount i (facts.sessions-length s ok) f) t d
+      ∙ slot-left now n (sessionAt s i) (found-passes (numbered n) noSession (s .sessions) sessionCount i (sessions-length s ok) f) t d
 
   -- ---- who is left
 

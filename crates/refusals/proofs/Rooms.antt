@@ -2,10 +2,11 @@
 -- granted is as it was: of the rest only an I lease may have lapsed, and a quarantine is granted over one as over nothing.
 use mathlib.Core.Path.{_≡_, refl, sym, ap, _∙_}
 use mathlib.Core.Bool.{Bool, true, false, not, _&&_, _||_}
-use mathlib.Core.List.{List, [], _∷_, map}
+use mathlib.Core.List.{map}
 use Prim.Native.Nat.{ℕ, suc, _≤_, _<_}
 use lib.Dec.{eqb}
-use lib.ListN.{length, length-map}
+use lib.ListN.{length-map}
+use borrow.Author.Tests.{not-true}
 use Rattle.lent.specs.Tables.{if_then_else_}
 use Rattle.lent.proofs.Choices.{or-no}
 use Rattle.machine.specs.Sizes.{sessionCount, rowCount}
@@ -16,9 +17,8 @@ use Rattle.machine.specs.State.{Slot, noSession, session, Row, noRow, row, Stat
 use Rattle.machine.specs.Expiry.{freeIfOf, expire}
 use Rattle.machine.specs.Sound.{sound}
 use Rattle.machine.specs.Refusals.{decide, sessionsFull, rowsFull, wouldGrant}
-use Rattle.machine.proofs.Views.{not-true′}
 use Rattle.machine.proofs.Table.{free-grants, Q-voids-I}
-use Rattle.machine.proofs.SoundFacts as facts
+use Rattle.machine.proofs.SoundMeans.{sessions-length, rows-length}
 use Rattle.deadlines.specs.Deadlines.{dueSlot}
 use Rattle.sweep.specs.Lapsing.{freeDue}
 use Rattle.sweep.proofs.Lapsing.{unmapped}
@@ -38,7 +38,7 @@ module _ (s : State) (ok : sound s ≡ true) (now : ℕ) where
   pub sessions-full-expired : sessionsFull (expire now s) ≡ not (any free (s .sessions) || any (dueSlot now) (s .sessions))
   sessions-full-expired =
       rw (sessions-expired s ok now)
-      (full-any free (map (freeDue now) (s .sessions)) sessionCount (length-map (s .sessions) (freeDue now) ∙ facts.sessions-length s ok)
+      (full-any free (map (freeDue now) (s .sessions)) sessionCount (length-map (s .sessions) (freeDue now) ∙ sessions-length s ok)
       ∙ ap not (any-either free (freeDue now) free (dueSlot now) each (s .sessions)))
     where
       each : (e : Slot) → free (freeDue now e) ≡ free e || dueSlot now e
@@ -52,7 +52,7 @@ module _ (s : State) (ok : sound s ≡ true) (now : ℕ) where
   pub rows-full-expired : rowsFull (expire now s) ≡ not (any freeRow (s .rows) || any (goes now s) (s .rows))
   rows-full-expired =
       rw (rows-expired s ok now)
-      (full-any freeRow (map (freeIfOf (due s ok now)) (s .rows)) rowCount (length-map (s .rows) (freeIfOf (due s ok now)) ∙ facts.rows-length s ok)
+      (full-any freeRow (map (freeIfOf (due s ok now)) (s .rows)) rowCount (length-map (s .rows) (freeIfOf (due s ok now)) ∙ rows-length s ok)
       ∙ ap not (any-either freeRow (freeIfOf (due s ok now)) freeRow (goes now s) each (s .rows)))
     where
       each : (r : Row) → freeRow (freeIfOf (due s ok now) r) ≡ freeRow r || goes now s r
@@ -68,7 +68,7 @@ module _ (s : State) (ok : sound s ≡ true) (now : ℕ) where
     rows-stay = rows-expired s ok now ∙ unmapped (goes now s) (freeIfOf (due s ok now)) same (s .rows) (none .1)
       where
         none : (any freeRow (s .rows) ≡ false) × (any (goes now s) (s .rows) ≡ false)
-        none = or-no (any freeRow (s .rows)) (any (goes now s) (s .rows)) (not-true′ (any freeRow (s .rows) || any (goes now s) (s .rows)) (sym rows-full-expired ∙ full))
+        none = or-no (any freeRow (s .rows)) (any (goes now s) (s .rows)) (not-true (any freeRow (s .rows) || any (goes now s) (s .rows)) (sym rows-full-expired ∙ full))
 
         same : (r : Row) → goes now s r ≡ false → freeIfOf (due s ok now) r ≡ r
         same noRow g = refl

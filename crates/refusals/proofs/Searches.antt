@@ -1,20 +1,19 @@
 -- Whether a table has an entry that passes a test: told by the search for its place, by the count of the others, and, where every entry was
 -- put through f, by the entries as they were. By induction on the table.
-use mathlib.Core.Path.{_≡_, refl, sym, ap, ap₂, _∙_}
+use mathlib.Core.Path.{_≡_, refl, sym, ap₂, _∙_}
 use mathlib.Core.Bool.{Bool, true, false, not, _&&_, _||_}
 use mathlib.Core.List.{List, [], _∷_, map}
-use Prim.Native.Nat.{ℕ, zero, suc, _+_, _≤_, _<_}
+use Prim.Native.Nat.{ℕ, suc, _+_}
 use native.Mathlib.Omega.{arith}
 use lib.Dec.{leb, leb·suc-suc}
-use lib.ListN.{length, getD}
-use borrow.Author.Tests.{lt-leb}
+use lib.ListN.{length}
+use borrow.Author.Tests.{lt-leb, not-true}
 use Rattle.lent.specs.Tables.{if_then_else_}
 use Rattle.lent.proofs.Choices.{clash, or-no}
 use Rattle.machine.specs.Tables.{place, any, count}
-use Rattle.machine.proofs.Views.{not-true′}
 use Rattle.layout.specs.Search.{found}
 use Rattle.layout.specs.declared.Found.{Found}
-use Rattle.layout.proofs.Search.{found-at, found-passes, found-full}
+use Rattle.layout.proofs.Search.{found-at, found-passes, found-full, count-most}
 use Rattle.endings.proofs.Searches.{any-hit}
 
 or-swap : (a b c d : Bool) → (a || b) || (c || d) ≡ (a || c) || (b || d)
@@ -22,14 +21,6 @@ or-swap true b c d = refl
 or-swap false true true d = refl
 or-swap false true false d = refl
 or-swap false false c d = refl
-
-count-most : {A : Type 0} (p : A → Bool) (l : List A) → count p l ≤ length l
-count-most p [] = omega arith
-count-most p (x ∷ l) = go (p x) (count-most p l)
-  where
-    go : (t : Bool) → count p l ≤ length l → (if t then 1 else 0) + count p l ≤ suc (length l)
-    go true h = omega arith
-    go false h = omega arith
 
 module _ {A : Type 0} (p : A → Bool) where
   -- ---- by the count of the others
@@ -55,7 +46,7 @@ module _ {A : Type 0} (p : A → Bool) where
     found-any i f = let q = found-at n (place p l) i f in any-hit p d l i (omega arith) (found-passes p d l n i e f)
 
     pub nothing-any : found n (place p l) ≡ Found.Nothing → any p l ≡ false
-    nothing-any f = not-true′ (any p l) (sym (full-any l n e) ∙ found-full p d l n e f)
+    nothing-any f = not-true (any p l) (sym (full-any l n e) ∙ found-full p d l n e f)
 
   -- ---- every entry put through f
 

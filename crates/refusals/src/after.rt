@@ -10,7 +10,6 @@ ghost use Rattle.machine.specs.Expiry.{unlapsed, expire};
 ghost use Rattle.machine.specs.Sound.{sound};
 ghost use Rattle.machine.specs.Refusals.{sessionsFull, rowsFull, wouldLease};
 ghost use Rattle.layout.specs.Holds.{Holds};
-ghost use Rattle.deadlines.specs.Deadlines.{dueSlot};
 ghost use Rattle.refusals.specs.Left.{leftOf, goes, staysOn};
 use layout::Found;
 use machine::Session;

@@ -13,6 +13,7 @@ use borrow.Author.Tests.{eqb-true, eq-eqb, ne-eqb, le-leb, lt-leb}
 use Rattle.lent.specs.Bytes.{win, splice}
 use Rattle.lent.specs.Tables.{if_then_else_}
 use Rattle.lent.proofs.Splice.{win-splice}
+use Rattle.lent.proofs.Choices.{case-of, clash}
 use Rattle.machine.specs.Sizes.{stateSize, valueMax}
 use Rattle.machine.specs.Words.{wordOf}
 use Rattle.machine.specs.State.{Value}
@@ -20,7 +21,6 @@ use Rattle.machine.specs.Refusals.{startRefusals}
 use Rattle.machine.specs.Step.{started, start}
 use Rattle.machine.specs.Tables.{first}
 use Rattle.machine.specs.declared.Command.{Command}
-use Rattle.machine.proofs.Views.{caseOf, clash}
 use Rattle.layout.specs.Layout.{decode}
 use Rattle.layout.specs.WellFormed.{wellFormed}
 use Rattle.layout.proofs.Formed.{formed}
@@ -177,7 +177,7 @@ said-within x b t x′ b′ r h e = record { inside = λ w. let l = said-hit x b
 
 value-only : (word detail : ℕ) (v u : Value) → (word ≡ 3 → v ≡ u) → detailed word detail v ≡ detailed word detail u
 unfolding detailed
-value-only word detail v u f = go (caseOf (eqb word 3))
+value-only word detail v u f = go (case-of (eqb word 3))
   where
     go : (eqb word 3 ≡ true) ⊎ (eqb word 3 ≡ false) → detailed word detail v ≡ detailed word detail u
     go (inl q) = rw (f (eqb-true word 3 q)) refl

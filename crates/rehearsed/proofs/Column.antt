@@ -11,6 +11,7 @@ use lib.ListN.{length-replicate}
 use borrow.Author.Tests.{lt-ltb}
 use Rattle.lent.specs.Bytes.{zeros}
 use Rattle.lent.specs.Tables.{same, allZero}
+use Rattle.lent.proofs.Choices.{clash}
 use Rattle.machine.specs.Sizes.{keyCount, sessionCount}
 use Rattle.machine.specs.Tables.{any}
 use Rattle.machine.specs.Words.{wordOf}
@@ -19,7 +20,7 @@ use Rattle.machine.specs.Sound.{sound}
 use Rattle.machine.specs.Refusals.{notLive}
 use Rattle.machine.specs.Expiry.{expire}
 use Rattle.machine.specs.Step.{step}
-use Rattle.machine.specs.World.{Event, command, write, World, begun, commanded, written, next, run, EventBytes, AllBytes}
+use Rattle.machine.specs.World.{Event, command, write, World, freshWorld, commanded, written, next, run, EventBytes, AllBytes}
 use Rattle.machine.specs.Test.{differs}
 use Rattle.machine.specs.declared.Answer.{Answer}
 use Rattle.machine.specs.declared.Command.{Command}
@@ -165,7 +166,7 @@ new-started b h = record {
   unmarked = λ i f. Laws.mark-started b (h .size) i ∙ h .unmarked i f;
 }
 
-recorded-new : (b : List ℕ) (readLife writeLife : ℕ) → NewBook b → Recorded b (begun readLife writeLife)
+recorded-new : (b : List ℕ) (readLife writeLife : ℕ) → NewBook b → Recorded b (freshWorld readLife writeLife)
 unfolding fresh
 recorded-new b readLife writeLife h = record {
   size = h .size;
@@ -173,7 +174,7 @@ recorded-new b readLife writeLife h = record {
   grants = λ k l e. Views.no-some l (sym (ap (λ (x : Key). x .lease) (Views.getD-same keyCount k blank)) ∙ e);
   marks = λ i x e. Views.no-session x (sym (Views.getD-same sessionCount i noSession) ∙ e);
   below = λ i f. let z = h .unmarked i f in omega arith;
-  wrote = λ n e. Views.clash false e refl;
+  wrote = λ n e. clash false e refl;
 }
 
 module _ (x b : List ℕ) (readLife writeLife : ℕ) (ready : startOf x readLife writeLife .answer ≡ Answer.Ready) (new : NewBook b) where
@@ -181,7 +182,7 @@ module _ (x b : List ℕ) (readLife writeLife : ℕ) (ready : startOf x readLife
   p₀ = startedPair x b readLife writeLife
 
   abbrev w₀ : World
-  w₀ = begun readLife writeLife
+  w₀ = freshWorld readLife writeLife
 
   pub tied-started : Tied p₀ w₀
   unfolding begins

@@ -20,11 +20,11 @@ use Rattle.machine.specs.Refusals.{decide, blocked, sight, wouldLease, wouldGra
 use Rattle.machine.specs.Effects.{begins, wait, leased, missed, looked, fills, asks, operate, changed, stages, effect}
 use Rattle.machine.specs.Step.{settled, step}
 use Rattle.machine.specs.Examples.{says}
-use Rattle.machine.specs.World.{Event, command, write, begun, commanded, written, run, AllKept}
+use Rattle.machine.specs.World.{Event, command, write, freshWorld, commanded, written, run, AllKept}
+use Rattle.machine.specs.Witness.{heard}
 use Rattle.machine.specs.declared.Answer.{Answer}
 use Rattle.machine.specs.declared.Command.the-variants.{Begin, Get, Fill, Quar, Validate, Done}
 use Rattle.machine.proofs.Tested.{allKept-of}
-use Rattle.machine.proofs.Witness.{heard}
 use Rattle.layout.specs.Layout.{decode}
 use Rattle.layout.specs.WellFormed.{wellFormed}
 use Rattle.layout.proofs.Formed.{holds-decoded}
@@ -115,7 +115,7 @@ hitting-tells = refl
 
 -- What the machine beside the register makes of it: the answers of the worked example, and no rule broken
 
-pub example-heard : heard (begun 1000 5000) events ≡ (
+pub example-heard : heard (freshWorld 1000 5000) events ≡ (
     some (says (Answer.Lease 1))
     ∷ some (says (Answer.Session 1))
     ∷ some (says Answer.Granted)
@@ -132,12 +132,12 @@ pub example-heard : heard (begun 1000 5000) events ≡ (
 unfolding same allZero readCount decision fresh leave finish expire decide blocked sight wouldLease wouldGrant refusals refusal begins wait leased missed looked fills asks operate changed stages effect settled step commanded written
 example-heard = refl
 
-kept : AllKept (begun 1000 5000) events
+kept : AllKept (freshWorld 1000 5000) events
 unfolding same allZero readCount decision fresh leave finish expire decide blocked sight wouldLease wouldGrant refusals refusal begins wait leased missed looked fills asks operate changed stages effect settled step commanded written
-kept = allKept-of (begun 1000 5000) events refl
+kept = allKept-of (freshWorld 1000 5000) events refl
 
 abbrev before : State
-before = run (begun 1000 5000) told .state
+before = run (freshWorld 1000 5000) told .state
 
 hit-told : step before 15 (Get 0 7) [] .answer ≡ Answer.Hit (valueAt 7) 2
 unfolding same allZero readCount decision fresh leave finish expire decide blocked sight wouldLease wouldGrant refusals refusal begins wait leased missed looked fills asks operate changed stages effect settled step commanded written

@@ -9,6 +9,7 @@ use Prim.Native.Nat.{ℕ, _+_, _≤_}
 use native.Mathlib.Omega.{arith}
 use lib.Dec.{eqb, ltb}
 use lib.ListN.{getD, set}
+use Rattle.lent.proofs.Choices.{if-ind}
 use Rattle.machine.specs.Tables.{place, isNone}
 use Rattle.machine.specs.Words.{wordOf}
 use Rattle.machine.specs.Session.{opened, advanced, sealed, isDue}
@@ -24,7 +25,7 @@ use Rattle.machine.specs.declared.Command.{Command}
 use Rattle.machine.specs.declared.Command.the-variants.{Begin, Get, Fill, Quar, Stage, Delta, Validate, Done, Undo, Evict, Tick}
 use Rattle.machine.proofs.Views
 use Rattle.machine.proofs.Orderly
-use Rattle.machine.proofs.Frames.{expire-lease}
+use Rattle.machine.proofs.Frames.{expire-lease, staged-quiet}
 
 -- the leases of t: no answer grants one and each was there, or a GET was answered with the next token on its key and each other was there
 pub data Leases (s : State) (c : Command) (a : Answer) (t : State) : Type 0 where
@@ -40,12 +41,6 @@ pub record Moves (s : State) (c : Command) (r : Outcome) : Type 0 where
   pub leases : Leases s c (r .answer) (r .after)
   pub places : (i : ℕ) (x : Session) → sessionAt (r .after) i ≡ session x → Stood s i x
   pub grows : s .head .nextSession ≤ r .after .head .nextSession
-
--- the answer that stages grants no lease
-staged-quiet : (u : Staged) → eqb (wordOf (stagedAnswer u)) 6 ≡ false
-staged-quiet nothing = refl
-staged-quiet (staged v) = refl
-staged-quiet DROP = refl
 
 module _ (s : State) (c : Command) where
   -- nothing changes
@@ -92,11 +87,11 @@ module _ (s : State) (c : Command) where
 
   staging : (n i k : ℕ) (u : Staged) → Moves s c (stages s n i k u)
   unfolding stages
-  staging n i k u = Views.if-ind (Moves s c) (ltb i (countOf s n)) (λ p. still Answer.Repeated [] refl) (λ p. stages-row n k u)
+  staging n i k u = if-ind (Moves s c) (ltb i (countOf s n)) (λ p. still Answer.Repeated [] refl) (λ p. stages-row n k u)
 
   asked : (n k kind : ℕ) → Moves s c (asks s n k kind)
   unfolding asks
-  asked n k kind = Views.if-ind (Moves s c) (grants (decide s k kind))
+  asked n k kind = if-ind (Moves s c) (grants (decide s k kind))
       (λ e. record { leases = quiet refl (λ j l p. Orderly.voided-was s k j l p .1); places = λ i x p. inr (x, p, refl); grows = omega arith }) (λ e. leaves Answer.Aborted n refl)
 
 -- GET answered LEASE
@@ -126,23 +121,23 @@ leases-key s now n k = record {
 looks : (s : State) (now n k : ℕ) (o : Option Sight) → Moves s (Get n k) (looked s now n k o)
 unfolding looked missed
 looks s now n k (some x) = still s (Get n k) (Answer.Hit (x .at) _) (x .value) refl
-looks s now n k none = Views.if-ind (Moves s (Get n k)) (freeRow (rowOf s n k))
-    (λ e. Views.if-ind (Moves s (Get n k)) (blocked s k) (λ b. still s (Get n k) (Answer.Backoff (wait s k now)) [] refl) (λ b. leases-key s now n k))
+looks s now n k none = if-ind (Moves s (Get n k)) (freeRow (rowOf s n k))
+    (λ e. if-ind (Moves s (Get n k)) (blocked s k) (λ b. still s (Get n k) (Answer.Backoff (wait s k now)) [] refl) (λ b. leases-key s now n k))
     (λ e. still s (Get n k) Answer.Ask [] refl)
 
 pub moves-effect : (s : State) (now : ℕ) (c : Command) (v : Value) → Moves s c (effect s now c v)
 unfolding effect fills
 moves-effect s now Begin v = new-session s Begin now
 moves-effect s now (Get n k) v = looks s now n k (sight s n k)
-moves-effect s now (Fill t k) v = Views.if-ind (Moves s (Fill t k)) (matches t (leaseOn s k))
+moves-effect s now (Fill t k) v = if-ind (Moves s (Fill t k)) (matches t (leaseOn s k))
     (λ m. keyed s (Fill t k) Answer.Stored (set (s .keys) k (record { value = some v; lease = none })) refl (Orderly.filled-was s k v)) (λ m. still s (Fill t k) Answer.Ignored [] refl)
-moves-effect s now (Quar n k d) v = Views.if-ind (Moves s (Quar n k d)) (eqb (kindOf (rowOf s n k)) d) (λ m. still s (Quar n k d) Answer.Held [] refl) (λ m. asked s (Quar n k d) n k d)
+moves-effect s now (Quar n k d) v = if-ind (Moves s (Quar n k d)) (eqb (kindOf (rowOf s n k)) d) (λ m. still s (Quar n k d) Answer.Held [] refl) (λ m. asked s (Quar n k d) n k d)
 moves-effect s now (Stage n i k) v = staging s (Stage n i k) n i k (staged v)
 moves-effect s now (Delta n i k o) v = staging s (Delta n i k o) n i k (changed o v (stagedIn (rowOf s n k)) (cached s k))
-moves-effect s now (Validate n m) v = Views.if-ind (Moves s (Validate n m)) (eqb m (countOf s n)) (λ p. seals s (Validate n m) n) (λ p. leaves s (Validate n m) Answer.Lost n refl)
+moves-effect s now (Validate n m) v = if-ind (Moves s (Validate n m)) (eqb m (countOf s n)) (λ p. seals s (Validate n m) n) (λ p. leaves s (Validate n m) Answer.Lost n refl)
 moves-effect s now (Done n) v = finishes s (Done n) n
 moves-effect s now (Undo n) v = leaves s (Undo n) Answer.Undone n refl
-moves-effect s now (Evict k) v = Views.if-ind (Moves s (Evict k)) (isNone (cached s k)) (λ p. still s (Evict k) Answer.Empty [] refl)
+moves-effect s now (Evict k) v = if-ind (Moves s (Evict k)) (isNone (cached s k)) (λ p. still s (Evict k) Answer.Empty [] refl)
     (λ p. keyed s (Evict k) Answer.Evicted (setValue (s .keys) k none) refl (λ j l e. sym (Views.value-lease (s .keys) k none j) ∙ e))
 moves-effect s now Tick v = still s Tick Answer.Ticked [] refl
 

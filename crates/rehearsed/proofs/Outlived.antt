@@ -9,6 +9,7 @@ use Prim.Native.Nat.{ℕ}
 use borrow.Author.Tests.{eqb-true}
 use lib.Dec.{eqb}
 use Rattle.lent.specs.Tables.{same}
+use Rattle.lent.proofs.Choices.{case-of, clash, if-ind}
 use Rattle.machine.specs.Tables.{any, mem}
 use Rattle.machine.specs.Words.{wordOf}
 use Rattle.machine.specs.Session.{isDue}
@@ -20,7 +21,6 @@ use Rattle.machine.specs.Step.{settled, step}
 use Rattle.machine.specs.Test.{differs}
 use Rattle.machine.specs.declared.Command.{Command}
 use Rattle.machine.specs.declared.Command.the-variants.{Done, Undo}
-use Rattle.machine.proofs.Views
 use Rattle.machine.proofs.Orderly.{was-session}
 use Rattle.machine.proofs.Accepted.{passed, session-of}
 use Rattle.machine.proofs.Invariant.{found-live}
@@ -35,7 +35,7 @@ module _ (s : State) (now : ℕ) (c : Command) (v : Value) (word : ℕ) (some-wo
     where
       go : (o : Option ℕ) → eqb (wordOf (settled s now o (effect (expire now s) now c v) .answer)) word ≡ true → o ≡ none
       go none p = refl
-      go (some e) p = Views.clash (eqb 0 word) p some-word
+      go (some e) p = clash (eqb 0 word) p some-word
 
 module _ (s : State) (now n : ℕ) (v : Value) where
   -- DONE and UNDO are accepted of a session that is live after expiry
@@ -60,12 +60,12 @@ module _ (now : ℕ) (s : State) (n : ℕ) (live : notLive (expire now s) n ≡ 
 
 differs-freed : (register : ℕ → Value) (n : ℕ) (ns : List ℕ) → mem n ns ≡ false → (r : Row) → differs register n (freeIfOf ns r) ≡ differs register n r
 differs-freed register n ns h noRow = refl
-differs-freed register n ns h (row m k d nothing) = Views.if-ind (λ (r : Row). differs register n r ≡ false) (mem m ns) (λ q. refl) (λ q. refl)
-differs-freed register n ns h (row m k d DROP) = Views.if-ind (λ (r : Row). differs register n r ≡ false) (mem m ns) (λ q. refl) (λ q. refl)
-differs-freed register n ns h (row m k d (staged u)) = Views.if-ind (λ (r : Row). differs register n r ≡ (eqb m n && not (same u (register k)))) (mem m ns) (λ q. other q (Views.caseOf (eqb m n))) (λ q. refl)
+differs-freed register n ns h (row m k d nothing) = if-ind (λ (r : Row). differs register n r ≡ false) (mem m ns) (λ q. refl) (λ q. refl)
+differs-freed register n ns h (row m k d DROP) = if-ind (λ (r : Row). differs register n r ≡ false) (mem m ns) (λ q. refl) (λ q. refl)
+differs-freed register n ns h (row m k d (staged u)) = if-ind (λ (r : Row). differs register n r ≡ (eqb m n && not (same u (register k)))) (mem m ns) (λ q. other q (case-of (eqb m n))) (λ q. refl)
   where
     other : mem m ns ≡ true → (eqb m n ≡ true) ⊎ (eqb m n ≡ false) → false ≡ (eqb m n && not (same u (register k)))
-    other q (inl e) = Views.clash (mem n ns) (rw (eqb-true m n e) at q) h
+    other q (inl e) = clash (mem n ns) (rw (eqb-true m n e) at q) h
     other q (inr e) = rw e
 
 any-freed : (register : ℕ → Value) (n : ℕ) (ns : List ℕ) → mem n ns ≡ false → (rs : List Row) → any (differs register n) (map (freeIfOf ns) rs) ≡ any (differs register n) rs

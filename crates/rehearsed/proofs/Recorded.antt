@@ -12,6 +12,7 @@ use borrow.Author.Tests.{eqb-true, eqb-false, eq-eqb, ne-eqb, lt-ltb, ltb-true}
 use lib.Dec.{eqb, ltb}
 use lib.ListN.{length}
 use Rattle.lent.specs.Tables.{if_then_else_}
+use Rattle.lent.proofs.Choices.{case-of, clash}
 use Rattle.machine.specs.Sizes.{keyCount, sessionCount, valueMax}
 use Rattle.machine.specs.Words.{wordOf}
 use Rattle.machine.specs.State.{Value, Lease, Key, blank, noSession, session, State, numbered, sessionPlace, sessionOf, leaseOn, sessionAt}
@@ -19,16 +20,16 @@ use Rattle.machine.specs.Sound.{sound}
 use Rattle.machine.specs.Refusals.{notLive}
 use Rattle.machine.specs.Effects.{Outcome}
 use Rattle.machine.specs.World.{World, sinceGrant, commanded, written}
+use Rattle.machine.specs.WellFormed.{Orderly}
 use Rattle.machine.specs.declared.Session.{Session}
 use Rattle.machine.specs.declared.Answer.{Answer}
 use Rattle.machine.specs.declared.Command.{Command}
 use Rattle.machine.specs.declared.Command.the-variants.{Begin, Get, Fill, Quar, Stage, Delta, Validate, Done, Undo, Evict, Tick}
 use Rattle.machine.proofs.Views
-use Rattle.machine.proofs.Orderly.{Orderly}
 use Rattle.machine.proofs.Accepted.{session-of}
 use Rattle.machine.proofs.Every.{place-inside}
-use Rattle.machine.proofs.SoundMeans.{sound-means}
-use Rattle.machine.proofs.SoundFacts.{keys-length, sessions-length, next-session, session-place}
+use Rattle.machine.proofs.SoundMeans.{sound-means, keys-length, sessions-length}
+use Rattle.machine.proofs.SoundFacts.{next-session, session-place}
 use Rattle.layout.proofs.Search.{place-passes}
 use Rattle.book.specs.Book.{bookSize, registered, granted, withRegistered, withGranted, mark, withMark, counted}
 use Rattle.book.proofs.Laws
@@ -87,7 +88,7 @@ module _ (b : List ℕ) (w : World) (h : Recorded b w) (o : Orderly (w .state)) 
   -- a session after it is marked as it was; one that is new is unmarked, and the register has not written for it
   marks-after : (i : ℕ) (x : Session) → sessionAt (r .after) i ≡ session x → eqb (mark b i) (x .number) ≡ w .wrote (x .number)
   marks-after i x e = elim (m .places i x e) [
-    | inl p ↦ (let q = h .below i (session-place (r .after) after-sound i e) in ne-eqb (mark b i) (x .number) (λ z. omega arith) ∙ sym (unwritten p (Views.caseOf (w .wrote (x .number)))))
+    | inl p ↦ (let q = h .below i (session-place (r .after) after-sound i e) in ne-eqb (mark b i) (x .number) (λ z. omega arith) ∙ sym (unwritten p (case-of (w .wrote (x .number)))))
     | inr p ↦ rw (p .2) at (h .marks i (p .0) (p .1))
   ]
     where
@@ -142,9 +143,9 @@ place-live : (s : State) → sound s ≡ true → (n : ℕ) → notLive s n ≡ 
 place-live s h n e = let x = session-of s n e in lt-ltb (sessionPlace s n) sessionCount (session-place s h (sessionPlace s n) (x .1))
 
 place-dead : (s : State) → sound s ≡ true → (n : ℕ) → notLive s n ≡ true → ltb (sessionPlace s n) sessionCount ≡ false
-place-dead s h n e = elim (Views.caseOf (ltb (sessionPlace s n) sessionCount)) [
+place-dead s h n e = elim (case-of (ltb (sessionPlace s n) sessionCount)) [
   | inl q ↦ (let f = ltb-true (sessionPlace s n) sessionCount q in
-      Views.clash (numbered n (sessionOf s n)) (place-passes (numbered n) noSession (s .sessions) (omega (arith, sessions-length s h, f))) (rw (Views.free-is-not (sessionOf s n) e) refl))
+      clash (numbered n (sessionOf s n)) (place-passes (numbered n) noSession (s .sessions) (omega (arith, sessions-length s h, f))) (rw (Views.free-slot-is (sessionOf s n) e) refl))
   | inr q ↦ q
 ]
 
@@ -185,9 +186,9 @@ module _ (b : List ℕ) (w : World) (h : Recorded b w) (state-sound : sound (w .
     size = Laws.length-marked b (h .size) at inside n;
     register = Laws.registered-marked b (h .size) at inside n;
     grants = Laws.granted-marked b (h .size) at inside n;
-    marks = λ i x p. marks i x p (Views.caseOf (eqb i at));
-    below = λ i f. below i f (Views.caseOf (eqb i at));
-    wrote = λ m p. wrote m p (Views.caseOf (eqb m n));
+    marks = λ i x p. marks i x p (case-of (eqb i at));
+    below = λ i f. below i f (case-of (eqb i at));
+    wrote = λ m p. wrote m p (case-of (eqb m n));
   }
     where
       at : ℕ
@@ -227,7 +228,7 @@ module _ (b : List ℕ) (w : World) (h : Recorded b w) (state-sound : sound (w .
       wrote m p (inr q) = h .wrote m (rw q at p)
 
   marked-is : Marked (markedAt b (w .state) n)
-  marked-is = elim (Views.caseOf (notLive (w .state) n)) [
+  marked-is = elim (case-of (notLive (w .state) n)) [
     | inl e ↦ rw (place-dead (w .state) state-sound n e) (dead e)
     | inr e ↦ rw (place-live (w .state) state-sound n e) (live e)
   ]
@@ -236,8 +237,8 @@ module _ (b : List ℕ) (w : World) (h : Recorded b w) (state-sound : sound (w .
   unfolding written
   recorded-written k v small short = record {
     size = Laws.length-registered b′ (m .size) k v short;
-    register = λ j. register j (Views.caseOf (eqb j k));
-    grants = λ j l e. grants j l e (Views.caseOf (eqb j k));
+    register = λ j. register j (case-of (eqb j k));
+    grants = λ j l e. grants j l e (case-of (eqb j k));
     marks = λ i x e. rw (Laws.mark-registered b′ (m .size) k v short i) (m .marks i x e);
     below = λ i f. rw (Laws.mark-registered b′ (m .size) k v short i) (m .below i f);
     wrote = m .wrote;

@@ -18,7 +18,7 @@ use Rattle.machine.specs.Sizes.{stateSize, sessionCount}
 use Rattle.machine.specs.Words.{wordOf}
 use Rattle.machine.specs.State.{Value, sessionPlace}
 use Rattle.machine.specs.Sound.{lifetime}
-use Rattle.machine.specs.World.{Event, command, write, World, begun, next, run, EventBytes}
+use Rattle.machine.specs.World.{Event, command, write, World, freshWorld, next, run, EventBytes}
 use Rattle.machine.specs.declared.Answer.{Answer}
 use Rattle.machine.specs.declared.Command.{Command}
 use Rattle.machine.specs.declared.Command.the-variants.{Begin, Get, Fill, Quar, Stage, Delta, Validate, Done, Undo, Evict, Tick}
@@ -254,7 +254,7 @@ unfolding turn
 follows-text p t s e ts o h = subst (λ (z : Said). FollowsSaid z ts o) (sym e) h
 
 module _ (x b : List ℕ) (readLife writeLife : ℕ) (new : NewBook b) (ts : List Text) where
-  beside-ready : startOf x readLife writeLife .answer ≡ Answer.Ready → Beside (left (begins x b readLife writeLife)) (begun readLife writeLife)
+  beside-ready : startOf x readLife writeLife .answer ≡ Answer.Ready → Beside (left (begins x b readLife writeLife)) (freshWorld readLife writeLife)
   unfolding begins
   beside-ready e = record {
     tied = tied-started x b readLife writeLife e new;
@@ -273,7 +273,7 @@ module _ (x b : List ℕ) (readLife writeLife : ℕ) (new : NewBook b) (ts : Lis
       let p = left (begins x b readLife writeLife) in
       let r : Run = record { readLife = readLife; writeLife = writeLife; events = eventsIn ts } in
       subst (λ (o : Option Run). FollowsSaid (begins x b readLife writeLife) ts o) (sym (begun-ready later e))
-      (follows-zero (textThrough p ts) (textColumn p ts) (some r) (beside-through p (begun readLife writeLife) h ts, zeros-through p (begun readLife writeLife) h ts))
+      (follows-zero (textThrough p ts) (textColumn p ts) (some r) (beside-through p (freshWorld readLife writeLife) h ts, zeros-through p (freshWorld readLife writeLife) h ts))
 
   follows-refused : (later : Option Run) → Stands x readLife writeLife → FollowsSaid (unreadable x b) ts later
       → FollowsSaid (begins x b readLife writeLife) ts (begunBy x (Line.Start readLife writeLife) (eventsIn ts) later)

@@ -12,6 +12,7 @@ use borrow.Author.Tests.{eqb-true, eq-eqb, ne-eqb}
 use lib.Dec.{eqb}
 use lib.ListN.{length}
 use Rattle.lent.specs.Tables.{if_then_else_, same, allZero}
+use Rattle.lent.proofs.Choices.{and-yes, clash, if-ind}
 use Rattle.machine.specs.Sizes.{keyCount}
 use Rattle.machine.specs.Tables.{any}
 use Rattle.machine.specs.Words.{wordOf}
@@ -20,13 +21,14 @@ use Rattle.machine.specs.Expiry.{expire}
 use Rattle.machine.specs.Refusals.{refusal}
 use Rattle.machine.specs.Effects.{Outcome, matches, fills, effect}
 use Rattle.machine.specs.Step.{settled, step}
-use Rattle.machine.specs.World.{Event, command, write, World, begun, sinceGrant, commanded, written, next, run, Holds, Kept, AllKept}
+use Rattle.machine.specs.World.{Event, command, write, World, freshWorld, sinceGrant, commanded, written, next, run, HasRow, Kept, AllKept}
 use Rattle.machine.specs.Test.{broken}
+use Rattle.machine.specs.WellFormed.{Orderly}
 use Rattle.machine.specs.declared.Answer.{Answer}
 use Rattle.machine.specs.declared.Command.{Command}
 use Rattle.machine.specs.declared.Command.the-variants.{Begin, Get, Fill, Quar, Stage, Delta, Validate, Done, Undo, Evict, Tick}
 use Rattle.machine.proofs.Views
-use Rattle.machine.proofs.Orderly.{Orderly, orderly-fresh}
+use Rattle.machine.proofs.Orderly.{orderly-fresh}
 use Rattle.machine.proofs.Shape.{orderly-next, orderly-step}
 use Rattle.machine.proofs.Accepted.{matched}
 use Rattle.machine.proofs.Frames.{expire-lease}
@@ -40,8 +42,8 @@ pub allKeptTwo-of : (w : World) (es : List Event) → allZero (verdictsTwo w es)
 unfolding allZero
 allKeptTwo-of w [] e = tt
 allKeptTwo-of w (x ∷ es) e = (
-  kept-of (twoValues w) x (eqb-true (brokenTwo w x) 0 (Views.and-true₁ (eqb (brokenTwo w x) 0) (allZero (verdictsTwo (next w x) es)) e)),
-  allKeptTwo-of (next w x) es (Views.and-true₂ (eqb (brokenTwo w x) 0) (allZero (verdictsTwo (next w x) es)) e),
+  kept-of (twoValues w) x (eqb-true (brokenTwo w x) 0 (and-yes (eqb (brokenTwo w x) 0) (allZero (verdictsTwo (next w x) es)) e .0)),
+  allKeptTwo-of (next w x) es (and-yes (eqb (brokenTwo w x) 0) (allZero (verdictsTwo (next w x) es)) e .1),
 )
 
 pub allKeptTwo-unbroken : (w : World) (es : List Event) → Orderly (w .state) → AllKeptTwo w es → allZero (verdictsTwo w es) ≡ true
@@ -76,9 +78,9 @@ Stores s t k r = eqb (wordOf (r .answer)) 7 ≡ true → (l : Lease) × (leaseOn
 
 stores-settled : (s : State) (now t k : ℕ) (v : Value) (o : Option ℕ) → Stores (expire now s) t k (settled s now o (effect (expire now s) now (Fill t k) v))
 unfolding Stores settled effect fills
-stores-settled s now t k v (some e) = λ p. Views.clash false p refl
-stores-settled s now t k v none = Views.if-ind (λ (r : Outcome). eqb (wordOf (r .answer)) 7 ≡ true → (l : Lease) × (leaseOn (expire now s) k ≡ some l) × (l .token ≡ t)) (matches t (leaseOn (expire now s) k))
-    (λ m p. matched t (leaseOn (expire now s) k) m) (λ m p. Views.clash false p refl)
+stores-settled s now t k v (some e) = λ p. clash false p refl
+stores-settled s now t k v none = if-ind (λ (r : Outcome). eqb (wordOf (r .answer)) 7 ≡ true → (l : Lease) × (leaseOn (expire now s) k ≡ some l) × (l .token ≡ t)) (matches t (leaseOn (expire now s) k))
+    (λ m p. matched t (leaseOn (expire now s) k) m) (λ m p. clash false p refl)
 
 pub stored-lease : (s : State) (now t k : ℕ) (v : Value) → eqb (wordOf (step s now (Fill t k) v .answer)) 7 ≡ true → (l : Lease) × (leaseOn s k ≡ some l) × (l .token ≡ t)
 unfolding Stores step
@@ -96,7 +98,7 @@ pub record Steady (w : World) : Type 0 where
   pub noted : (k : ℕ) (l : Lease) → leaseOn (w .state) k ≡ some l → 1 ≤ length (w .since (l .token) k)
   pub level : (k : ℕ) (l : Lease) → leaseOn (w .state) k ≡ some l → Level (w .register k) (w .since (l .token) k)
 
-begun-steady : (readLife writeLife : ℕ) → Steady (begun readLife writeLife)
+begun-steady : (readLife writeLife : ℕ) → Steady (freshWorld readLife writeLife)
 unfolding fresh
 begun-steady readLife writeLife = record {
   orderly = orderly-fresh readLife writeLife;
@@ -104,7 +106,7 @@ begun-steady readLife writeLife = record {
   level = λ k l e. none-fresh k l e;
 }
   where
-    none-fresh : {A : Type 0} (k : ℕ) (l : Lease) → leaseOn (begun readLife writeLife .state) k ≡ some l → A
+    none-fresh : {A : Type 0} (k : ℕ) (l : Lease) → leaseOn (freshWorld readLife writeLife .state) k ≡ some l → A
     none-fresh k l e = Views.no-some l (sym (ap (λ (x : Key). x .lease) (Views.getD-same keyCount k blank)) ∙ e)
 
 -- what is remembered of a token after an answer
@@ -149,7 +151,7 @@ commanded-steady w g c r h m = record {
     level k l (granted q) = rw q (λ u x. List·Memᴰ·eq-of-singleton x)
 
 -- rule 2: a key that is written has a row, and so no lease
-written-steady : (w : World) → Steady w → (n k : ℕ) (v : Value) → Holds (w .state .rows) n k → Steady (written w n k v)
+written-steady : (w : World) → Steady w → (n k : ℕ) (v : Value) → HasRow (w .state .rows) n k → Steady (written w n k v)
 unfolding written
 written-steady w g n k v held = record {
   orderly = g .orderly;
@@ -197,16 +199,16 @@ steady-two w g (write n k v) = refl
 
 module _ (readLife writeLife : ℕ) where
   -- the theorem: after a run from START in which rule 2 was kept, the two-value form is rule 1
-  pub two-values-rule-1 : (es : List Event) → WritesKept (begun readLife writeLife) es → (e : Event) → brokenTwo (run (begun readLife writeLife) es) e ≡ broken (run (begun readLife writeLife) es) e
-  two-values-rule-1 es rules = steady-two (run (begun readLife writeLife) es) (run-steady (begun readLife writeLife) es (begun-steady readLife writeLife) rules)
+  pub two-values-rule-1 : (es : List Event) → WritesKept (freshWorld readLife writeLife) es → (e : Event) → brokenTwo (run (freshWorld readLife writeLife) es) e ≡ broken (run (freshWorld readLife writeLife) es) e
+  two-values-rule-1 es rules = steady-two (run (freshWorld readLife writeLife) es) (run-steady (freshWorld readLife writeLife) es (begun-steady readLife writeLife) rules)
 
-  pub kept-two : (es : List Event) → WritesKept (begun readLife writeLife) es → (e : Event) → KeptTwo (run (begun readLife writeLife) es) e → Kept (run (begun readLife writeLife) es) e
-  kept-two es rules e h = let g = run-steady (begun readLife writeLife) es (begun-steady readLife writeLife) rules in
-      kept-of (run (begun readLife writeLife) es) e (sym (steady-two _ g e) ∙ kept-unbroken (twoValues (run (begun readLife writeLife) es)) e (g .orderly) h)
+  pub kept-two : (es : List Event) → WritesKept (freshWorld readLife writeLife) es → (e : Event) → KeptTwo (run (freshWorld readLife writeLife) es) e → Kept (run (freshWorld readLife writeLife) es) e
+  kept-two es rules e h = let g = run-steady (freshWorld readLife writeLife) es (begun-steady readLife writeLife) rules in
+      kept-of (run (freshWorld readLife writeLife) es) e (sym (steady-two _ g e) ∙ kept-unbroken (twoValues (run (freshWorld readLife writeLife) es)) e (g .orderly) h)
 
-  pub two-kept : (es : List Event) → WritesKept (begun readLife writeLife) es → (e : Event) → Kept (run (begun readLife writeLife) es) e → KeptTwo (run (begun readLife writeLife) es) e
-  two-kept es rules e h = let g = run-steady (begun readLife writeLife) es (begun-steady readLife writeLife) rules in
-      kept-of (twoValues (run (begun readLife writeLife) es)) e (steady-two _ g e ∙ kept-unbroken (run (begun readLife writeLife) es) e (g .orderly) h)
+  pub two-kept : (es : List Event) → WritesKept (freshWorld readLife writeLife) es → (e : Event) → Kept (run (freshWorld readLife writeLife) es) e → KeptTwo (run (freshWorld readLife writeLife) es) e
+  two-kept es rules e h = let g = run-steady (freshWorld readLife writeLife) es (begun-steady readLife writeLife) rules in
+      kept-of (twoValues (run (freshWorld readLife writeLife) es)) e (steady-two _ g e ∙ kept-unbroken (run (freshWorld readLife writeLife) es) e (g .orderly) h)
 
 -- So a whole run that keeps the two-value form keeps the rules, and the other way round
 
@@ -227,8 +229,8 @@ all-two w (e ∷ es) g h =
     let two : KeptTwo w e = kept-of (twoValues w) e (steady-two w g e ∙ kept-unbroken w e (g .orderly) (h .0)) in
     (two, all-two (next w e) es (next-steady w e g (write-kept w e two)) (h .1))
 
-pub allKept-two : (readLife writeLife : ℕ) (es : List Event) → AllKeptTwo (begun readLife writeLife) es → AllKept (begun readLife writeLife) es
-allKept-two readLife writeLife es = all-kept (begun readLife writeLife) es (begun-steady readLife writeLife)
+pub allKept-two : (readLife writeLife : ℕ) (es : List Event) → AllKeptTwo (freshWorld readLife writeLife) es → AllKept (freshWorld readLife writeLife) es
+allKept-two readLife writeLife es = all-kept (freshWorld readLife writeLife) es (begun-steady readLife writeLife)
 
-pub two-allKept : (readLife writeLife : ℕ) (es : List Event) → AllKept (begun readLife writeLife) es → AllKeptTwo (begun readLife writeLife) es
-two-allKept readLife writeLife es = all-two (begun readLife writeLife) es (begun-steady readLife writeLife)
+pub two-allKept : (readLife writeLife : ℕ) (es : List Event) → AllKept (freshWorld readLife writeLife) es → AllKeptTwo (freshWorld readLife writeLife) es
+two-allKept readLife writeLife es = all-two (freshWorld readLife writeLife) es (begun-steady readLife writeLife)

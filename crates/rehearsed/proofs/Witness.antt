@@ -10,6 +10,7 @@ use lib.ListN.{length, take, drop, take-append-drop, length-replicate}
 use borrow.Author.Tests.{leb-true, ltb-true}
 use Rattle.lent.specs.Bytes.{Bytes, zeros}
 use Rattle.lent.specs.Tables.{same, allZero}
+use Rattle.lent.proofs.Choices.{and-yes}
 use Rattle.counts.specs.Count.{readCount}
 use Rattle.machine.specs.Sizes.{keyCount, valueMax, stateSize}
 use Rattle.machine.specs.Decision.{decision}
@@ -18,12 +19,11 @@ use Rattle.machine.specs.Expiry.{leave, finish, expire}
 use Rattle.machine.specs.Refusals.{decide, blocked, sight, wouldLease, wouldGrant, refusals, refusal}
 use Rattle.machine.specs.Effects.{begins, wait, leased, missed, looked, fills, asks, operate, changed, stages, effect}
 use Rattle.machine.specs.Step.{settled, step}
-use Rattle.machine.specs.World.{Event, command, write, begun, commanded, written, run, AllBytes}
+use Rattle.machine.specs.World.{Event, command, write, freshWorld, commanded, written, run, AllBytes}
 use Rattle.machine.specs.Test.{verdicts}
+use Rattle.machine.specs.Witness.{events}
 use Rattle.machine.specs.declared.Answer.{Answer}
 use Rattle.machine.specs.declared.Command.the-variants.{Begin, Get, Fill, Quar, Stage, Validate, Done, Undo}
-use Rattle.machine.proofs.Views.{and-true₁, and-true₂}
-use Rattle.machine.proofs.Witness.{events}
 use Rattle.startup.specs.Start.{Reply, startOf}
 use Rattle.startup.proofs.Started.{started-ready}
 use Rattle.book.specs.Book.{bookSize}
@@ -49,32 +49,32 @@ readTest (write n k v ∷ es) = (ltb k keyCount && leb (length v) valueMax) && r
 
 read-bytes : (es : List Event) → readTest es ≡ true → AllBytes es
 read-bytes [] e = tt
-read-bytes (command now c v ∷ es) e = (byte-test v (and-true₁ (byteTest v) (readTest es) e), read-bytes es (and-true₂ (byteTest v) (readTest es) e))
-read-bytes (write n k v ∷ es) e = (tt, read-bytes es (and-true₂ (ltb k keyCount && leb (length v) valueMax) (readTest es) e))
+read-bytes (command now c v ∷ es) e = (byte-test v (and-yes (byteTest v) (readTest es) e .0), read-bytes es (and-yes (byteTest v) (readTest es) e .1))
+read-bytes (write n k v ∷ es) e = (tt, read-bytes es (and-yes (ltb k keyCount && leb (length v) valueMax) (readTest es) e .1))
 
 read-readable : (es : List Event) → readTest es ≡ true → AllReadable es
 read-readable [] e = tt
-read-readable (command now c v ∷ es) e = (tt, read-readable es (and-true₂ (byteTest v) (readTest es) e))
+read-readable (command now c v ∷ es) e = (tt, read-readable es (and-yes (byteTest v) (readTest es) e .1))
 read-readable (write n k v ∷ es) e =
-    let x = and-true₁ (ltb k keyCount && leb (length v) valueMax) (readTest es) e in (
-      (ltb-true k keyCount (and-true₁ (ltb k keyCount) (leb (length v) valueMax) x), leb-true (length v) valueMax (and-true₂ (ltb k keyCount) (leb (length v) valueMax) x)),
-      read-readable es (and-true₂ (ltb k keyCount && leb (length v) valueMax) (readTest es) e),
+    let x = and-yes (ltb k keyCount && leb (length v) valueMax) (readTest es) e .0 in (
+      (ltb-true k keyCount (and-yes (ltb k keyCount) (leb (length v) valueMax) x .0), leb-true (length v) valueMax (and-yes (ltb k keyCount) (leb (length v) valueMax) x .1)),
+      read-readable es (and-yes (ltb k keyCount && leb (length v) valueMax) (readTest es) e .1),
     )
 
 -- then its column is what is computed
-column-is : (es : List Event) (l : List ℕ) → readTest es ≡ true → verdictsTwo (begun 1000 5000) es ≡ l → column begunPair es ≡ l
+column-is : (es : List Event) (l : List ℕ) → readTest es ≡ true → verdictsTwo (freshWorld 1000 5000) es ≡ l → column begunPair es ≡ l
 column-is es l e f = column-verdicts (zeros stateSize) (zeros bookSize) 1000 5000 ready new-zeros es (read-bytes es e) (read-readable es e) ∙ f
 
 -- The run that keeps the rules
 
-kept-zeros : allZero (verdictsTwo (begun 1000 5000) events) ≡ true
+kept-zeros : allZero (verdictsTwo (freshWorld 1000 5000) events) ≡ true
 unfolding same allZero readCount decision fresh leave finish expire decide blocked sight wouldLease wouldGrant refusals refusal begins wait leased missed looked fills asks operate changed stages effect settled step commanded written
 kept-zeros = refl
 
 pub witness-zeros : allZero (column begunPair events) ≡ true
-witness-zeros = ap allZero (column-is events (verdictsTwo (begun 1000 5000) events) refl refl) ∙ kept-zeros
+witness-zeros = ap allZero (column-is events (verdictsTwo (freshWorld 1000 5000) events) refl refl) ∙ kept-zeros
 
-pub witness-promised : (i : ℕ) → Promised (through begunPair (take i events)) (run (begun 1000 5000) (take i events))
+pub witness-promised : (i : ℕ) → Promised (through begunPair (take i events)) (run (freshWorld 1000 5000) (take i events))
 witness-promised i =
     let whole : (take i events ++ drop i events) ≡ events = take-append-drop i events in
     zeros-promised (zeros stateSize) (zeros bookSize) 1000 5000 ready new-zeros (take i events) (drop i events)
@@ -114,6 +114,6 @@ witness-breaks = column-is breaks (0 ∷ 1 ∷ 2 ∷ 0 ∷ 0 ∷ 0 ∷ 0 ∷ 0 �
 abbrev pub third : List Event
 third = command 0 (Get 0 7) [] ∷ write 5 7 old ∷ write 5 7 new ∷ command 1 (Fill 1 7) old ∷ []
 
-pub witness-third : (column begunPair third ≡ (0 ∷ 2 ∷ 2 ∷ 1 ∷ [])) × (verdicts (begun 1000 5000) third ≡ (0 ∷ 2 ∷ 2 ∷ 0 ∷ []))
+pub witness-third : (column begunPair third ≡ (0 ∷ 2 ∷ 2 ∷ 1 ∷ [])) × (verdicts (freshWorld 1000 5000) third ≡ (0 ∷ 2 ∷ 2 ∷ 0 ∷ []))
 unfolding same allZero readCount decision fresh leave finish expire decide blocked sight wouldLease wouldGrant refusals refusal begins wait leased missed looked fills asks operate changed stages effect settled step commanded written
 witness-third = (column-is third (0 ∷ 2 ∷ 2 ∷ 1 ∷ []) refl refl, refl)

@@ -8,7 +8,7 @@ use lib.Dec.{eqb}
 use Rattle.lent.specs.Tables.{if_then_else_}
 use Rattle.machine.specs.Words.{wordOf}
 use Rattle.machine.specs.State.{Value}
-use Rattle.machine.specs.World.{Event, command, write, World, begun, run, AllKept}
+use Rattle.machine.specs.World.{Event, command, write, World, freshWorld, run, AllKept}
 use Rattle.startup.specs.Start.{startOf}
 use Rattle.cache.specs.Run.{commandOf}
 use Rattle.cache.specs.declared.Numbered.{Numbered}
@@ -70,7 +70,7 @@ pub record Run : Type 0 where
   pub events : List Event
 
 abbrev pub beginning : Run → World
-beginning r = begun (r .readLife) (r .writeLife)
+beginning r = freshWorld (r .readLife) (r .writeLife)
 
 abbrev pub worldOf : Run → World
 worldOf r = run (beginning r) (r .events)

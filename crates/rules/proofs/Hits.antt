@@ -10,6 +10,7 @@ use lib.Dec.{eqb}
 use lib.ListN.{length}
 use borrow.Author.Tests.{leb-false}
 use Rattle.lent.specs.Tables.{if_then_else_}
+use Rattle.lent.proofs.Choices.{clash, if-ind}
 use Rattle.machine.specs.Sizes.{stateSize, keyCount, rowCount, valueMax, valueAt, stagedAt}
 use Rattle.machine.specs.Tables.{first, mem}
 use Rattle.machine.specs.Words.{wordOf, detailOf, wordsOf}
@@ -22,7 +23,7 @@ use Rattle.machine.specs.Step.{settled, step, started, start}
 use Rattle.machine.specs.declared.Answer.{Answer}
 use Rattle.machine.specs.declared.Command.{Command}
 use Rattle.machine.specs.declared.Command.the-variants.{Begin, Get, Fill, Quar, Stage, Delta, Validate, Done, Undo, Evict, Tick}
-use Rattle.machine.proofs.Views.{clash, if-ind, no-some, some-eq}
+use Rattle.machine.proofs.Views.{no-some, some-eq}
 use Rattle.machine.proofs.Accepted.{passed}
 use Rattle.machine.proofs.KeepsSound.{expire-sound}
 use Rattle.machine.proofs.Refused.{accepted-word}

@@ -1,4 +1,4 @@
--- SHOW on any lent bytes: refusal 1 unless they are well formed, with nothing handed back.
+-- SHOW on any lent bytes: STATE unless they are well formed, with nothing handed back.
 use Prim.Native.Nat.{ℕ}
 use mathlib.Core.List.{List, []}
 use Rattle.lent.specs.Tables.{if_then_else_}

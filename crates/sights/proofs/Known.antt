@@ -1,20 +1,17 @@
 -- A session other than 0 is live where a place has its number, and nobody has the number 0.
-use mathlib.Core.Path.{_≡_, refl, sym}
+use mathlib.Core.Path.{_≡_}
 use mathlib.Core.Bool.{true, false, not, _&&_}
 use Prim.Native.Nat.{ℕ}
 use lib.Dec.{eqb}
 use lib.ListN.{length}
 use borrow.Author.Tests.{eq-eqb, ne-eqb}
 use Rattle.machine.specs.Sizes.{sessionCount}
-use Rattle.machine.specs.State.{Slot, noSession, session, State, free, numbered, sessionPlace, sessionAt}
+use Rattle.machine.specs.State.{noSession, State, numbered, sessionPlace, sessionAt}
 use Rattle.machine.specs.Refusals.{notLive}
+use Rattle.machine.proofs.Views.{numbered-live}
 use Rattle.layout.specs.Search.{found}
 use Rattle.layout.specs.declared.Found.{Found}
 use Rattle.layout.proofs.Search.{found-entry, found-passes, nothing-entry}
-
-numbered-live : (n : ℕ) (e : Slot) → numbered n e ≡ true → free e ≡ false
-numbered-live n noSession p = sym p
-numbered-live n (session x) p = refl
 
 module _ (s : State) (n : ℕ) where
   pub known-zero : n ≡ 0 → (not (eqb n 0) && notLive s n) ≡ false

@@ -1,6 +1,6 @@
 -- What is seen on a key, by the marks in the bytes: a row's mark and kind decide between its staged value, nothing and the cached value, and
 -- a lookup decides between a row of one's own and none.
-use mathlib.Core.Path.{_≡_, refl, sym, ap}
+use mathlib.Core.Path.{_≡_, refl}
 use mathlib.Core.Bool.{true, false}
 use mathlib.Core.Option.{Option, none, some}
 use Prim.Native.Nat.{ℕ}
@@ -12,6 +12,8 @@ use Rattle.machine.specs.Sizes.{rowCount, valueAt, stagedAt}
 use Rattle.machine.specs.Tables.{isNone}
 use Rattle.machine.specs.State.{Value, nothing, staged, DROP, Row, noRow, row, State, freeRow, ofOn, kindOf, stagedIn, rowAt, rowOf, rowPlace, cached}
 use Rattle.machine.specs.Refusals.{cachedSight, rowSight, sight}
+use Rattle.machine.specs.Words.{INVALIDATE}
+use Rattle.machine.proofs.Views.{of-on-taken}
 use Rattle.layout.specs.Fields.{valueLength, stagedMark, stagedLength}
 use Rattle.layout.specs.Search.{found}
 use Rattle.layout.specs.declared.Found.{Found}
@@ -46,38 +48,31 @@ module _ (i k : ℕ) (c : Option Value) where
   row-dropped (row n j d DROP) e = refl
 
   module _ (r : Row) (value : stagedMark (stagedIn r) ≡ 1 → ⊥) (drop : stagedMark (stagedIn r) ≡ 2 → ⊥) where
-    pub row-invalidates : kindOf r ≡ 1 → rowSight i k r c ≡ none
+    pub row-invalidates : kindOf r ≡ INVALIDATE → rowSight i k r c ≡ none
     row-invalidates e = go r value drop e
       where
-        go : (x : Row) → (stagedMark (stagedIn x) ≡ 1 → ⊥) → (stagedMark (stagedIn x) ≡ 2 → ⊥) → kindOf x ≡ 1 → rowSight i k x c ≡ none
+        go : (x : Row) → (stagedMark (stagedIn x) ≡ 1 → ⊥) → (stagedMark (stagedIn x) ≡ 2 → ⊥) → kindOf x ≡ INVALIDATE → rowSight i k x c ≡ none
         go noRow p q e = absurd (omega arith)
-        go (row n j d nothing) p q e = rw (eq-eqb d 1 e)
+        go (row n j d nothing) p q e = rw (eq-eqb d INVALIDATE e)
         go (row n j d (staged v)) p q e = absurd (p refl)
         go (row n j d DROP) p q e = absurd (q refl)
 
-    pub row-unstaged : (kindOf r ≡ 1 → ⊥) → rowSight i k r c ≡ cachedSight k c
+    pub row-unstaged : (kindOf r ≡ INVALIDATE → ⊥) → rowSight i k r c ≡ cachedSight k c
     row-unstaged e = go r value drop e
       where
-        go : (x : Row) → (stagedMark (stagedIn x) ≡ 1 → ⊥) → (stagedMark (stagedIn x) ≡ 2 → ⊥) → (kindOf x ≡ 1 → ⊥) → rowSight i k x c ≡ cachedSight k c
+        go : (x : Row) → (stagedMark (stagedIn x) ≡ 1 → ⊥) → (stagedMark (stagedIn x) ≡ 2 → ⊥) → (kindOf x ≡ INVALIDATE → ⊥) → rowSight i k x c ≡ cachedSight k c
         go noRow p q e = refl
-        go (row n j d nothing) p q e = rw (ne-eqb d 1 e)
+        go (row n j d nothing) p q e = rw (ne-eqb d INVALIDATE e)
         go (row n j d (staged v)) p q e = absurd (p refl)
         go (row n j d DROP) p q e = absurd (q refl)
 
 -- ---- a lookup
 
-on-taken : (n k : ℕ) (r : Row) → ofOn n k r ≡ true → freeRow r ≡ false
-on-taken n k noRow e = sym e
-on-taken n k (row m j d u) e = refl
-
 module _ (s : State) (n k : ℕ) where
-  pub row-found : (i : ℕ) → found rowCount (rowPlace s n k) ≡ Found.At i → rowOf s n k ≡ rowAt s i
-  row-found i e = ap (rowAt s) (found-at rowCount (rowPlace s n k) i e .0)
-
   pub row-taken : (i : ℕ) → length (s .rows) ≡ rowCount → found rowCount (rowPlace s n k) ≡ Found.At i → freeRow (rowOf s n k) ≡ false
   row-taken i l f =
       rw (found-entry (ofOn n k) noRow (s .rows) rowCount i f)
-      (on-taken n k (rowAt s i) (found-passes (ofOn n k) noRow (s .rows) rowCount i l f))
+      (of-on-taken n k (rowAt s i) (found-passes (ofOn n k) noRow (s .rows) rowCount i l f))
 
   pub row-missing : length (s .rows) ≡ rowCount → found rowCount (rowPlace s n k) ≡ Found.Nothing → rowOf s n k ≡ noRow
   row-missing l e = nothing-entry (ofOn n k) noRow (s .rows) rowCount l e

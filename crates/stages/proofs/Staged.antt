@@ -29,14 +29,14 @@ use Rattle.stages.specs.Staging.{orElse, stagingOf}
 use Rattle.stages.specs.declared.Staging.{Staging}
 
 -- the session at place i is x, and the row at place j has u staged
-abbrev pub stagedAt : State → ℕ → ℕ → Session → Staged → State
-stagedAt s i j x u = withRows (withSessions s (set (s .sessions) i (session x))) (set (s .rows) j (restaged u (rowAt s j)))
+abbrev pub afterStaging : State → ℕ → ℕ → Session → Staged → State
+afterStaging s i j x u = withRows (withSessions s (set (s .sessions) i (session x))) (set (s .rows) j (restaged u (rowAt s j)))
 
 -- the outcome, u being what is to be staged
 abbrev pub stagedBy : State → Staged → Staging → Outcome
 stagedBy s u (Staging.Refused e) = told (Answer.Refused e) s
 stagedBy s u Staging.Repeated = told Answer.Repeated s
-stagedBy s u (Staging.At i j x) = told (stagedAnswer u) (stagedAt s i j x u)
+stagedBy s u (Staging.At i j x) = told (stagedAnswer u) (afterStaging s i j x u)
 
 -- the session's next record x, and its row of kind d on key k at place j
 pub record Stages (s : State) (n k d j : ℕ) (x : Session) : Type 0 where
@@ -58,7 +58,7 @@ module _ (s : State) (n step k kind : ℕ) where
   unfolding stages stagingOf
   staged-by u e = rw (← e) (go (first tests) refl (ltb step (countOf s n)))
     where
-      set-next : first tests ≡ none → withStaged (withSession s n advanced) n k u ≡ stagedAt s (sessionPlace s n) (rowPlace s n k) (advanced (sessionIn (sessionOf s n))) u
+      set-next : first tests ≡ none → withStaged (withSession s n advanced) n k u ≡ afterStaging s (sessionPlace s n) (rowPlace s n k) (advanced (sessionIn (sessionOf s n))) u
       set-next e = ap (λ (y : Slot). withStaged (withSessions s (set (s .sessions) (sessionPlace s n) y)) n k u) (ap (onSlot advanced) (live e))
 
       go : (o : Option ℕ) → first tests ≡ o → (t : Bool)

@@ -8,6 +8,7 @@ use Rattle.machine.specs.Sizes.{keyCount, stepMax, valueMax}
 use Rattle.machine.specs.State.{Value, staged, State}
 use Rattle.machine.specs.Refusals.{badKey, refusals}
 use Rattle.machine.specs.Effects.{told, effect}
+use Rattle.machine.specs.Words.{ARG, LONG, REFRESH}
 use Rattle.machine.specs.declared.Answer.{Answer}
 use Rattle.machine.specs.declared.Command.the-variants.{Stage}
 use Rattle.outcome.specs.Outcome.{tried}
@@ -16,19 +17,19 @@ use Rattle.stages.specs.declared.Staging.{Staging}
 use Rattle.stages.proofs.Staged.{stagedBy, staged-by}
 
 module _ (s : State) (n step k : ℕ) (v : Value) where
-  pub stage-key : keyCount ≤ k → tried s 0 (Stage n step k) v ≡ told (Answer.Refused 3) s
+  pub stage-key : keyCount ≤ k → tried s 0 (Stage n step k) v ≡ told (Answer.Refused ARG) s
   unfolding tried refusals
   stage-key h = rw (le-leb keyCount k h)
 
-  pub stage-step : stepMax ≤ step → tried s 0 (Stage n step k) v ≡ told (Answer.Refused 3) s
+  pub stage-step : stepMax ≤ step → tried s 0 (Stage n step k) v ≡ told (Answer.Refused ARG) s
   unfolding tried refusals
   stage-step h = rw (le-leb stepMax step h, or-true (badKey k))
 
   module _ (a : k < keyCount) (b : step < stepMax) where
-    pub stage-long : valueMax < length v → tried s 0 (Stage n step k) v ≡ told (Answer.Refused 4) s
+    pub stage-long : valueMax < length v → tried s 0 (Stage n step k) v ≡ told (Answer.Refused LONG) s
     unfolding tried refusals
     stage-long h = rw (lt-leb keyCount k a, lt-leb stepMax step b, lt-ltb valueMax (length v) h)
 
-    pub stage-found : {r : Staging} → length v ≤ valueMax → stagingOf s n step k 2 ≡ r → tried s 0 (Stage n step k) v ≡ stagedBy s (staged v) r
+    pub stage-found : {r : Staging} → length v ≤ valueMax → stagingOf s n step k REFRESH ≡ r → tried s 0 (Stage n step k) v ≡ stagedBy s (staged v) r
     unfolding tried refusals effect
-    stage-found h e = rw (lt-leb keyCount k a, lt-leb stepMax step b, le-ltb valueMax (length v) h) (staged-by s n step k 2 (staged v) e)
+    stage-found h e = rw (lt-leb keyCount k a, lt-leb stepMax step b, le-ltb valueMax (length v) h) (staged-by s n step k REFRESH (staged v) e)

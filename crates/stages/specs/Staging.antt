@@ -1,5 +1,5 @@
--- What STAGE and DELTA find before they stage anything: the refusals 5 to 10, REPEATED, or the places at which the session and its row stand
--- and the session's next record.
+-- What STAGE and DELTA find before they stage anything: the refusals NO SESSION to AHEAD, REPEATED, or the places at which the session and its
+-- row stand and the session's next record.
 use Prim.Native.Nat.{ℕ, _<_}
 use mathlib.Core.Option.{Option, none, some}
 use lib.Dec.{ltb}

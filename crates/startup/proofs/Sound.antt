@@ -8,13 +8,13 @@ use Prim.Native.Nat.{ℕ}
 use lib.Dec.{eqb}
 use lib.ListN.{length}
 use borrow.Author.Tests.{eqb-true, eqb-false}
+use Rattle.lent.proofs.Choices.{case-of, clash}
 use Rattle.machine.specs.Sizes.{stateSize}
-use Rattle.machine.specs.Words.{wordOf}
+use Rattle.machine.specs.Words.{wordOf, STATE, ARG}
 use Rattle.machine.specs.State.{State, fresh}
 use Rattle.machine.specs.Sound.{lifetime, sound}
-use Rattle.machine.specs.World.{Event, World, begun, run, AllKept, Consistent, AllBytes}
+use Rattle.machine.specs.World.{Event, World, freshWorld, run, AllKept, Consistent, AllBytes}
 use Rattle.machine.specs.declared.Answer.{Answer}
-use Rattle.machine.proofs.Views.{caseOf, clash}
 use Rattle.machine.proofs.KeepsSound.{fresh-sound, reached-sound}
 use Rattle.machine.proofs.Demand3.{demand-3}
 use Rattle.layout.specs.Layout.{encode, decode}
@@ -36,16 +36,16 @@ module _ (b : List ℕ) (readLife writeLife : ℕ) where
   refusing e p q = clash (eqb (wordOf (startOf b readLife writeLife .answer)) 1) (rw q refl) (rw p refl)
 
   pub ready-started : startOf b readLife writeLife .answer ≡ Answer.Ready → Started b readLife writeLife
-  ready-started q = sized (caseOf (eqb (length b) stateSize))
+  ready-started q = sized (case-of (eqb (length b) stateSize))
     where
       told : length b ≡ stateSize → (lifetime readLife ≡ true) ⊎ (lifetime readLife ≡ false) → (lifetime writeLife ≡ true) ⊎ (lifetime writeLife ≡ false) → Started b readLife writeLife
       told e (inl r) (inl w) = record { size = e; read = r; write = w }
-      told e (inl r) (inr w) = refusing 3 (started-write b readLife writeLife e w) q
-      told e (inr r) w = refusing 3 (started-read b readLife writeLife e r) q
+      told e (inl r) (inr w) = refusing ARG (started-write b readLife writeLife e w) q
+      told e (inr r) w = refusing ARG (started-read b readLife writeLife e r) q
 
       sized : (eqb (length b) stateSize ≡ true) ⊎ (eqb (length b) stateSize ≡ false) → Started b readLife writeLife
-      sized (inl e) = told (eqb-true (length b) stateSize e) (caseOf (lifetime readLife)) (caseOf (lifetime writeLife))
-      sized (inr e) = refusing 1 (started-size b readLife writeLife (eqb-false (length b) stateSize e)) q
+      sized (inl e) = told (eqb-true (length b) stateSize e) (case-of (lifetime readLife)) (case-of (lifetime writeLife))
+      sized (inr e) = refusing STATE (started-size b readLife writeLife (eqb-false (length b) stateSize e)) q
 
   module _ (ready : startOf b readLife writeLife .answer ≡ Answer.Ready) where
     pub ready-bytes : startOf b readLife writeLife .bytes ≡ encode (fresh readLife writeLife)
@@ -64,14 +64,14 @@ module _ (b : List ℕ) (readLife writeLife : ℕ) where
     abbrev pub world : World
     world = record { state = decode (startOf b readLife writeLife .bytes); register = λ k. []; began = λ k. []; since = λ t k. []; wrote = λ n. false }
 
-    world-begun : world ≡ begun readLife writeLife
-    world-begun = ap (λ (s : State). record { state = s; register = λ k. []; began = λ k. []; since = λ t k. []; wrote = λ n. false }) ready-decodes
+    world-fresh : world ≡ freshWorld readLife writeLife
+    world-fresh = ap (λ (s : State). record { state = s; register = λ k. []; began = λ k. []; since = λ t k. []; wrote = λ n. false }) ready-decodes
 
     -- theorem 3 from these bytes
     pub ready-sound : (es : List Event) → AllBytes es → sound (run world es .state) ≡ true
     ready-sound es h = let x = ready-started ready in
-        ap (λ (w : World). sound (run w es .state)) world-begun ∙ reached-sound readLife writeLife es (x .read) (x .write) h
+        ap (λ (w : World). sound (run w es .state)) world-fresh ∙ reached-sound readLife writeLife es (x .read) (x .write) h
 
     -- demand 3 from these bytes
     pub ready-demand-3 : (es fs : List Event) → AllKept world (es ++ fs) → Consistent (run world es)
-    ready-demand-3 es fs h = rw world-begun (demand-3 readLife writeLife es fs (rw world-begun at h))
+    ready-demand-3 es fs h = rw world-fresh (demand-3 readLife writeLife es fs (rw world-fresh at h))

@@ -12,6 +12,7 @@ use Rattle.machine.specs.Sizes.{stateSize, lifeMax}
 use Rattle.machine.specs.State.{fresh}
 use Rattle.machine.specs.Sound.{lifetime}
 use Rattle.machine.specs.Step.{start}
+use Rattle.machine.specs.Words.{STATE, ARG}
 use Rattle.machine.specs.declared.Answer.{Answer}
 use Rattle.layout.specs.Layout.{encode}
 use Rattle.startup.specs.Start.{Reply, startRefusal, startOf}
@@ -23,15 +24,15 @@ pub lifetime-small : (n : ℕ) → lifetime n ≡ true → n < 2 ^ 32
 lifetime-small n e = let h : n ≤ lifeMax = leb-true n lifeMax (and-yes (leb 1 n) (leb n lifeMax) e .1) in omega arith
 
 module _ (b : List ℕ) (readLife writeLife : ℕ) where
-  pub started-size : (length b ≡ stateSize → ⊥) → startOf b readLife writeLife ≡ refusing 1 b
+  pub started-size : (length b ≡ stateSize → ⊥) → startOf b readLife writeLife ≡ refusing STATE b
   unfolding startOf startRefusal
   started-size n = rw (ne-eqb (length b) stateSize n)
 
-  pub started-read : length b ≡ stateSize → lifetime readLife ≡ false → startOf b readLife writeLife ≡ refusing 3 b
+  pub started-read : length b ≡ stateSize → lifetime readLife ≡ false → startOf b readLife writeLife ≡ refusing ARG b
   unfolding startOf startRefusal
   started-read e p = rw (eq-eqb (length b) stateSize e, p)
 
-  pub started-write : length b ≡ stateSize → lifetime writeLife ≡ false → startOf b readLife writeLife ≡ refusing 3 b
+  pub started-write : length b ≡ stateSize → lifetime writeLife ≡ false → startOf b readLife writeLife ≡ refusing ARG b
   unfolding startOf startRefusal
   started-write e p = rw (eq-eqb (length b) stateSize e, p, or-true)
 

@@ -15,6 +15,7 @@ use Rattle.machine.specs.Sizes.{keyCount, valueAt, stagedAt}
 use Rattle.machine.specs.State.{Value, nothing, staged, DROP, Row, noRow, row, State, stagedIn, rowPlace, rowOf, rowAt, cached}
 use Rattle.machine.specs.Refusals.{Sight as Seen, cachedSight, rowSight, sight, notLive}
 use Rattle.machine.specs.Step.{Shown, seen, show}
+use Rattle.machine.specs.Words.{ARG, NO-SESSION, INVALIDATE}
 use Rattle.machine.specs.declared.Answer.{Answer}
 use Rattle.machine.proofs.Views.{no-some, some-eq}
 use Rattle.machine.proofs.SoundMeans.{row-inside}
@@ -41,7 +42,7 @@ module _ {b : List ℕ} {s : State} (h : Holds b s) (k : ℕ) (l : k < keyCount)
   row-stands : (i : ℕ) (r : Row) → rowAt s i ≡ r → (x : Seen) → rowSight i k r (cached s k) ≡ some x → Stands x
   unfolding Stands
   row-stands i noRow q x e = cached-stands (cached s k) refl x e
-  row-stands i (row n j d nothing) q x e = go (eqb d 1) e
+  row-stands i (row n j d nothing) q x e = go (eqb d INVALIDATE) e
     where
       go : (t : Bool) → (if t then none else cachedSight k (cached s k)) ≡ some x → win b (x .at) (length (x .value)) ≡ x .value
       go true f = no-some x f
@@ -67,12 +68,12 @@ pub record Shows (x : Shown) (at n : ℕ) : Type 0 where
   pub size : length (x .value) ≡ n
 
 module _ (s : State) (n k : ℕ) where
-  pub shown-key : keyCount ≤ k → show s n k ≡ bare (Answer.Refused 3)
+  pub shown-key : keyCount ≤ k → show s n k ≡ bare (Answer.Refused ARG)
   unfolding show
   shown-key h = rw (le-leb keyCount k h)
 
   module _ (l : k < keyCount) where
-    pub shown-unknown : (not (eqb n 0) && notLive s n) ≡ true → show s n k ≡ bare (Answer.Refused 5)
+    pub shown-unknown : (not (eqb n 0) && notLive s n) ≡ true → show s n k ≡ bare (Answer.Refused NO-SESSION)
     unfolding show
     shown-unknown e = rw (lt-leb keyCount k l, e)
 

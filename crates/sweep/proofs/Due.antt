@@ -5,15 +5,15 @@ use mathlib.Core.Bool.{Bool, true, false}
 use mathlib.Core.Logic.{_⊎_, inl, inr}
 use mathlib.Core.List.{List, map}
 use Prim.Native.Nat.{ℕ}
-use lib.Dec.{eqb}
 use lib.ListN.{getD, length-map, List·getD-map}
 use borrow.Author.Tests.{eqb-true}
+use Rattle.lent.proofs.Choices.{case-of, clash}
 use Rattle.machine.specs.Tables.{place, find, mem}
 use Rattle.machine.specs.Session.{isDue}
 use Rattle.machine.specs.State.{Slot, noSession, session, numbered}
 use Rattle.machine.specs.Expiry.{freeSession, those}
 use Rattle.machine.specs.declared.Session.{Session}
-use Rattle.machine.proofs.Views.{caseOf, clash, find-passes, among-those, those-has}
+use Rattle.machine.proofs.Views.{find-passes, among-those, those-has}
 use Rattle.deadlines.specs.Deadlines.{dueSlot}
 use Rattle.endings.proofs.Numbers.{Distinct, slots-are}
 use Rattle.sweep.specs.Lapsing.{freeDue}
@@ -21,7 +21,7 @@ use Rattle.sweep.specs.Lapsing.{freeDue}
 module _ (l : List Slot) (d : Distinct l) where
   -- by its number a session is found among those that pass
   among-is : (p : Session → Bool) (i : ℕ) (x : Session) → getD l i noSession ≡ session x → mem (x .number) (those p l) ≡ p x
-  among-is p i x e = go (caseOf (p x)) (caseOf (mem (x .number) (those p l)))
+  among-is p i x e = go (case-of (p x)) (case-of (mem (x .number) (those p l)))
     where
       go : (p x ≡ true) ⊎ (p x ≡ false) → (mem (x .number) (those p l) ≡ true) ⊎ (mem (x .number) (those p l) ≡ false) → mem (x .number) (those p l) ≡ p x
       go (inl q) r = those-has p l i x e q ∙ sym q

@@ -8,7 +8,8 @@ use native.Mathlib.Numerals.{add-one}
 use native.Mathlib.Omega.{arith}
 use lib.ListN.{length, take}
 use lib.Seq.{take-suc}
-use Rattle.lent.specs.Tables.{if_then_else_, iter}
+use Rattle.lent.specs.Tables.{if_then_else_}
+use Rattle.lent.proofs.Walks.{iter}
 use Rattle.machine.specs.Sizes.{keyCount, sessionCount}
 use Rattle.machine.specs.Session.{isDue}
 use Rattle.machine.specs.State.{blank, Slot, noSession, session, State, sessionAt}

@@ -11,7 +11,7 @@ use Rattle.machine.specs.State.{Value, Lease, Key, Slot, noSession, session, St
 use Rattle.machine.specs.Expiry.{freeSession, freeIfOf, settle, leave, finish, lapsedValue, unlapsed, lapsedLease, those, expire}
 use Rattle.machine.specs.Effects.{toCache}
 use Rattle.endings.specs.declared.Ending.{Ending}
-use Rattle.endings.specs.Ends.{settled, endRows}
+use Rattle.endings.specs.Ends.{keysSettled, endRows}
 use Rattle.deadlines.specs.Deadlines.{lapsed, lapsedOn, dueSlot}
 use Rattle.sweep.specs.Lapsing.{lapsing}
 
@@ -52,7 +52,7 @@ pub rows-of-none : (e : Ending) (s : State) → endRows e [] s ≡ s
 unfolding endRows
 rows-of-none e s = rw (go e, rows-none (s .rows))
   where
-    go : (e : Ending) → settled e [] (s .rows) (s .keys) ≡ s .keys
+    go : (e : Ending) → keysSettled e [] (s .rows) (s .keys) ≡ s .keys
     go Ending.Leaves = refl
     go Ending.Lapses = settle-none lapsedValue (s .rows) (s .keys)
     go Ending.Caches = settle-none toCache (s .rows) (s .keys)

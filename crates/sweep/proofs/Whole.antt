@@ -8,9 +8,9 @@ use Rattle.machine.specs.Session.{isDue}
 use Rattle.machine.specs.State.{State}
 use Rattle.machine.specs.Expiry.{withKeys, withSessions, those, lapsedLease, leave, finish, expire}
 use Rattle.machine.specs.Sound.{sound}
+use Rattle.machine.proofs.SoundFacts.{numbers-distinct}
 use Rattle.endings.specs.Ends.{endRows}
 use Rattle.endings.specs.declared.Ending.{Ending}
-use Rattle.endings.proofs.Numbers.{numbers-distinct}
 use Rattle.sweep.specs.Lapsing.{freeDue}
 use Rattle.sweep.proofs.Due.{due-freed}
 use Rattle.sweep.proofs.Lapsing.{rows-of-none}

@@ -21,9 +21,10 @@ use Rattle.machine.specs.declared.Session.{Session}
 use Rattle.machine.specs.declared.Validation.{Validation}
 use Rattle.machine.specs.declared.Answer.{Answer}
 use Rattle.machine.specs.declared.Command.the-variants.{Begin, Validate, Done, Undo}
-use Rattle.machine.proofs.Views.{clash}
 use Rattle.machine.proofs.SoundFacts as facts
 use Rattle.lent.specs.Tables.{if_then_else_}
+use Rattle.lent.proofs.Choices.{clash}
+use Rattle.machine.proofs.SoundMeans.{sessions-length}
 use Rattle.layout.specs.Fields.{sessionIn}
 use Rattle.layout.specs.Holds.{Holds}
 use Rattle.layout.specs.Search.{found}
@@ -40,14 +41,14 @@ pub record Located (s : State) (n i : ℕ) : Type 0 where
   pub of : sessionOf s n ≡ session live
 
 pub located : (s : State) (n i : ℕ) → sound s ≡ true → sessionPlace s n ≡ i → i < sessionCount → Located s n i
-located s n i ok p l = go (sessionAt s i) refl (rw (← p) (place-passes (numbered n) noSession (s .sessions) (rw (facts.sessions-length s ok, p) l)))
+located s n i ok p l = go (sessionAt s i) refl (rw (← p) (place-passes (numbered n) noSession (s .sessions) (rw (sessions-length s ok, p) l)))
   where
     go : (e : Slot) → sessionAt s i ≡ e → numbered n (sessionAt s i) ≡ true → Located s n i
     go noSession q h = clash false (rw q at h) refl
     go (session x) q h = record { live = x; is = q; number = eqb-true (x .number) n (rw q at h); of = ap (sessionAt s) p ∙ q }
 
 pub unlocated : (s : State) (n : ℕ) → sound s ≡ true → found sessionCount (sessionPlace s n) ≡ Found.Nothing → sessionOf s n ≡ noSession
-unlocated s n ok e = nothing-entry (numbered n) noSession (s .sessions) sessionCount (facts.sessions-length s ok) e
+unlocated s n ok e = nothing-entry (numbered n) noSession (s .sessions) sessionCount (sessions-length s ok) e
 
 module _ (s : State) (n : ℕ) where
   -- ---- no session
@@ -166,11 +167,11 @@ module _ (x : Session) (m : ℕ) where
 module _ (s : State) (ok : sound s ≡ true) (now : ℕ) where
   pub begin-full : found sessionCount (place free (s .sessions)) ≡ Found.Nothing → tried s now Begin [] ≡ told (Answer.Refused 11) s
   unfolding tried refusals
-  begin-full e = rw (found-full free noSession (s .sessions) sessionCount (facts.sessions-length s ok) e)
+  begin-full e = rw (found-full free noSession (s .sessions) sessionCount (sessions-length s ok) e)
 
   module _ (i : ℕ) (l : i < sessionCount) (p : place free (s .sessions) ≡ i) where
     room : sessionsFull s ≡ false
-    room = found-room free noSession (s .sessions) sessionCount i (facts.sessions-length s ok) (rw (p, lt-ltb i sessionCount l))
+    room = found-room free noSession (s .sessions) sessionCount i (sessions-length s ok) (rw (p, lt-ltb i sessionCount l))
 
     pub begin-spent : (n : ℕ) → n ≡ s .head .nextSession → numberMax ≤ n → tried s now Begin [] ≡ told (Answer.Refused 13) s
     unfolding tried refusals

@@ -20,6 +20,7 @@ use Rattle.layout.specs.Holds.{LeaseFits, RowFits}
 use Rattle.layout.specs.Search.{found}
 use Rattle.layout.specs.declared.Found.{Found}
 use Rattle.layout.proofs.Search.{found-entry, found-passes, nothing-entry}
+use Rattle.layout.proofs.Records.{lease-none, row-none}
 use Rattle.waits.specs.Waits.{rowEnd}
 
 -- ---- a session's end, by its number
@@ -41,8 +42,7 @@ module _ (s : State) (n : ℕ) (l : length (s .sessions) ≡ sessionCount) where
 
 module _ (s : State) (k : ℕ) where
   pub row-end-free : (r : Row) → RowFits r → rowSession r ≡ 0 → rowEnd s k r ≡ some 0
-  row-end-free noRow f e = refl
-  row-end-free (row n j d u) f e = absurd (omega (arith, f .given))
+  row-end-free r f e = rw (row-none r f e)
 
   pub row-end-other : (r : Row) → (rowKey r ≡ k → ⊥) → rowEnd s k r ≡ some 0
   row-end-other noRow e = refl
@@ -84,8 +84,7 @@ leased-end none r z = absurd (z refl)
 leased-end (some l) r z = refl
 
 unleased-end : (o : Option Lease) (r : Option ℕ) → LeaseFits o → tokenIn o ≡ 0 → leaseEnd o r ≡ r
-unleased-end none r f e = refl
-unleased-end (some l) r f e = absurd (omega (arith, f .given))
+unleased-end o r f e = rw (lease-none o f e)
 
 module _ (s : State) (k now : ℕ) where
   pub wait-lease : (tokenIn (leaseOn s k) ≡ 0 → ⊥) → wait s k now ≡ leaseUntil (leaseOn s k) - now

@@ -14,7 +14,7 @@ use Rattle.machine.specs.State.{Value, State, sessionPlace, sessionAt, rowPlace
 use Rattle.machine.specs.Sound.{sound}
 use Rattle.machine.specs.Refusals.{sealedIn}
 use Rattle.machine.specs.declared.Session.{Session}
-use Rattle.machine.proofs.SoundFacts as facts
+use Rattle.machine.proofs.SoundMeans.{rows-length}
 use Rattle.layout.specs.Fields.{sessionIn}
 use Rattle.layout.specs.Layout.{decode}
 use Rattle.layout.specs.WellFormed.{wellFormed}
@@ -50,11 +50,11 @@ module _ (s : State) (ok : sound s ≡ true) (b b′ : List ℕ) (n k i : ℕ) (
 
   pub written-held : isSealed x ≡ true → (j : ℕ) → found rowCount (rowPlace s (x .number) k) ≡ Found.At j → Writes s b n k i 0 b′
   written-held q j g =
-      record { rule = rw (sealed-loaded ∙ q, row-taken s n k j (facts.rows-length s ok) (rw number-loaded at g)); book = noted-here }
+      record { rule = rw (sealed-loaded ∙ q, row-taken s n k j (rows-length s ok) (rw number-loaded at g)); book = noted-here }
 
   pub written-rowless : isSealed x ≡ true → found rowCount (rowPlace s (x .number) k) ≡ Found.Nothing → Writes s b n k i 2 b′
   written-rowless q g =
-      record { rule = rw (sealed-loaded ∙ q, row-missing s n k (facts.rows-length s ok) (rw number-loaded at g)); book = noted-here }
+      record { rule = rw (sealed-loaded ∙ q, row-missing s n k (rows-length s ok) (rw number-loaded at g)); book = noted-here }
 
 -- ---- on the cache's bytes
 

@@ -1,4 +1,5 @@
--- `read` meets its contract: a length outside 1 to 20 is no count, and each turn of the loop leaves to be read what stands behind the digits passed (`read-turn` of `Reading`).
+-- `read` meets its contract: a length outside 1 to 20 is no count, and each turn of the loop leaves to be read what stands behind the digits
+-- passed (`read-turn` of `Reading`).
 use lib.ListN.{length, drop}
 use borrow.Author.Needs.{needs}
 use Prim.Native.Nat.{_-_, _≤_}

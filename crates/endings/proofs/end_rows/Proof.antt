@@ -4,8 +4,7 @@ use mathlib.Core.Path.{_≡_}
 use native.Mathlib.Omega.{arith}
 use lib.ListN.{length}
 use borrow.Author.Needs.{needs}
-use Rattle.lent.specs.Tables.{iter}
-use Rattle.lent.proofs.Walks.{iter-more}
+use Rattle.lent.proofs.Walks.{iter-more, iter}
 use Rattle.machine.specs.Sizes.{stateSize, rowCount}
 use Rattle.machine.specs.State.{State}
 use Rattle.layout.specs.Holds.{Holds}

@@ -1,4 +1,5 @@
--- Each refusal in its order, then the token that the key's record says: 0 and another are ignored, and under that of the lease the value is filled in.
+-- Each refusal in its order, then the token that the key's record says: 0 and another are ignored, and under that of the lease the value is
+-- filled in.
 use native.Mathlib.Omega.{arith}
 use mathlib.Core.Path.{sym, _∙_}
 use borrow.Author.Needs.{needs}

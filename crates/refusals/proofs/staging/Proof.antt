@@ -1,4 +1,4 @@
--- Nobody left is the refusal 5; whoever is left finds what he finds on the state as it is.
+-- Nobody left is NO SESSION; whoever is left finds what he finds on the state as it is.
 use mathlib.Core.Path.{sym, ap, _∙_}
 use Rattle.machine.specs.State.{sessionOf}
 use Rattle.machine.specs.Expiry.{expire}

@@ -1,12 +1,12 @@
--- After i turns the bytes hold the state after i steps of `endDue`, and what is noted are the numbers of those due before place i, since the loop finds each session as it was (`noted-next`).
+-- After i turns the bytes hold the state after i steps of `endDue`, and what is noted are the numbers of those due before place i, since the
+-- loop finds each session as it was (`noted-next`).
 use Prim.Native.Nat.{_≤_, _-_}
 use mathlib.Core.Path.{_≡_, refl, ap, _∙_}
 use native.Mathlib.Omega.{arith}
 use lib.ListN.{length, take}
 use lib.Seq.{take-all}
 use borrow.Author.Needs.{needs}
-use Rattle.lent.specs.Tables.{iter}
-use Rattle.lent.proofs.Walks.{iter-more}
+use Rattle.lent.proofs.Walks.{iter-more, iter}
 use Rattle.machine.specs.State.{State}
 use Rattle.machine.specs.Sizes.{stateSize, sessionCount}
 use Rattle.machine.specs.Session.{isDue}

@@ -1,6 +1,6 @@
 -- The tests of n and of the life pick the case.
 use borrow.Author.Tests.{eq-eqb, ne-eqb}
-use mathlib.Core.Path.{_≡_, sym, _∙_}
+use mathlib.Core.Path.{sym, _∙_}
 use borrow.Author.Needs.{needs}
 use Rattle.machine.proofs.Session.validate.Statement.{statement}
 use Rattle.machine.proofs.Session.validate.Tie as tie

@@ -1,5 +1,5 @@
 -- The search for the row's session and that one's deadline decide.
-use mathlib.Core.Path.{sym, ap, _∙_}
+use mathlib.Core.Path.{sym, _∙_}
 use Rattle.machine.specs.Sizes.{sessionCount}
 use Rattle.machine.specs.State.{noSession, numbered}
 use Rattle.layout.proofs.Search.{found-entry, nothing-entry}

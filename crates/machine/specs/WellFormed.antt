@@ -1,28 +1,37 @@
--- 01, "A state is well formed if all this holds", as facts with names: the shape of the tables, which `Orderly` says, and the rest, table by
--- table, at a time that the deadlines are measured by. At the state's own clock this is what `sound` tests (`proofs/SoundMeans.antt`).
+-- 01, "A state is well formed if all this holds", as facts with names: what every command keeps under no rule of the clients (`Orderly`), and
+-- the rest, table by table, at a time that the deadlines are measured by. At the state's own clock this is what `sound` tests (`sound-means`).
 use mathlib.Core.Path.{_≡_}
+use mathlib.Core.Logic.{_⊎_}
 use mathlib.Core.List.{List}
 use mathlib.Core.Option.{some}
 use Prim.Native.Nat.{ℕ, _+_, _≤_, _<_}
 use lib.ListN.{length as size, getD}
+use Rattle.lent.specs.Bytes.{Bytes}
 use Rattle.machine.specs.Sizes.{keyCount, sessionCount, rowCount, valueMax, stepMax, lifeMax, timeMax, numberMax}
-use Rattle.machine.specs.State.{Value, Head, Lease, Key, blank, Slot, noSession, session, Staged, nothing, staged, DROP, Row, noRow, row, State, rowAt}
+use Rattle.machine.specs.Words.{INVALIDATE, REFRESH, INCREMENTAL}
+use Rattle.machine.specs.State.{Value, Head, Lease, Key, blank, Slot, noSession, session, Staged, nothing, staged, DROP, Row, noRow, row, State, leaseOn, sessionAt, rowAt}
 use Rattle.machine.specs.declared.Life.{Life}
 use Rattle.machine.specs.declared.Session.{Session}
-use Rattle.machine.proofs.Orderly.{Orderly}
 
--- each element is a byte
-abbrev pub Bytes : Value → Type 0
-Bytes v = (i : ℕ) → getD v i 0 < 256
+-- from low to high
+abbrev pub Within : ℕ → ℕ → ℕ → Type 0
+Within low high n = (low ≤ n) × (n ≤ high)
+
+pub record Orderly (s : State) : Type 0 where
+  -- a lease's token was given, and no row is on its key
+  pub leases : (k : ℕ) (l : Lease) → leaseOn s k ≡ some l → (l .token < s .head .nextToken) × ((i n d : ℕ) (v : Staged) → rowAt s i ≡ row n k d v → ⊥)
+  -- a session's number was given, and to it alone
+  pub numbers : (i : ℕ) (x : Session) → sessionAt s i ≡ session x → x .number < s .head .nextSession
+  pub unique : (i j : ℕ) (x y : Session) → sessionAt s i ≡ session x → sessionAt s j ≡ session y → x .number ≡ y .number → i ≡ j
+  -- a row's kind; two rows on one key are invalidations, which stage nothing
+  pub kinds : (i n k d : ℕ) (v : Staged) → rowAt s i ≡ row n k d v → Within INVALIDATE INCREMENTAL d
+  pub alone : (i j n m k d e : ℕ) (u v : Staged) → rowAt s i ≡ row n k d u → rowAt s j ≡ row m k e v → (d ≡ INVALIDATE) ⊎ (i ≡ j)
+  pub plain : (i n k : ℕ) (v : Value) → rowAt s i ≡ row n k INVALIDATE (staged v) → ⊥
 
 -- 0 to 64 bytes
 pub record Fine (v : Value) : Type 0 where
   pub short : size v ≤ valueMax
   pub bytes : Bytes v
-
--- from low to high
-abbrev pub Within : ℕ → ℕ → ℕ → Type 0
-Within low high n = (low ≤ n) × (n ≤ high)
 
 -- the token is not 0, and the deadline is not past `until`
 pub record LeaseFits (until : ℕ) (l : Lease) : Type 0 where
@@ -38,8 +47,8 @@ pub record SessionFits (until : ℕ) (x : Session) : Type 0 where
 -- only kind 3 stages DROP; kind 1 stages nothing
 abbrev pub StagedFits : ℕ → Staged → Type 0
 StagedFits d nothing = Unit {0}
-StagedFits d (staged v) = (2 ≤ d) × Fine v
-StagedFits d DROP = d ≡ 3
+StagedFits d (staged v) = (REFRESH ≤ d) × Fine v
+StagedFits d DROP = d ≡ INCREMENTAL
 
 pub record RowFits (k d : ℕ) (u : Staged) : Type 0 where
   pub key : k < keyCount
