@@ -13,8 +13,9 @@ const VERSION: u64 = 1;
 fn tell(a: Answer, told: &mut [u64; 2]) -> u64
     ensures { λ r. ⌜ Said a r (now (told .exit)) ⌝ }
 {
-    *told = [words::detail(a), words::place(a)];
-    words::word(a)
+    let n = words::as_numbers(a);
+    *told = [n.detail, n.place];
+    n.word
 }
 
 // Raised with each change of a name, a number or a parameter.

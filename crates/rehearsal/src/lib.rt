@@ -4,7 +4,7 @@ ghost use mathlib.Core.List.{[]};
 ghost use Prim.Native.Nat.{ℕ, _≤_};
 ghost use lib.ListN.{length};
 ghost use Rattle.machine.specs.Sizes.{valueMax};
-ghost use Rattle.words.specs.Place.{placeOf};
+ghost use Rattle.words.specs.Numbers.{placeOf};
 ghost use Rattle.cache.specs.Run.{ran};
 ghost use Rattle.book.specs.Book.{bookSize};
 ghost use Rattle.rules.specs.Rules.{commands};

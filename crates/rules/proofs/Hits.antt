@@ -31,7 +31,7 @@ use Rattle.layout.specs.Layout.{decode}
 use Rattle.layout.specs.WellFormed.{wellFormed}
 use Rattle.layout.proofs.Formed.{formed}
 use Rattle.startup.specs.Start.{replied, startRefusal, startOf}
-use Rattle.words.specs.Place.{placeOf}
+use Rattle.words.specs.Numbers.{placeOf}
 use Rattle.cache.specs.Run.{ran}
 
 -- n bytes at a place, within the state and no more than a value has

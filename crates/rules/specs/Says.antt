@@ -6,7 +6,7 @@ use Rattle.lent.specs.Bytes.{win}
 use Rattle.machine.specs.Sizes.{stateSize, valueMax}
 use Rattle.machine.specs.Words.{wordOf, detailOf}
 use Rattle.machine.specs.declared.Answer.{Answer}
-use Rattle.words.specs.Place.{placeOf}
+use Rattle.words.specs.Numbers.{placeOf}
 use Rattle.rules.specs.Rules.{Said}
 use Rattle.rules.specs.declared.Said.{Said as Told}
 

@@ -5,7 +5,7 @@ ghost use lib.ListN.{length};
 ghost use Rattle.lent.specs.Tables.{if_then_else_};
 ghost use Rattle.machine.specs.Words.{wordOf};
 ghost use Rattle.startup.specs.Start.{startOf};
-ghost use Rattle.words.specs.Place.{placeOf};
+ghost use Rattle.words.specs.Numbers.{placeOf};
 ghost use Rattle.book.specs.Book.{bookSize};
 ghost use Rattle.rules.specs.Rules.{begins, noted};
 ghost use Rattle.rules.specs.Says.{toldOf, Says};
