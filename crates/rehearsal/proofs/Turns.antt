@@ -1,7 +1,7 @@
 -- A line by its cases, and its printing. A line that is not taken changes nothing; a HIT comes only from a cache of 65,536 bytes, so its value can be
 -- printed from them; and the text depends on a value only where the word is HIT.
 use Prim.Native.Nat.{ℕ, _+_, _-_, _≤_, _<_}
-use mathlib.Core.Path.{_≡_, refl, sym, ap, _∙_}
+use mathlib.Core.Path.{_≡_, refl, sym, _∙_}
 use mathlib.Core.Bool.{Bool, true, false, _&&_}
 use mathlib.Core.Logic.{_⊎_, inl, inr}
 use mathlib.Core.List.{List, []}
@@ -14,19 +14,20 @@ use Rattle.lent.specs.Bytes.{win, splice}
 use Rattle.lent.specs.Tables.{if_then_else_}
 use Rattle.lent.proofs.Splice.{win-splice}
 use Rattle.machine.specs.Sizes.{stateSize, valueMax}
-use Rattle.machine.specs.Words.{wordOf}
+use Rattle.machine.specs.Words.{wordOf, HIT}
 use Rattle.machine.specs.State.{Value}
 use Rattle.machine.specs.Refusals.{startRefusals}
 use Rattle.machine.specs.Step.{started, start}
 use Rattle.machine.specs.Tables.{first}
 use Rattle.machine.specs.declared.Command.{Command}
-use Rattle.machine.proofs.Views.{caseOf, clash}
+use Rattle.machine.proofs.Views.{caseOf}
 use Rattle.layout.specs.Layout.{decode}
 use Rattle.layout.specs.WellFormed.{wellFormed}
 use Rattle.layout.proofs.Formed.{formed}
 use Rattle.startup.specs.Start.{replied, startRefusal, startOf}
-use Rattle.cache.specs.Run.{ran, commandOf}
-use Rattle.cache.specs.declared.Numbered.{Numbered}
+use Rattle.cache.specs.Run.{ran}
+use Rattle.numbered.specs.Commands.{commandOf}
+use Rattle.numbered.specs.declared.Numbered.{Numbered}
 use Rattle.book.specs.Book as book
 use Rattle.book.specs.Book.{bookSize, linesIn, counted}
 use Rattle.rules.specs.Rules as rules
@@ -41,7 +42,7 @@ use Rattle.lines.proofs.Laws.{line-sound}
 use Rattle.lines.specs.declared.Line.{Line}
 use Rattle.replies.specs.Replies as replies
 use Rattle.replies.specs.Replies.{lineRoom, detailed, ended}
-use Rattle.rehearsal.specs.Rehearsal.{numbered, commanded, acted, saidOf, turn, lineOf, endOf, Left, Leaves}
+use Rattle.rehearsal.specs.Rehearsal.{numbered, commanded, acted, saidOf, turn, lineOf, endOf, Leaves}
 use Rattle.rehearsal.specs.Saying.{notRead, Within, handed, textOf, Prints}
 
 -- ---- the cases of a line
@@ -121,51 +122,51 @@ module _ (x b t : List ℕ) (r : Line) (is : r ≡ readLine t .line) where
 
 -- ---- a HIT comes from a cache of its size
 
-ran-hit : (x : List ℕ) (time : ℕ) (c : Command) (v : Value) → wordOf (ran x time c v .answer) ≡ 3 → length x ≡ stateSize
+ran-hit : (x : List ℕ) (time : ℕ) (c : Command) (v : Value) → wordOf (ran x time c v .answer) ≡ HIT → length x ≡ stateSize
 unfolding ran
 ran-hit x time c v = go (wellFormed x) refl
   where
-    go : (t : Bool) → wellFormed x ≡ t → wordOf (ran x time c v .answer) ≡ 3 → length x ≡ stateSize
+    go : (t : Bool) → wellFormed x ≡ t → wordOf (ran x time c v .answer) ≡ HIT → length x ≡ stateSize
     go true e w = formed x e .size
     go false e w = absurd (let z = rw e at w in omega (arith, z))
 
-start-hit : (x : List ℕ) (readLife writeLife : ℕ) → wordOf (startOf x readLife writeLife .answer) ≡ 3 → length x ≡ stateSize
+start-hit : (x : List ℕ) (readLife writeLife : ℕ) → wordOf (startOf x readLife writeLife .answer) ≡ HIT → length x ≡ stateSize
 unfolding startOf start
 start-hit x readLife writeLife = go (startRefusal x readLife writeLife) (first (startRefusals readLife writeLife))
   where
-    go : (o p : Option ℕ) → wordOf (replied x o (started readLife writeLife p (decode x)) .answer) ≡ 3 → length x ≡ stateSize
+    go : (o p : Option ℕ) → wordOf (replied x o (started readLife writeLife p (decode x)) .answer) ≡ HIT → length x ≡ stateSize
     go none none w = absurd (omega arith)
     go none (some e) w = absurd (omega arith)
     go (some e) p w = absurd (omega arith)
 
-if-hit : (q : Bool) (s t : rules.Said) (x : List ℕ) → (s .word ≡ 3 → length x ≡ stateSize) → (t .word ≡ 3 → length x ≡ stateSize) → (if q then s else t) .word ≡ 3 → length x ≡ stateSize
+if-hit : (q : Bool) (s t : rules.Said) (x : List ℕ) → (s .word ≡ HIT → length x ≡ stateSize) → (t .word ≡ HIT → length x ≡ stateSize) → (if q then s else t) .word ≡ HIT → length x ≡ stateSize
 if-hit true s t x f g = f
 if-hit false s t x f g = g
 
-unreadable-hit : (x b : List ℕ) → unreadable x b .word ≡ 3 → length x ≡ stateSize
+unreadable-hit : (x b : List ℕ) → unreadable x b .word ≡ HIT → length x ≡ stateSize
 unreadable-hit x b w = absurd (omega arith)
 
-begins-hit : (x b : List ℕ) (readLife writeLife : ℕ) → begins x b readLife writeLife .word ≡ 3 → length x ≡ stateSize
+begins-hit : (x b : List ℕ) (readLife writeLife : ℕ) → begins x b readLife writeLife .word ≡ HIT → length x ≡ stateSize
 unfolding begins
 begins-hit x b readLife writeLife w = start-hit x readLife writeLife w
 
-writes-hit : (x b : List ℕ) (n k : ℕ) (v : Value) → writes x b n k v .word ≡ 3 → length x ≡ stateSize
+writes-hit : (x b : List ℕ) (n k : ℕ) (v : Value) → writes x b n k v .word ≡ HIT → length x ≡ stateSize
 unfolding writes
 writes-hit x b n k v w = absurd (omega arith)
 
-numbered-hit : (x b : List ℕ) (time : ℕ) (q : Numbered) (v : Value) → numbered x b time q v .word ≡ 3 → length x ≡ stateSize
+numbered-hit : (x b : List ℕ) (time : ℕ) (q : Numbered) (v : Value) → numbered x b time q v .word ≡ HIT → length x ≡ stateSize
 unfolding commands
 numbered-hit x b time (Numbered.Is c) v w = ran-hit x time c v w
 numbered-hit x b time Numbered.Unknown v w = unreadable-hit x b w
 
-acted-hit : (x b : List ℕ) (l : Line) (v : Value) → acted x b l v .word ≡ 3 → length x ≡ stateSize
+acted-hit : (x b : List ℕ) (l : Line) (v : Value) → acted x b l v .word ≡ HIT → length x ≡ stateSize
 unfolding acted
 acted-hit x b Line.Unreadable v = unreadable-hit x b
 acted-hit x b (Line.Start r w) v = if-hit (book.started b) (unreadable x b) (begins x b r w) x (unreadable-hit x b) (begins-hit x b r w)
 acted-hit x b (Line.Write n k l) v = if-hit (book.started b) (writes x b n k v) (unreadable x b) x (writes-hit x b n k v) (unreadable-hit x b)
 acted-hit x b (Line.Command p t a₁ a₂ a₃ a₄ l) v = if-hit (book.started b) (numbered x b t (commandOf p a₁ a₂ a₃ a₄) v) (unreadable x b) x (numbered-hit x b t (commandOf p a₁ a₂ a₃ a₄) v) (unreadable-hit x b)
 
-said-hit : (x b t : List ℕ) → saidOf x b t .word ≡ 3 → length x ≡ stateSize
+said-hit : (x b t : List ℕ) → saidOf x b t .word ≡ HIT → length x ≡ stateSize
 unfolding saidOf
 said-hit x b t = acted-hit x b (readLine t .line) (readLine t .value)
 
@@ -175,20 +176,20 @@ said-within x b t x′ b′ r h e = record { inside = λ w. let l = said-hit x b
 
 -- ---- printing
 
-value-only : (word detail : ℕ) (v u : Value) → (word ≡ 3 → v ≡ u) → detailed word detail v ≡ detailed word detail u
+value-only : (word detail : ℕ) (v u : Value) → (word ≡ HIT → v ≡ u) → detailed word detail v ≡ detailed word detail u
 unfolding detailed
-value-only word detail v u f = go (caseOf (eqb word 3))
+value-only word detail v u f = go (caseOf (eqb word HIT))
   where
-    go : (eqb word 3 ≡ true) ⊎ (eqb word 3 ≡ false) → detailed word detail v ≡ detailed word detail u
-    go (inl q) = rw (f (eqb-true word 3 q)) refl
+    go : (eqb word HIT ≡ true) ⊎ (eqb word HIT ≡ false) → detailed word detail v ≡ detailed word detail u
+    go (inl q) = rw (f (eqb-true word HIT q)) refl
     go (inr q) = rw q refl
 
-text-only : (n word detail : ℕ) (v u : Value) (rule : ℕ) → (word ≡ 3 → v ≡ u) → replies.replied n word detail v rule ≡ replies.replied n word detail u rule
+text-only : (n word detail : ℕ) (v u : Value) (rule : ℕ) → (word ≡ HIT → v ≡ u) → replies.replied n word detail v rule ≡ replies.replied n word detail u rule
 unfolding replies.replied
 text-only n word detail v u rule f = rw (value-only word detail v u f) refl
 
-handed-hit : (r : Said) (x : List ℕ) → r .word ≡ 3 → handed r x ≡ win x (r .at) (r .detail)
-handed-hit r x w = rw (eq-eqb (r .word) 3 w) refl
+handed-hit : (r : Said) (x : List ℕ) → r .word ≡ HIT → handed r x ≡ win x (r .at) (r .detail)
+handed-hit r x w = rw (eq-eqb (r .word) HIT w) refl
 
 -- the text of what is said is that of the definition
 text-is : (s : rules.Said) (at : ℕ) (r : Said) (x b b′ : List ℕ) → Says s at r x b → textOf r x b′ ≡ replies.replied (linesIn b′) (s .word) (s .detail) (s .value) (s .rule)
@@ -204,7 +205,7 @@ part-win x at d = let e : at + d - at ≡ d = omega arith in rw e refl
 -- the text stands at the front of what was lent
 pub prints : (r : Said) (x b o : List ℕ) (n m : ℕ) (b′ o′ v : List ℕ)
     → (m ≡ length (replies.replied n (r .word) (r .detail) v (r .rule))) × (o′ ≡ splice o 0 (replies.replied n (r .word) (r .detail) v (r .rule)))
-    → (r .word ≡ 3 → v ≡ win x (r .at) (r .detail)) → b′ ≡ counted b (r .rule) → n ≡ linesIn b′ → Prints r x b o m b′ o′
+    → (r .word ≡ HIT → v ≡ win x (r .at) (r .detail)) → b′ ≡ counted b (r .rule) → n ≡ linesIn b′ → Prints r x b o m b′ o′
 prints r x b o n m b′ o′ v h f k e =
     let y : replies.replied n (r .word) (r .detail) v (r .rule) ≡ textOf r x b′ = text-only n (r .word) (r .detail) v (handed r x) (r .rule) (λ w. f w ∙ sym (handed-hit r x w)) ∙ rw e refl in
     record { book = k; size = rw (← y) (h .0); out = rw (← y) (h .1) }

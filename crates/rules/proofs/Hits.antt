@@ -12,7 +12,7 @@ use borrow.Author.Tests.{leb-false}
 use Rattle.lent.specs.Tables.{if_then_else_}
 use Rattle.machine.specs.Sizes.{stateSize, keyCount, rowCount, valueMax, valueAt, stagedAt}
 use Rattle.machine.specs.Tables.{first, mem}
-use Rattle.machine.specs.Words.{wordOf, detailOf, wordsOf}
+use Rattle.machine.specs.Words.{wordOf, detailOf, HIT, wordsOf}
 use Rattle.machine.specs.State.{Value, nothing, staged, DROP, Row, noRow, row, State, freeRow, rowPlace, rowOf, rowAt, cached}
 use Rattle.machine.specs.Sound.{sound}
 use Rattle.machine.specs.Expiry.{expire}
@@ -68,7 +68,7 @@ module _ (s : State) (ok : sound s ≡ true) (k : ℕ) (l : k < keyCount) where
 -- ---- a HIT
 
 abbrev HitWithin : Answer → Type 0
-HitWithin a = wordOf a ≡ 3 → Within (placeOf a) (detailOf a)
+HitWithin a = wordOf a ≡ HIT → Within (placeOf a) (detailOf a)
 
 looked-within : (s : State) (now n k : ℕ) → sound s ≡ true → k < keyCount → (o : Option Sight) → sight s n k ≡ o → HitWithin (looked s now n k o .answer)
 unfolding looked missed leased
@@ -82,9 +82,9 @@ unfolding effect refusals
 get-within s now n k v ok e = looked-within s now n k ok (leb-false keyCount k (passed s now (Get n k) v e 1)) (sight s n k) refl
 
 -- the word of no other command
-no-hit : (s : State) (now : ℕ) (c : Command) (v : Value) → refusal (expire now s) now c v ≡ none → mem 3 (wordsOf c) ≡ false → HitWithin (step s now c v .answer)
+no-hit : (s : State) (now : ℕ) (c : Command) (v : Value) → refusal (expire now s) now c v ≡ none → mem HIT (wordsOf c) ≡ false → HitWithin (step s now c v .answer)
 unfolding refusal
-no-hit s now c v e f w = clash (mem 3 (wordsOf c)) (rw w at (accepted-word s now c v e)) f
+no-hit s now c v e f w = clash (mem HIT (wordsOf c)) (rw w at (accepted-word s now c v e)) f
 
 refused-within : (s : State) (now : ℕ) (c : Command) (v : Value) (m : ℕ) → refusal (expire now s) now c v ≡ some m → HitWithin (step s now c v .answer)
 unfolding step settled
@@ -112,7 +112,7 @@ module _ (s : State) (now : ℕ) (v : Value) (ok : sound s ≡ true) where
       go none e = accepted-within c e
       go (some m) e = refused-within s now c v m e
 
-pub ran-within : (x : List ℕ) (now : ℕ) (c : Command) (v : Value) → wordOf (ran x now c v .answer) ≡ 3 → Within (placeOf (ran x now c v .answer)) (detailOf (ran x now c v .answer))
+pub ran-within : (x : List ℕ) (now : ℕ) (c : Command) (v : Value) → wordOf (ran x now c v .answer) ≡ HIT → Within (placeOf (ran x now c v .answer)) (detailOf (ran x now c v .answer))
 unfolding ran
 ran-within x now c v = go (wellFormed x) refl
   where
@@ -120,7 +120,7 @@ ran-within x now c v = go (wellFormed x) refl
     go true e = rw e (step-within (decode x) now v (formed x e .sound) c)
     go false e = rw e (λ w. absurd (omega arith))
 
-pub start-within : (x : List ℕ) (readLife writeLife : ℕ) → wordOf (startOf x readLife writeLife .answer) ≡ 3 → Within (placeOf (startOf x readLife writeLife .answer)) (detailOf (startOf x readLife writeLife .answer))
+pub start-within : (x : List ℕ) (readLife writeLife : ℕ) → wordOf (startOf x readLife writeLife .answer) ≡ HIT → Within (placeOf (startOf x readLife writeLife .answer)) (detailOf (startOf x readLife writeLife .answer))
 unfolding startOf start
 start-within x readLife writeLife = go (startRefusal x readLife writeLife) (first (startRefusals readLife writeLife))
   where

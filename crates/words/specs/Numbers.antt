@@ -4,6 +4,10 @@ use Rattle.machine.specs.Words.{wordOf, detailOf}
 use Rattle.machine.specs.declared.Answer.{Answer}
 use Rattle.words.specs.declared.Numbers.{Numbers}
 
+-- the word of a refusal
+abbrev pub REFUSED : ℕ
+REFUSED = 0
+
 -- 0 for every other answer
 abbrev pub placeOf : Answer → ℕ
 placeOf Answer.Ready = 0
