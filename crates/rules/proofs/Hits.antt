@@ -67,7 +67,7 @@ module _ (s : State) (ok : sound s ≡ true) (k : ℕ) (l : k < keyCount) where
 
 -- ---- a HIT
 
-abbrev HitWithin : Answer → Type 0
+abbrev pub HitWithin : Answer → Type 0
 HitWithin a = wordOf a ≡ HIT → Within (placeOf a) (detailOf a)
 
 looked-within : (s : State) (now n k : ℕ) → sound s ≡ true → k < keyCount → (o : Option Sight) → sight s n k ≡ o → HitWithin (looked s now n k o .answer)
@@ -112,7 +112,7 @@ module _ (s : State) (now : ℕ) (v : Value) (ok : sound s ≡ true) where
       go none e = accepted-within c e
       go (some m) e = refused-within s now c v m e
 
-pub ran-within : (x : List ℕ) (now : ℕ) (c : Command) (v : Value) → wordOf (ran x now c v .answer) ≡ HIT → Within (placeOf (ran x now c v .answer)) (detailOf (ran x now c v .answer))
+pub ran-within : (x : List ℕ) (now : ℕ) (c : Command) (v : Value) → HitWithin (ran x now c v .answer)
 unfolding ran
 ran-within x now c v = go (wellFormed x) refl
   where
@@ -120,11 +120,12 @@ ran-within x now c v = go (wellFormed x) refl
     go true e = rw e (step-within (decode x) now v (formed x e .sound) c)
     go false e = rw e (λ w. absurd (omega arith))
 
-pub start-within : (x : List ℕ) (readLife writeLife : ℕ) → wordOf (startOf x readLife writeLife .answer) ≡ HIT → Within (placeOf (startOf x readLife writeLife .answer)) (detailOf (startOf x readLife writeLife .answer))
+-- START is answered READY or refused
+pub start-no-hit : (x : List ℕ) (readLife writeLife : ℕ) → wordOf (startOf x readLife writeLife .answer) ≡ HIT → ⊥
 unfolding startOf start
-start-within x readLife writeLife = go (startRefusal x readLife writeLife) (first (startRefusals readLife writeLife))
+start-no-hit x readLife writeLife = go (startRefusal x readLife writeLife) (first (startRefusals readLife writeLife))
   where
-    go : (o p : Option ℕ) → HitWithin (replied x o (started readLife writeLife p (decode x)) .answer)
-    go none none = λ w. absurd (omega arith)
-    go none (some e) = λ w. absurd (omega arith)
-    go (some e) p = λ w. absurd (omega arith)
+    go : (o p : Option ℕ) → wordOf (replied x o (started readLife writeLife p (decode x)) .answer) ≡ HIT → ⊥
+    go none none w = omega arith
+    go none (some e) w = omega arith
+    go (some e) p w = omega arith

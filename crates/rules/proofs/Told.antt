@@ -9,7 +9,7 @@ use Rattle.lent.specs.Tables.{if_then_else_, same}
 use Rattle.lent.proofs.Choices.{if-same}
 use Rattle.machine.specs.Sizes.{keyCount}
 use Rattle.machine.specs.State.{Value}
-use Rattle.machine.specs.Words.{wordOf, detailOf, READY, HIT, LEASE, STORED, DONE, UNDONE}
+use Rattle.machine.specs.Words.{wordOf, READY, HIT, LEASE, STORED, DONE, UNDONE}
 use Rattle.machine.specs.declared.Answer.{Answer}
 use Rattle.machine.specs.declared.Command.{Command}
 use Rattle.machine.specs.declared.Command.the-variants.{Begin, Get, Fill, Quar, Stage, Delta, Validate, Done, Undo, Evict, Tick}
@@ -26,7 +26,7 @@ use Rattle.rules.specs.Rules.{answered, begins, ruleOf, noted, commands}
 use Rattle.rules.specs.Says.{told, toldOf, Says}
 use Rattle.rules.specs.Tests.{watched, asksFor}
 use Rattle.rules.specs.declared.Said.{Said as Told}
-use Rattle.rules.proofs.Hits.{Within, ran-within, start-within}
+use Rattle.rules.proofs.Hits.{HitWithin, ran-within, start-no-hit}
 
 -- ---- the rule broken, by the word at which it counts
 
@@ -106,7 +106,7 @@ noted-grant b c w k h e = rw (noted-is b c w, eq-eqb w LEASE h, e)
 
 -- ---- an answer by its numbers
 
-says : (r : Reply) (rule : ℕ) (b : List ℕ) → (wordOf (r .answer) ≡ HIT → Within (placeOf (r .answer)) (detailOf (r .answer))) → Says (answered r rule b) (placeOf (r .answer)) (toldOf (r .answer) rule) (r .bytes) b
+says : (r : Reply) (rule : ℕ) (b : List ℕ) → HitWithin (r .answer) → Says (answered r rule b) (placeOf (r .answer)) (toldOf (r .answer) rule) (r .bytes) b
 says r rule b h = record {
   word = refl;
   detail = refl;
@@ -125,7 +125,7 @@ module _ (x b : List ℕ) (readLife writeLife : ℕ) (a : Answer) (x′ : List �
 
   begin-says : (b′ : List ℕ) → b′ ≡ (if eqb (wordOf a) READY then withStarted b else b) → Started b′
   unfolding begins
-  begin-says b′ g = rw (g, f, e) (says (startOf x readLife writeLife) 0 (if eqb (wordOf (startOf x readLife writeLife .answer)) READY then withStarted b else b) (start-within x readLife writeLife))
+  begin-says b′ g = rw (g, f, e) (says (startOf x readLife writeLife) 0 (if eqb (wordOf (startOf x readLife writeLife .answer)) READY then withStarted b else b) (λ w. absurd (start-no-hit x readLife writeLife w)))
 
   pub begin-refused : (wordOf a ≡ READY → ⊥) → Started b
   begin-refused h = begin-says b (rw (ne-eqb (wordOf a) READY h))
