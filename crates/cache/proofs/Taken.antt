@@ -1,7 +1,7 @@
 -- The parts of a step as the code takes them, said of the bytes: what is held after the clock's test, after the command, after expiry,
 -- and after the check of the whole buffer.
-use mathlib.Core.Path.{_≡_, refl, sym, ap, _∙_}
-use mathlib.Core.Bool.{Bool, true, false, _||_, or-true}
+use mathlib.Core.Path.{_≡_, refl}
+use mathlib.Core.Bool.{true, false, or-true}
 use mathlib.Core.List.{List}
 use mathlib.Core.Option.{Option, none, some}
 use Prim.Native.Nat.{ℕ, _≤_, _<_}
@@ -9,15 +9,15 @@ use native.Mathlib.Omega.{arith}
 use lib.Dec.{ltb}
 use borrow.Author.Tests.{lt-ltb, le-ltb}
 use Rattle.machine.specs.Sizes.{timeMax}
+use Rattle.machine.specs.Words.{STATE, CLOCK}
 use Rattle.machine.specs.State.{Value, State}
 use Rattle.machine.specs.Sound.{sound}
 use Rattle.machine.specs.Expiry.{withClock, expire}
 use Rattle.machine.specs.Refusals.{refusal}
-use Rattle.machine.specs.Effects.{Outcome, told}
 use Rattle.machine.specs.Step.{settled, step}
 use Rattle.machine.specs.declared.Answer.{Answer}
 use Rattle.machine.specs.declared.Command.{Command}
-use Rattle.layout.specs.Layout.{encode, decode}
+use Rattle.layout.specs.Layout.{decode}
 use Rattle.layout.specs.WellFormed.{wellFormed}
 use Rattle.layout.specs.Holds.{Holds}
 use Rattle.layout.proofs.Formed.{formed, holds-decoded}
@@ -37,10 +37,10 @@ is-accepted (some d) q = absurd (let z : _≡_ {A = ℕ} 0 1 = cc in omega arith
 
 module _ (s : State) (now : ℕ) (c : Command) (v : Value) where
   -- CLOCK
-  pub before-clock : {b : List ℕ} → now < s .head .clock → Holds b s → Gives (acted s now c v) (Answer.Refused 2) b
+  pub before-clock : {b : List ℕ} → now < s .head .clock → Holds b s → Gives (acted s now c v) (Answer.Refused CLOCK) b
   before-clock e h = rw (acted-late s now c v (rw (lt-ltb now (s .head .clock) e))) (record { answer = refl; holds = h })
 
-  pub past-time : {b : List ℕ} → timeMax < now → Holds b s → Gives (acted s now c v) (Answer.Refused 2) b
+  pub past-time : {b : List ℕ} → timeMax < now → Holds b s → Gives (acted s now c v) (Answer.Refused CLOCK) b
   past-time e h = rw (acted-late s now c v (rw (lt-ltb timeMax now e) (or-true (ltb now (s .head .clock))))) (record { answer = refl; holds = h })
 
   in-time : s .head .clock ≤ now → now ≤ timeMax → clockBad s now ≡ false
@@ -68,7 +68,7 @@ module _ (s : State) (now : ℕ) (c : Command) (v : Value) where
 
 -- the whole buffer
 module _ (b : List ℕ) (now : ℕ) (c : Command) (v : Value) where
-  pub ran-damaged : wellFormed b ≡ false → (Answer.Refused 1 ≡ ran b now c v .answer) × (b ≡ ran b now c v .bytes)
+  pub ran-damaged : wellFormed b ≡ false → (Answer.Refused STATE ≡ ran b now c v .answer) × (b ≡ ran b now c v .bytes)
   unfolding ran
   ran-damaged e = rw e (refl, refl)
 

@@ -8,7 +8,7 @@ use Rattle.machine.specs.Words.{wordOf, detailOf}
 use Rattle.machine.specs.Step.{Shown}
 use Rattle.machine.specs.declared.Answer.{Answer}
 use Rattle.startup.specs.Start.{Reply}
-use Rattle.words.specs.Place.{placeOf}
+use Rattle.words.specs.Numbers.{placeOf}
 
 -- raised with each change of a name, a number or a parameter of the library
 abbrev pub version : ℕ

@@ -1,7 +1,7 @@
 // The library that firmware links: the proved functions under plain names, with numbers for answers. Its header is include/basalekko.h.
 ghost use mathlib.Core.Path.{_≡_};
 ghost use Rattle.layout.specs.WellFormed.{wellFormed};
-ghost use Rattle.cache.specs.Run.{commandOf, ranBy};
+ghost use Rattle.numbered.specs.Commands.{commandOf, ranBy};
 ghost use Rattle.show.specs.Show.{showOf};
 ghost use Rattle.startup.specs.Start.{startOf};
 ghost use Rattle.exported.specs.Told.{version, Said, Replied, stretchTold};
@@ -13,8 +13,9 @@ const VERSION: u64 = 1;
 fn tell(a: Answer, told: &mut [u64; 2]) -> u64
     ensures { λ r. ⌜ Said a r (now (told .exit)) ⌝ }
 {
-    *told = [words::detail(a), words::place(a)];
-    words::word(a)
+    let n = words::as_numbers(a);
+    *told = [n.detail, n.place];
+    n.word
 }
 
 // Raised with each change of a name, a number or a parameter.
@@ -62,7 +63,7 @@ pub extern "C" fn basalekko_run(
 ) -> u64
     ensures { λ r. ⌜ Replied (ranBy (now (state .entry)) time (now (value .entry)) (commandOf number a b c d)) r (now (state .exit)) (now (told .exit)) ⌝ }
 {
-    let answer = cache::run_numbered(state, time, number, a, b, c, d, value);
+    let answer = numbered::run_numbered(state, time, number, a, b, c, d, value);
     tell(answer, told)
 }
 

@@ -7,7 +7,7 @@ use Rattle.machine.specs.State.{Value}
 use Rattle.machine.specs.declared.Answer.{Answer}
 use Rattle.startup.specs.Start.{Reply, startOf}
 use Rattle.show.specs.Show.{showOf}
-use Rattle.cache.specs.Run.{commandOf, ranBy}
+use Rattle.numbered.specs.Commands.{commandOf, ranBy}
 use Rattle.exported.specs.Told.{version, Said, Replied, stretchTold}
 use Rattle.promises.proofs.OneAnswer.{one-answer}
 

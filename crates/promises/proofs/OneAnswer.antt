@@ -12,8 +12,9 @@ use Rattle.layout.specs.WellFormed.{wellFormed}
 use Rattle.startup.specs.Start.{Reply, startOf}
 use Rattle.stretches.specs.Stretch.{Stretch}
 use Rattle.show.specs.Show.{showOf}
-use Rattle.cache.specs.Run.{ran, ranBy}
-use Rattle.cache.specs.declared.Numbered.{Numbered}
+use Rattle.cache.specs.Run.{ran}
+use Rattle.numbered.specs.Commands.{ranBy}
+use Rattle.numbered.specs.declared.Numbered.{Numbered}
 
 pub one-answer : {A : Type 0} (f x y : A) → x ≡ f → y ≡ f → x ≡ y
 one-answer f x y p q = p ∙ sym q

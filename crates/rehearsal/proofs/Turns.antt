@@ -1,13 +1,12 @@
 -- A line by its cases, and its printing. A line that is not taken changes nothing; a HIT comes only from a cache of 65,536 bytes, so its value can be
 -- printed from them; and the text depends on a value only where the word is HIT.
 use Prim.Native.Nat.{ℕ, _+_, _-_, _≤_, _<_}
-use mathlib.Core.Path.{_≡_, refl, sym, ap, _∙_}
-use mathlib.Core.Bool.{Bool, true, false, _&&_}
+use mathlib.Core.Path.{_≡_, refl, sym, _∙_}
+use mathlib.Core.Bool.{Bool, true, false}
 use mathlib.Core.Logic.{_⊎_, inl, inr}
 use mathlib.Core.List.{List, []}
-use mathlib.Core.Option.{Option, none, some}
 use native.Mathlib.Omega.{arith}
-use lib.Dec.{eqb, leb}
+use lib.Dec.{eqb}
 use lib.ListN.{length, take, drop}
 use borrow.Author.Tests.{eqb-true, eq-eqb, ne-eqb, le-leb, lt-leb}
 use Rattle.lent.specs.Bytes.{win, splice}
@@ -15,22 +14,21 @@ use Rattle.lent.specs.Tables.{if_then_else_}
 use Rattle.lent.proofs.Splice.{win-splice}
 use Rattle.lent.proofs.Choices.{case-of, clash}
 use Rattle.machine.specs.Sizes.{stateSize, valueMax}
-use Rattle.machine.specs.Words.{wordOf}
+use Rattle.machine.specs.Words.{wordOf, HIT}
 use Rattle.machine.specs.State.{Value}
-use Rattle.machine.specs.Refusals.{startRefusals}
-use Rattle.machine.specs.Step.{started, start}
-use Rattle.machine.specs.Tables.{first}
+use Rattle.machine.specs.Step.{started}
 use Rattle.machine.specs.declared.Command.{Command}
-use Rattle.layout.specs.Layout.{decode}
 use Rattle.layout.specs.WellFormed.{wellFormed}
 use Rattle.layout.proofs.Formed.{formed}
-use Rattle.startup.specs.Start.{replied, startRefusal, startOf}
-use Rattle.cache.specs.Run.{ran, commandOf}
-use Rattle.cache.specs.declared.Numbered.{Numbered}
+use Rattle.startup.specs.Start.{replied}
+use Rattle.cache.specs.Run.{ran}
+use Rattle.numbered.specs.Commands.{commandOf}
+use Rattle.numbered.specs.declared.Numbered.{Numbered}
 use Rattle.book.specs.Book as book
 use Rattle.book.specs.Book.{bookSize, linesIn, counted}
 use Rattle.rules.specs.Rules as rules
 use Rattle.rules.specs.Rules.{unreadable, begins, commands}
+use Rattle.rules.proofs.Hits.{start-no-hit}
 use Rattle.writes.specs.Writes.{writes}
 use Rattle.rules.specs.Says.{Says}
 use Rattle.rules.specs.declared.Said.{Said}
@@ -41,7 +39,7 @@ use Rattle.lines.proofs.Laws.{line-sound}
 use Rattle.lines.specs.declared.Line.{Line}
 use Rattle.replies.specs.Replies as replies
 use Rattle.replies.specs.Replies.{lineRoom, detailed, ended}
-use Rattle.rehearsal.specs.Rehearsal.{numbered, commanded, acted, saidOf, turn, lineOf, endOf, Left, Leaves}
+use Rattle.rehearsal.specs.Rehearsal.{lentRight, numbered, commanded, acted, saidOf, turn, lineOf, endOf, Leaves}
 use Rattle.rehearsal.specs.Saying.{notRead, Within, handed, textOf, Prints}
 
 -- ---- the cases of a line
@@ -121,74 +119,69 @@ module _ (x b t : List ℕ) (r : Line) (is : r ≡ readLine t .line) where
 
 -- ---- a HIT comes from a cache of its size
 
-ran-hit : (x : List ℕ) (time : ℕ) (c : Command) (v : Value) → wordOf (ran x time c v .answer) ≡ 3 → length x ≡ stateSize
+abbrev HitSized : List ℕ → ℕ → Type 0
+HitSized x word = word ≡ HIT → length x ≡ stateSize
+
+if-sized : (q : Bool) (s t : rules.Said) (x : List ℕ) → HitSized x (s .word) → HitSized x (t .word) → HitSized x ((if q then s else t) .word)
+if-sized true s t x f g = f
+if-sized false s t x f g = g
+
+ran-sized : (x : List ℕ) (time : ℕ) (c : Command) (v : Value) → HitSized x (wordOf (ran x time c v .answer))
 unfolding ran
-ran-hit x time c v = go (wellFormed x) refl
+ran-sized x time c v = go (wellFormed x) refl
   where
-    go : (t : Bool) → wellFormed x ≡ t → wordOf (ran x time c v .answer) ≡ 3 → length x ≡ stateSize
+    go : (t : Bool) → wellFormed x ≡ t → HitSized x (wordOf (ran x time c v .answer))
     go true e w = formed x e .size
     go false e w = absurd (let z = rw e at w in omega (arith, z))
 
-start-hit : (x : List ℕ) (readLife writeLife : ℕ) → wordOf (startOf x readLife writeLife .answer) ≡ 3 → length x ≡ stateSize
-unfolding startOf start
-start-hit x readLife writeLife = go (startRefusal x readLife writeLife) (first (startRefusals readLife writeLife))
-  where
-    go : (o p : Option ℕ) → wordOf (replied x o (started readLife writeLife p (decode x)) .answer) ≡ 3 → length x ≡ stateSize
-    go none none w = absurd (omega arith)
-    go none (some e) w = absurd (omega arith)
-    go (some e) p w = absurd (omega arith)
+module _ (x b : List ℕ) where
+  unreadable-sized : HitSized x (unreadable x b .word)
+  unreadable-sized w = absurd (omega arith)
 
-if-hit : (q : Bool) (s t : rules.Said) (x : List ℕ) → (s .word ≡ 3 → length x ≡ stateSize) → (t .word ≡ 3 → length x ≡ stateSize) → (if q then s else t) .word ≡ 3 → length x ≡ stateSize
-if-hit true s t x f g = f
-if-hit false s t x f g = g
+  begins-sized : (readLife writeLife : ℕ) → HitSized x (begins x b readLife writeLife .word)
+  unfolding begins
+  begins-sized readLife writeLife w = absurd (start-no-hit x readLife writeLife w)
 
-unreadable-hit : (x b : List ℕ) → unreadable x b .word ≡ 3 → length x ≡ stateSize
-unreadable-hit x b w = absurd (omega arith)
+  writes-sized : (n k : ℕ) (v : Value) → HitSized x (writes x b n k v .word)
+  unfolding writes
+  writes-sized n k v w = absurd (omega arith)
 
-begins-hit : (x b : List ℕ) (readLife writeLife : ℕ) → begins x b readLife writeLife .word ≡ 3 → length x ≡ stateSize
-unfolding begins
-begins-hit x b readLife writeLife w = start-hit x readLife writeLife w
+  numbered-sized : (time : ℕ) (q : Numbered) (v : Value) → HitSized x (numbered x b time q v .word)
+  unfolding commands
+  numbered-sized time (Numbered.Is c) v = ran-sized x time c v
+  numbered-sized time Numbered.Unknown v = unreadable-sized
 
-writes-hit : (x b : List ℕ) (n k : ℕ) (v : Value) → writes x b n k v .word ≡ 3 → length x ≡ stateSize
-unfolding writes
-writes-hit x b n k v w = absurd (omega arith)
+  acted-sized : (l : Line) (v : Value) → HitSized x (acted x b l v .word)
+  unfolding acted
+  acted-sized Line.Unreadable v = unreadable-sized
+  acted-sized (Line.Start r w) v = if-sized (book.started b) (unreadable x b) (begins x b r w) x unreadable-sized (begins-sized r w)
+  acted-sized (Line.Write n k l) v = if-sized (book.started b) (writes x b n k v) (unreadable x b) x (writes-sized n k v) unreadable-sized
+  acted-sized (Line.Command p t a₁ a₂ a₃ a₄ l) v = if-sized (book.started b) (numbered x b t (commandOf p a₁ a₂ a₃ a₄) v) (unreadable x b) x (numbered-sized t (commandOf p a₁ a₂ a₃ a₄) v) unreadable-sized
 
-numbered-hit : (x b : List ℕ) (time : ℕ) (q : Numbered) (v : Value) → numbered x b time q v .word ≡ 3 → length x ≡ stateSize
-unfolding commands
-numbered-hit x b time (Numbered.Is c) v w = ran-hit x time c v w
-numbered-hit x b time Numbered.Unknown v w = unreadable-hit x b w
-
-acted-hit : (x b : List ℕ) (l : Line) (v : Value) → acted x b l v .word ≡ 3 → length x ≡ stateSize
-unfolding acted
-acted-hit x b Line.Unreadable v = unreadable-hit x b
-acted-hit x b (Line.Start r w) v = if-hit (book.started b) (unreadable x b) (begins x b r w) x (unreadable-hit x b) (begins-hit x b r w)
-acted-hit x b (Line.Write n k l) v = if-hit (book.started b) (writes x b n k v) (unreadable x b) x (writes-hit x b n k v) (unreadable-hit x b)
-acted-hit x b (Line.Command p t a₁ a₂ a₃ a₄ l) v = if-hit (book.started b) (numbered x b t (commandOf p a₁ a₂ a₃ a₄) v) (unreadable x b) x (numbered-hit x b t (commandOf p a₁ a₂ a₃ a₄) v) (unreadable-hit x b)
-
-said-hit : (x b t : List ℕ) → saidOf x b t .word ≡ 3 → length x ≡ stateSize
+said-sized : (x b t : List ℕ) → HitSized x (saidOf x b t .word)
 unfolding saidOf
-said-hit x b t = acted-hit x b (readLine t .line) (readLine t .value)
+said-sized x b t = acted-sized x b (readLine t .line) (readLine t .value)
 
 -- so a value that is handed out stands within the cache's bytes after the line
 pub said-within : (x b t x′ b′ : List ℕ) (r : Said) → Says (saidOf x b t) (r .at) r x′ b′ → length x′ ≡ length x → Within r x′
-said-within x b t x′ b′ r h e = record { inside = λ w. let l = said-hit x b t (sym (h .word) ∙ w) in omega (arith, h .inside w); short = h .short }
+said-within x b t x′ b′ r h e = record { inside = λ w. let l = said-sized x b t (sym (h .word) ∙ w) in omega (arith, h .inside w); short = h .short }
 
 -- ---- printing
 
-value-only : (word detail : ℕ) (v u : Value) → (word ≡ 3 → v ≡ u) → detailed word detail v ≡ detailed word detail u
+value-only : (word detail : ℕ) (v u : Value) → (word ≡ HIT → v ≡ u) → detailed word detail v ≡ detailed word detail u
 unfolding detailed
-value-only word detail v u f = go (case-of (eqb word 3))
+value-only word detail v u f = go (case-of (eqb word HIT))
   where
-    go : (eqb word 3 ≡ true) ⊎ (eqb word 3 ≡ false) → detailed word detail v ≡ detailed word detail u
-    go (inl q) = rw (f (eqb-true word 3 q)) refl
+    go : (eqb word HIT ≡ true) ⊎ (eqb word HIT ≡ false) → detailed word detail v ≡ detailed word detail u
+    go (inl q) = rw (f (eqb-true word HIT q)) refl
     go (inr q) = rw q refl
 
-text-only : (n word detail : ℕ) (v u : Value) (rule : ℕ) → (word ≡ 3 → v ≡ u) → replies.replied n word detail v rule ≡ replies.replied n word detail u rule
+text-only : (n word detail : ℕ) (v u : Value) (rule : ℕ) → (word ≡ HIT → v ≡ u) → replies.replied n word detail v rule ≡ replies.replied n word detail u rule
 unfolding replies.replied
 text-only n word detail v u rule f = rw (value-only word detail v u f) refl
 
-handed-hit : (r : Said) (x : List ℕ) → r .word ≡ 3 → handed r x ≡ win x (r .at) (r .detail)
-handed-hit r x w = rw (eq-eqb (r .word) 3 w) refl
+handed-hit : (r : Said) (x : List ℕ) → r .word ≡ HIT → handed r x ≡ win x (r .at) (r .detail)
+handed-hit r x w = rw (eq-eqb (r .word) HIT w) refl
 
 -- the text of what is said is that of the definition
 text-is : (s : rules.Said) (at : ℕ) (r : Said) (x b b′ : List ℕ) → Says s at r x b → textOf r x b′ ≡ replies.replied (linesIn b′) (s .word) (s .detail) (s .value) (s .rule)
@@ -204,35 +197,33 @@ part-win x at d = let e : at + d - at ≡ d = omega arith in rw e refl
 -- the text stands at the front of what was lent
 pub prints : (r : Said) (x b o : List ℕ) (n m : ℕ) (b′ o′ v : List ℕ)
     → (m ≡ length (replies.replied n (r .word) (r .detail) v (r .rule))) × (o′ ≡ splice o 0 (replies.replied n (r .word) (r .detail) v (r .rule)))
-    → (r .word ≡ 3 → v ≡ win x (r .at) (r .detail)) → b′ ≡ counted b (r .rule) → n ≡ linesIn b′ → Prints r x b o m b′ o′
+    → (r .word ≡ HIT → v ≡ win x (r .at) (r .detail)) → b′ ≡ counted b (r .rule) → n ≡ linesIn b′ → Prints r x b o m b′ o′
 prints r x b o n m b′ o′ v h f k e =
     let y : replies.replied n (r .word) (r .detail) v (r .rule) ≡ textOf r x b′ = text-only n (r .word) (r .detail) v (handed r x) (r .rule) (λ w. f w ∙ sym (handed-hit r x w)) ∙ rw e refl in
     record { book = k; size = rw (← y) (h .0); out = rw (← y) (h .1) }
 
 -- ---- the public functions
 
-both-true : (p q : Bool) → p ≡ true → q ≡ true → (p && q) ≡ true
-both-true p q e f = rw (e, f) refl
+module _ (b out : List ℕ) where
+  lent-right : length b ≡ bookSize → lineRoom ≤ length out → lentRight b out ≡ true
+  lent-right e l = rw (eq-eqb (length b) bookSize e, le-leb lineRoom (length out) l) refl
 
-right : (b out : List ℕ) → length b ≡ bookSize → lineRoom ≤ length out → (eqb (length b) bookSize && leb lineRoom (length out)) ≡ true
-right b out e l = both-true (eqb (length b) bookSize) (leb lineRoom (length out)) (eq-eqb (length b) bookSize e) (le-leb lineRoom (length out) l)
+  lent-wrong : (length b ≡ bookSize → ⊥) → lentRight b out ≡ false
+  lent-wrong e = rw (ne-eqb (length b) bookSize e) refl
 
-wrong-size : (b out : List ℕ) → (length b ≡ bookSize → ⊥) → (eqb (length b) bookSize && leb lineRoom (length out)) ≡ false
-wrong-size b out e = rw (ne-eqb (length b) bookSize e) refl
-
-no-room : (b out : List ℕ) → length b ≡ bookSize → length out < lineRoom → (eqb (length b) bookSize && leb lineRoom (length out)) ≡ false
-no-room b out e l = rw (eq-eqb (length b) bookSize e, lt-leb lineRoom (length out) l) refl
+  lent-roomless : length b ≡ bookSize → length out < lineRoom → lentRight b out ≡ false
+  lent-roomless e l = rw (eq-eqb (length b) bookSize e, lt-leb lineRoom (length out) l) refl
 
 module _ (x b t out : List ℕ) where
-  idle : (eqb (length b) bookSize && leb lineRoom (length out)) ≡ false → Leaves (lineOf x b t out) 0 x b out
+  line-idle : lentRight b out ≡ false → Leaves (lineOf x b t out) 0 x b out
   unfolding lineOf
-  idle q = rw q (record { length = refl; cache = refl; book = refl; out = refl })
+  line-idle q = rw q (record { length = refl; cache = refl; book = refl; out = refl })
 
   pub line-wrong : (length b ≡ bookSize → ⊥) → Leaves (lineOf x b t out) 0 x b out
-  line-wrong e = idle (wrong-size b out e)
+  line-wrong e = line-idle (lent-wrong b out e)
 
   pub line-roomless : length b ≡ bookSize → length out < lineRoom → Leaves (lineOf x b t out) 0 x b out
-  line-roomless e l = idle (no-room b out e l)
+  line-roomless e l = line-idle (lent-roomless b out e l)
 
   pub line-printed : length b ≡ bookSize → lineRoom ≤ length out → (r : Said) (x′ b′ b″ out′ : List ℕ) (n : ℕ) → Says (saidOf x b t) (r .at) r x′ b′ → Prints r x′ b′ out n b″ out′
       → Leaves (lineOf x b t out) n x′ b″ out′
@@ -240,7 +231,7 @@ module _ (x b t out : List ℕ) where
   line-printed e l r x′ b′ b″ out′ n h p =
       let k : b″ ≡ counted (saidOf x b t .book) (saidOf x b t .rule) = p .book ∙ rw (h .book, h .rule) refl in
       let y = text-is (saidOf x b t) (r .at) r x′ b′ b″ h in
-      rw (right b out e l) (record {
+      rw (lent-right b out e l) (record {
         length = p .size ∙ rw (y, k) refl;
         cache = h .cache;
         book = k;
@@ -250,13 +241,13 @@ module _ (x b t out : List ℕ) where
 module _ (b out : List ℕ) where
   pub end-wrong : (length b ≡ bookSize → ⊥) → (0 ≡ endOf b out .length) × (out ≡ endOf b out .out)
   unfolding endOf
-  end-wrong e = rw (wrong-size b out e) (refl, refl)
+  end-wrong e = rw (lent-wrong b out e) (refl, refl)
 
   pub end-roomless : length b ≡ bookSize → length out < lineRoom → (0 ≡ endOf b out .length) × (out ≡ endOf b out .out)
   unfolding endOf
-  end-roomless e l = rw (no-room b out e l) (refl, refl)
+  end-roomless e l = rw (lent-roomless b out e l) (refl, refl)
 
   pub end-printed : length b ≡ bookSize → lineRoom ≤ length out → (n m k : ℕ) (out′ : List ℕ) → n ≡ linesIn b → m ≡ book.brokenIn b → (k ≡ length (ended n m)) × (out′ ≡ splice out 0 (ended n m))
       → (k ≡ endOf b out .length) × (out′ ≡ endOf b out .out)
   unfolding endOf
-  end-printed e l n m k out′ p q h = rw (right b out e l, ← p, ← q) h
+  end-printed e l n m k out′ p q h = rw (lent-right b out e l, ← p, ← q) h

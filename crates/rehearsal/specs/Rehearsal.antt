@@ -8,12 +8,12 @@ use lib.ListN.{length}
 use Rattle.lent.specs.Bytes.{splice}
 use Rattle.lent.specs.Tables.{if_then_else_}
 use Rattle.machine.specs.State.{Value}
-use Rattle.cache.specs.Run.{commandOf}
-use Rattle.cache.specs.declared.Numbered.{Numbered}
+use Rattle.numbered.specs.Commands.{commandOf}
+use Rattle.numbered.specs.declared.Numbered.{Numbered}
 use Rattle.book.specs.Book.{bookSize, started, linesIn, brokenIn, counted}
 use Rattle.rules.specs.Rules.{Said, unreadable, begins, commands}
 use Rattle.writes.specs.Writes.{writes}
-use Rattle.lines.specs.Lines.{Read, readLine}
+use Rattle.lines.specs.Lines.{readLine}
 use Rattle.lines.specs.declared.Line.{Line}
 use Rattle.replies.specs.Replies.{lineRoom, replied, ended}
 

@@ -7,22 +7,22 @@ use lib.ListN.{length}
 use Rattle.lent.specs.Bytes.{win, splice}
 use Rattle.lent.specs.Tables.{if_then_else_}
 use Rattle.machine.specs.Sizes.{valueMax}
+use Rattle.machine.specs.Words.{HIT}
 use Rattle.machine.specs.State.{Value}
 use Rattle.book.specs.Book.{linesIn, counted}
-use Rattle.rules.specs.Rules.{unreadableWord}
 use Rattle.rules.specs.declared.Said.{Said}
-use Rattle.replies.specs.Replies.{replied}
+use Rattle.replies.specs.Replies.{UNREADABLE, replied}
 
 abbrev pub notRead : Said
-notRead = record { word = unreadableWord; detail = 0; at = 0; rule = 0 }
+notRead = record { word = UNREADABLE; detail = 0; at = 0; rule = 0 }
 
 -- a HIT's value stands within the cache's bytes x
 pub record Within (r : Said) (x : List ℕ) : Type 0 where
-  pub inside : r .word ≡ 3 → r .at + r .detail ≤ length x
-  pub short : r .word ≡ 3 → r .detail ≤ valueMax
+  pub inside : r .word ≡ HIT → r .at + r .detail ≤ length x
+  pub short : r .word ≡ HIT → r .detail ≤ valueMax
 
 abbrev pub handed : Said → List ℕ → Value
-handed r x = if eqb (r .word) 3 then win x (r .at) (r .detail) else []
+handed r x = if eqb (r .word) HIT then win x (r .at) (r .detail) else []
 
 -- the text of a line of which r is said, the counted book being b
 abbrev pub textOf : Said → List ℕ → List ℕ → List ℕ

@@ -4,7 +4,7 @@ ghost use mathlib.Core.List.{[]};
 ghost use Prim.Native.Nat.{ℕ, _≤_};
 ghost use lib.ListN.{length};
 ghost use Rattle.machine.specs.Sizes.{valueMax};
-ghost use Rattle.words.specs.Place.{placeOf};
+ghost use Rattle.words.specs.Numbers.{placeOf};
 ghost use Rattle.cache.specs.Run.{ran};
 ghost use Rattle.book.specs.Book.{bookSize};
 ghost use Rattle.rules.specs.Rules.{commands};
@@ -14,15 +14,10 @@ ghost use Rattle.lines.specs.declared.Line.{Line};
 ghost use Rattle.replies.specs.Replies.{lineRoom};
 ghost use Rattle.rehearsal.specs.Rehearsal.{commanded, acted, saidOf, lineOf, endOf, Leaves};
 ghost use Rattle.rehearsal.specs.Saying.{notRead, Within, Prints};
-use cache::Numbered;
 use lines::Line;
 use machine::Command;
+use numbered::Numbered;
 use rules::Said;
-
-// HIT, the word that hands out a value, and UNREADABLE.
-const HIT: u64 = 3;
-
-const UNREADABLE: u64 = 25;
 
 // Room for the value of any line, and for any output line.
 const VALUE_ROOM: usize = 200;
@@ -34,7 +29,7 @@ fn unreadable() -> Said
     ensures { λ r. ⌜ r ≡ notRead ⌝ }
 {
     Said {
-        word: UNREADABLE,
+        word: replies::UNREADABLE,
         detail: 0,
         at: 0,
         rule: 0,
@@ -113,7 +108,7 @@ fn act(cache: &mut [u8], book: &mut [u8], line: &[u8], value: &mut [u8]) -> Said
             cache,
             book,
             time,
-            cache::command_of(number, a, b, c, d),
+            numbered::command_of(number, a, b, c, d),
             &value[..length],
         ),
     }
@@ -127,7 +122,7 @@ fn say(cache: &[u8], book: &mut [u8], said: Said, out: &mut [u8]) -> usize
     book::count(book, said.rule);
     let n = book::lines(book);
     let word = said.word;
-    if word != HIT {
+    if word != words::HIT {
         return replies::reply(out, n, word, said.detail, &cache[..0], said.rule);
     }
     let at = said.at;
@@ -146,7 +141,7 @@ pub fn line(cache: &mut [u8], book: &mut [u8], line: &[u8], out: &mut [u8]) -> u
     if out.len() < LINE_ROOM {
         return 0;
     }
-    let mut value: [u8; 200] = [0; 200];
+    let mut value: [u8; VALUE_ROOM] = [0; VALUE_ROOM];
     let said = act(cache, book, line, &mut value);
     say(cache, book, said, out)
 }

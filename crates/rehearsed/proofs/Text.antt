@@ -28,8 +28,9 @@ use Rattle.layout.specs.Layout.{decode}
 use Rattle.layout.specs.WellFormed.{wellFormed}
 use Rattle.startup.specs.Start.{Reply, startOf}
 use Rattle.startup.proofs.Started.{started-size, started-read, started-write, started-ready}
-use Rattle.cache.specs.Run.{ran, commandOf}
-use Rattle.cache.specs.declared.Numbered.{Numbered}
+use Rattle.cache.specs.Run.{ran}
+use Rattle.numbered.specs.Commands.{commandOf}
+use Rattle.numbered.specs.declared.Numbered.{Numbered}
 use Rattle.book.specs.Book.{bookSize, started, withStarted, registered, counted}
 use Rattle.book.proofs.Laws
 use Rattle.rules.specs.Rules.{Said, unreadable, begins, noted, commands}

@@ -10,8 +10,8 @@ use Rattle.machine.specs.Words.{wordOf}
 use Rattle.machine.specs.State.{Value}
 use Rattle.machine.specs.World.{Event, command, write, World, freshWorld, run, AllKept}
 use Rattle.startup.specs.Start.{startOf}
-use Rattle.cache.specs.Run.{commandOf}
-use Rattle.cache.specs.declared.Numbered.{Numbered}
+use Rattle.numbered.specs.Commands.{commandOf}
+use Rattle.numbered.specs.declared.Numbered.{Numbered}
 use Rattle.book.specs.Book.{started}
 use Rattle.lines.specs.Lines.{readLine}
 use Rattle.lines.specs.declared.Line.{Line}

@@ -12,10 +12,10 @@ use Rattle.lent.proofs.Choices.{and-yes}
 use Rattle.lent.proofs.Walks.{every-all}
 use Rattle.lent.proofs.Equal.{same-eq}
 use Rattle.replies.specs.Text.{space}
-use Rattle.replies.specs.Replies.{unreadable, wordCount, wordMax, words, nameOf}
+use Rattle.replies.specs.Replies.{UNREADABLE, wordCount, wordMax, words, nameOf}
 
 -- a number behind the list is UNREADABLE's
-pub name-other : (word : ℕ) → wordCount ≤ word → nameOf unreadable ≡ nameOf word
+pub name-other : (word : ℕ) → wordCount ≤ word → nameOf UNREADABLE ≡ nameOf word
 unfolding nameOf words
 name-other word h = sym (List·getD-eq-default words _ h)
 
@@ -55,4 +55,4 @@ name-most word = by (ltb word wordCount) refl
   where
     by : (t : Bool) → ltb word wordCount ≡ t → length (nameOf word) ≤ wordMax
     by true e = short-at word (ltb-true word wordCount e)
-    by false e = rw (← name-other word (ltb-false word wordCount e)) (short-at unreadable (omega arith))
+    by false e = rw (← name-other word (ltb-false word wordCount e)) (short-at UNREADABLE (omega arith))

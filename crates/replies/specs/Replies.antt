@@ -10,6 +10,8 @@ use Rattle.lent.specs.Bytes.{splice}
 use Rattle.lent.specs.Tables.{if_then_else_}
 use Rattle.counts.specs.Count.{decimal}
 use Rattle.hex.specs.Hex.{hexOf}
+use Rattle.machine.specs.Words.{SESSION, HIT, BACKOFF, LEASE}
+use Rattle.words.specs.Numbers.{REFUSED}
 use Rattle.replies.specs.Text.{ascii, space, newline}
 
 -- the room that a line is given; none takes more
@@ -18,17 +20,21 @@ lineRoom = 256
 
 -- ---- words
 
--- how many words there are, the most bytes of one, and the number of the last
+-- the rehearsal's own, behind the cache's: a register write, and a line that can't be read
+abbrev pub WRITTEN : ℕ
+WRITTEN = 24
+
+abbrev pub UNREADABLE : ℕ
+UNREADABLE = 25
+
+-- how many words there are, and the most bytes of one
 abbrev pub wordCount : ℕ
 wordCount = 26
 
 abbrev pub wordMax : ℕ
 wordMax = 10
 
-abbrev pub unreadable : ℕ
-unreadable = 25
-
--- by number: those of the answers as `wordOf` has them, and those of a register write and of a line that can't be read
+-- by number: those of the answers as `wordOf` has them, and the rehearsal's own
 unfoldable pub words : List (List ℕ)
 words =
     ascii "REFUSED"
@@ -75,11 +81,11 @@ printed n = decimal n
 
 -- REFUSED, SESSION, BACKOFF and LEASE go with a number
 abbrev pub numbered : ℕ → Bool
-numbered word = eqb word 0 || eqb word 2 || eqb word 5 || eqb word 6
+numbered word = eqb word REFUSED || eqb word SESSION || eqb word BACKOFF || eqb word LEASE
 
 -- HIT with a value
 abbrev pub valued : ℕ → Bool
-valued word = eqb word 3
+valued word = eqb word HIT
 
 -- and the others with nothing
 unfoldable pub detailed : ℕ → ℕ → List ℕ → List ℕ

@@ -16,21 +16,13 @@ const NEWLINE: u8 = b'\n';
 
 const DASH: u8 = b'-';
 
-// The words that a number goes with, and the one that a value goes with.
-const REFUSED: u64 = 0;
+// The rehearsal's own words, behind the cache's: a register write, and a line that can't be read.
+pub const WRITTEN: u64 = 24;
 
-const SESSION: u64 = 2;
+pub const UNREADABLE: u64 = 25;
 
-const BACKOFF: u64 = 5;
-
-const LEASE: u64 = 6;
-
-const HIT: u64 = 3;
-
-// How many words there are, and the number of UNREADABLE, the last.
+// How many words there are.
 const WORDS: usize = 26;
-
-const UNREADABLE: usize = 25;
 
 // The words by number, each in ten bytes, and their lengths.
 const NAMES: [[u8; 10]; WORDS] = [
@@ -135,7 +127,7 @@ fn listed(word: u64) -> usize
     if word < WORDS as u64 {
         return word as usize;
     }
-    UNREADABLE
+    UNREADABLE as usize
 }
 
 // The word of a place, in ten bytes, and its length.
@@ -178,7 +170,7 @@ fn numbered(word: u64) -> bool
     ensures { λ r. ⌜ r ≡ numbered word ⌝ }
 {
     match word {
-        REFUSED | SESSION | BACKOFF | LEASE => true,
+        words::REFUSED | words::SESSION | words::BACKOFF | words::LEASE => true,
         _ => false,
     }
 }
@@ -191,7 +183,7 @@ fn details(out: &mut [u8], at: usize, word: u64, detail: u64, value: &[u8]) -> u
     if numbered(word) {
         return decimal(out, at, detail);
     }
-    if word == HIT {
+    if word == words::HIT {
         return hexed(out, at, value);
     }
     byte(out, at, DASH)

@@ -13,7 +13,7 @@ use Rattle.lent.specs.Tables.{if_then_else_}
 use Rattle.lent.proofs.Choices.{clash, if-ind}
 use Rattle.machine.specs.Sizes.{stateSize, keyCount, rowCount, valueMax, valueAt, stagedAt}
 use Rattle.machine.specs.Tables.{first, mem}
-use Rattle.machine.specs.Words.{wordOf, detailOf, wordsOf}
+use Rattle.machine.specs.Words.{wordOf, detailOf, HIT, wordsOf}
 use Rattle.machine.specs.State.{Value, nothing, staged, DROP, Row, noRow, row, State, freeRow, rowPlace, rowOf, rowAt, cached}
 use Rattle.machine.specs.Sound.{sound}
 use Rattle.machine.specs.Expiry.{expire}
@@ -32,7 +32,7 @@ use Rattle.layout.specs.Layout.{decode}
 use Rattle.layout.specs.WellFormed.{wellFormed}
 use Rattle.layout.proofs.Formed.{formed}
 use Rattle.startup.specs.Start.{replied, startRefusal, startOf}
-use Rattle.words.specs.Place.{placeOf}
+use Rattle.words.specs.Numbers.{placeOf}
 use Rattle.cache.specs.Run.{ran}
 
 -- n bytes at a place, within the state and no more than a value has
@@ -68,8 +68,8 @@ module _ (s : State) (ok : sound s ≡ true) (k : ℕ) (l : k < keyCount) where
 
 -- ---- a HIT
 
-abbrev HitWithin : Answer → Type 0
-HitWithin a = wordOf a ≡ 3 → Within (placeOf a) (detailOf a)
+abbrev pub HitWithin : Answer → Type 0
+HitWithin a = wordOf a ≡ HIT → Within (placeOf a) (detailOf a)
 
 looked-within : (s : State) (now n k : ℕ) → sound s ≡ true → k < keyCount → (o : Option Sight) → sight s n k ≡ o → HitWithin (looked s now n k o .answer)
 unfolding looked missed leased
@@ -83,9 +83,9 @@ unfolding effect refusals
 get-within s now n k v ok e = looked-within s now n k ok (leb-false keyCount k (passed s now (Get n k) v e 1)) (sight s n k) refl
 
 -- the word of no other command
-no-hit : (s : State) (now : ℕ) (c : Command) (v : Value) → refusal (expire now s) now c v ≡ none → mem 3 (wordsOf c) ≡ false → HitWithin (step s now c v .answer)
+no-hit : (s : State) (now : ℕ) (c : Command) (v : Value) → refusal (expire now s) now c v ≡ none → mem HIT (wordsOf c) ≡ false → HitWithin (step s now c v .answer)
 unfolding refusal
-no-hit s now c v e f w = clash (mem 3 (wordsOf c)) (rw w at (accepted-word s now c v e)) f
+no-hit s now c v e f w = clash (mem HIT (wordsOf c)) (rw w at (accepted-word s now c v e)) f
 
 refused-within : (s : State) (now : ℕ) (c : Command) (v : Value) (m : ℕ) → refusal (expire now s) now c v ≡ some m → HitWithin (step s now c v .answer)
 unfolding step settled
@@ -113,7 +113,7 @@ module _ (s : State) (now : ℕ) (v : Value) (ok : sound s ≡ true) where
       go none e = accepted-within c e
       go (some m) e = refused-within s now c v m e
 
-pub ran-within : (x : List ℕ) (now : ℕ) (c : Command) (v : Value) → wordOf (ran x now c v .answer) ≡ 3 → Within (placeOf (ran x now c v .answer)) (detailOf (ran x now c v .answer))
+pub ran-within : (x : List ℕ) (now : ℕ) (c : Command) (v : Value) → HitWithin (ran x now c v .answer)
 unfolding ran
 ran-within x now c v = go (wellFormed x) refl
   where
@@ -121,11 +121,12 @@ ran-within x now c v = go (wellFormed x) refl
     go true e = rw e (step-within (decode x) now v (formed x e .sound) c)
     go false e = rw e (λ w. absurd (omega arith))
 
-pub start-within : (x : List ℕ) (readLife writeLife : ℕ) → wordOf (startOf x readLife writeLife .answer) ≡ 3 → Within (placeOf (startOf x readLife writeLife .answer)) (detailOf (startOf x readLife writeLife .answer))
+-- START is answered READY or refused
+pub start-no-hit : (x : List ℕ) (readLife writeLife : ℕ) → wordOf (startOf x readLife writeLife .answer) ≡ HIT → ⊥
 unfolding startOf start
-start-within x readLife writeLife = go (startRefusal x readLife writeLife) (first (startRefusals readLife writeLife))
+start-no-hit x readLife writeLife = go (startRefusal x readLife writeLife) (first (startRefusals readLife writeLife))
   where
-    go : (o p : Option ℕ) → HitWithin (replied x o (started readLife writeLife p (decode x)) .answer)
-    go none none = λ w. absurd (omega arith)
-    go none (some e) = λ w. absurd (omega arith)
-    go (some e) p = λ w. absurd (omega arith)
+    go : (o p : Option ℕ) → wordOf (replied x o (started readLife writeLife p (decode x)) .answer) ≡ HIT → ⊥
+    go none none w = omega arith
+    go none (some e) w = omega arith
+    go (some e) p w = omega arith

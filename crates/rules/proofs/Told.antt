@@ -9,22 +9,24 @@ use Rattle.lent.specs.Tables.{if_then_else_, same}
 use Rattle.lent.proofs.Choices.{if-same}
 use Rattle.machine.specs.Sizes.{keyCount}
 use Rattle.machine.specs.State.{Value}
-use Rattle.machine.specs.Words.{wordOf, detailOf}
+use Rattle.machine.specs.Words.{wordOf, READY, HIT, LEASE, STORED, DONE, UNDONE}
 use Rattle.machine.specs.declared.Answer.{Answer}
 use Rattle.machine.specs.declared.Command.{Command}
 use Rattle.machine.specs.declared.Command.the-variants.{Begin, Get, Fill, Quar, Stage, Delta, Validate, Done, Undo, Evict, Tick}
 use Rattle.layout.specs.WellFormed.{wellFormed}
 use Rattle.startup.specs.Start.{Reply, startOf}
-use Rattle.words.specs.Place.{placeOf}
+use Rattle.words.specs.Numbers.{REFUSED, placeOf, numbersOf}
+use Rattle.words.specs.declared.Numbers.{Numbers}
 use Rattle.cache.specs.Run.{ran}
+use Rattle.replies.specs.Replies.{UNREADABLE}
 use Rattle.book.specs.Book.{withStarted, registered, granted, withGranted}
 use Rattle.risks.specs.Risks.{wroteFor, staleFor}
 use Rattle.risks.specs.Tests.{riskOf}
-use Rattle.rules.specs.Rules.{unreadableWord, answered, begins, ruleOf, noted, commands}
-use Rattle.rules.specs.Says.{toldOf, Says}
+use Rattle.rules.specs.Rules.{answered, begins, ruleOf, noted, commands}
+use Rattle.rules.specs.Says.{told, toldOf, Says}
 use Rattle.rules.specs.Tests.{watched, asksFor}
 use Rattle.rules.specs.declared.Said.{Said as Told}
-use Rattle.rules.proofs.Hits.{Within, ran-within, start-within}
+use Rattle.rules.proofs.Hits.{HitWithin, ran-within, start-no-hit}
 
 -- ---- the rule broken, by the word at which it counts
 
@@ -38,20 +40,20 @@ counts-not true false n = refl
 counts-not false u n = refl
 
 rule-is : (x b : List ℕ) (c : Command) (v : Value) (w : ℕ) → ruleOf x b c v w ≡ (if eqb w (watched c) then riskOf x b c v else 0)
-rule-is x b Begin v w = sym (if-same (eqb w unreadableWord) 0)
-rule-is x b (Get n k) v w = sym (if-same (eqb w unreadableWord) 0)
-rule-is x b (Fill t k) v w = counts-not (eqb w 7) (same v (registered b k) || same v (granted b k)) 1
-rule-is x b (Quar n k d) v w = sym (if-same (eqb w unreadableWord) 0)
-rule-is x b (Stage n i k) v w = sym (if-same (eqb w unreadableWord) 0)
-rule-is x b (Delta n i k o) v w = sym (if-same (eqb w unreadableWord) 0)
-rule-is x b (Validate n m) v w = sym (if-same (eqb w unreadableWord) 0)
-rule-is x b (Done n) v w = counts (eqb w 17) (staleFor x b n) 4
-rule-is x b (Undo n) v w = counts (eqb w 18) (wroteFor x b n) 3
-rule-is x b (Evict k) v w = sym (if-same (eqb w unreadableWord) 0)
-rule-is x b Tick v w = sym (if-same (eqb w unreadableWord) 0)
+rule-is x b Begin v w = sym (if-same (eqb w UNREADABLE) 0)
+rule-is x b (Get n k) v w = sym (if-same (eqb w UNREADABLE) 0)
+rule-is x b (Fill t k) v w = counts-not (eqb w STORED) (same v (registered b k) || same v (granted b k)) 1
+rule-is x b (Quar n k d) v w = sym (if-same (eqb w UNREADABLE) 0)
+rule-is x b (Stage n i k) v w = sym (if-same (eqb w UNREADABLE) 0)
+rule-is x b (Delta n i k o) v w = sym (if-same (eqb w UNREADABLE) 0)
+rule-is x b (Validate n m) v w = sym (if-same (eqb w UNREADABLE) 0)
+rule-is x b (Done n) v w = counts (eqb w DONE) (staleFor x b n) 4
+rule-is x b (Undo n) v w = counts (eqb w UNDONE) (wroteFor x b n) 3
+rule-is x b (Evict k) v w = sym (if-same (eqb w UNREADABLE) 0)
+rule-is x b Tick v w = sym (if-same (eqb w UNREADABLE) 0)
 
 -- no rule counts at a refusal
-unwatched : (c : Command) → eqb 0 (watched c) ≡ false
+unwatched : (c : Command) → eqb REFUSED (watched c) ≡ false
 unwatched Begin = refl
 unwatched (Get n k) = refl
 unwatched (Fill t k) = refl
@@ -72,7 +74,7 @@ rule-told x b now c v risk w e f = go (wellFormed x) refl ∙ sym (rule-is x b c
   where
     go : (t : Bool) → wellFormed x ≡ t → (if eqb w (watched c) then risk else 0) ≡ (if eqb w (watched c) then riskOf x b c v else 0)
     go true q = rw (f q)
-    go false q = let z : w ≡ 0 = e ∙ rw q in rw (z, unwatched c)
+    go false q = let z : w ≡ REFUSED = e ∙ rw q in rw (z, unwatched c)
 
 -- ---- a grant, by its key
 
@@ -80,10 +82,10 @@ no-key : (b : List ℕ) (v : Value) → withGranted b keyCount v ≡ b
 unfolding withGranted
 no-key b v = refl
 
-noted-other : (b : List ℕ) (w : ℕ) → b ≡ (if eqb w 6 then withGranted b keyCount (registered b keyCount) else b)
-noted-other b w = rw (no-key b (registered b keyCount)) (sym (if-same (eqb w 6) b))
+noted-other : (b : List ℕ) (w : ℕ) → b ≡ (if eqb w LEASE then withGranted b keyCount (registered b keyCount) else b)
+noted-other b w = rw (no-key b (registered b keyCount)) (sym (if-same (eqb w LEASE) b))
 
-noted-is : (b : List ℕ) (c : Command) (w : ℕ) → noted b c w ≡ (if eqb w 6 then withGranted b (asksFor c) (registered b (asksFor c)) else b)
+noted-is : (b : List ℕ) (c : Command) (w : ℕ) → noted b c w ≡ (if eqb w LEASE then withGranted b (asksFor c) (registered b (asksFor c)) else b)
 noted-is b Begin w = noted-other b w
 noted-is b (Get n k) w = refl
 noted-is b (Fill t k) w = noted-other b w
@@ -96,15 +98,15 @@ noted-is b (Undo n) w = noted-other b w
 noted-is b (Evict k) w = noted-other b w
 noted-is b Tick w = noted-other b w
 
-pub noted-none : (b : List ℕ) (c : Command) (w : ℕ) → (w ≡ 6 → ⊥) → b ≡ noted b c w
-noted-none b c w h = rw (noted-is b c w, ne-eqb w 6 h)
+pub noted-none : (b : List ℕ) (c : Command) (w : ℕ) → (w ≡ LEASE → ⊥) → b ≡ noted b c w
+noted-none b c w h = rw (noted-is b c w, ne-eqb w LEASE h)
 
-pub noted-grant : (b : List ℕ) (c : Command) (w k : ℕ) → w ≡ 6 → k ≡ asksFor c → withGranted b k (registered b k) ≡ noted b c w
-noted-grant b c w k h e = rw (noted-is b c w, eq-eqb w 6 h, e)
+pub noted-grant : (b : List ℕ) (c : Command) (w k : ℕ) → w ≡ LEASE → k ≡ asksFor c → withGranted b k (registered b k) ≡ noted b c w
+noted-grant b c w k h e = rw (noted-is b c w, eq-eqb w LEASE h, e)
 
 -- ---- an answer by its numbers
 
-says : (r : Reply) (rule : ℕ) (b : List ℕ) → (wordOf (r .answer) ≡ 3 → Within (placeOf (r .answer)) (detailOf (r .answer))) → Says (answered r rule b) (placeOf (r .answer)) (toldOf (r .answer) rule) (r .bytes) b
+says : (r : Reply) (rule : ℕ) (b : List ℕ) → HitWithin (r .answer) → Says (answered r rule b) (placeOf (r .answer)) (toldOf (r .answer) rule) (r .bytes) b
 says r rule b h = record {
   word = refl;
   detail = refl;
@@ -112,7 +114,7 @@ says r rule b h = record {
   rule = refl;
   cache = refl;
   book = refl;
-  value = λ e. rw (eq-eqb (wordOf (r .answer)) 3 e);
+  value = λ e. rw (eq-eqb (wordOf (r .answer)) HIT e);
   inside = λ e. h e .inside;
   short = λ e. h e .short;
 }
@@ -121,20 +123,20 @@ module _ (x b : List ℕ) (readLife writeLife : ℕ) (a : Answer) (x′ : List �
   abbrev Started : List ℕ → Type 0
   Started b′ = Says (begins x b readLife writeLife) (placeOf (startOf x readLife writeLife .answer)) (toldOf a 0) x′ b′
 
-  begin-says : (b′ : List ℕ) → b′ ≡ (if eqb (wordOf a) 1 then withStarted b else b) → Started b′
+  begin-says : (b′ : List ℕ) → b′ ≡ (if eqb (wordOf a) READY then withStarted b else b) → Started b′
   unfolding begins
-  begin-says b′ g = rw (g, f, e) (says (startOf x readLife writeLife) 0 (if eqb (wordOf (startOf x readLife writeLife .answer)) 1 then withStarted b else b) (start-within x readLife writeLife))
+  begin-says b′ g = rw (g, f, e) (says (startOf x readLife writeLife) 0 (if eqb (wordOf (startOf x readLife writeLife .answer)) READY then withStarted b else b) (λ w. absurd (start-no-hit x readLife writeLife w)))
 
-  pub begin-refused : (wordOf a ≡ 1 → ⊥) → Started b
-  begin-refused h = begin-says b (rw (ne-eqb (wordOf a) 1 h))
+  pub begin-refused : (wordOf a ≡ READY → ⊥) → Started b
+  begin-refused h = begin-says b (rw (ne-eqb (wordOf a) READY h))
 
-  pub begin-ready : wordOf a ≡ 1 → (b′ : List ℕ) → b′ ≡ withStarted b → Started b′
-  begin-ready h b′ g = begin-says b′ (g ∙ rw (eq-eqb (wordOf a) 1 h))
+  pub begin-ready : wordOf a ≡ READY → (b′ : List ℕ) → b′ ≡ withStarted b → Started b′
+  begin-ready h b′ g = begin-says b′ (g ∙ rw (eq-eqb (wordOf a) READY h))
 
-pub concluded : (b b′ : List ℕ) (c : Command) (a : Answer) (risk w rule : ℕ) (t : Told)
-    → w ≡ wordOf a → b′ ≡ noted b c w → rule ≡ (if eqb w (watched c) then risk else 0) → t ≡ toldOf a rule
+pub concluded : (b b′ : List ℕ) (c : Command) (a : Answer) (n : Numbers) (risk rule : ℕ) (t : Told)
+    → n ≡ numbersOf a → b′ ≡ noted b c (n .word) → rule ≡ (if eqb (n .word) (watched c) then risk else 0) → t ≡ told n rule
     → (t ≡ toldOf a (if eqb (wordOf a) (watched c) then risk else 0)) × (b′ ≡ noted b c (wordOf a))
-concluded b b′ c a risk w rule t g h q o = rw (o, q, h, g) (refl, refl)
+concluded b b′ c a n risk rule t g h q o = rw (o, q, h, g) (refl, refl)
 
 pub command-says : (x b : List ℕ) (now : ℕ) (c : Command) (v : Value) (a : Answer) (x′ b′ : List ℕ) (risk : ℕ) (t : Told)
     → (wellFormed x ≡ true → risk ≡ riskOf x b c v) → (a ≡ ran x now c v .answer) × (x′ ≡ ran x now c v .bytes)

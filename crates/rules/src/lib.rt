@@ -5,32 +5,22 @@ ghost use lib.ListN.{length};
 ghost use Rattle.lent.specs.Tables.{if_then_else_};
 ghost use Rattle.machine.specs.Words.{wordOf};
 ghost use Rattle.startup.specs.Start.{startOf};
-ghost use Rattle.words.specs.Place.{placeOf};
+ghost use Rattle.words.specs.Numbers.{placeOf};
 ghost use Rattle.book.specs.Book.{bookSize};
 ghost use Rattle.rules.specs.Rules.{begins, noted};
-ghost use Rattle.rules.specs.Says.{toldOf, Says};
+ghost use Rattle.rules.specs.Says.{told, toldOf, Says};
 ghost use Rattle.rules.specs.Tests.{watched, asksFor};
 use machine::Answer;
 use machine::Command;
-
-// The words that the rehearsal looks at, by number, and its own behind the cache's.
-const READY: u64 = 1;
-
-const LEASE: u64 = 6;
-
-const STORED: u64 = 7;
-
-const DONE: u64 = 17;
-
-const UNDONE: u64 = 18;
-
-const UNREADABLE: u64 = 25;
+use words::Numbers;
 
 // No rule broken.
 const KEPT: u64 = 0;
 
-// A number that is no key.
-const NO_KEY: u64 = 256;
+// A number that is no key, and a word that the cache does not have.
+const NO_KEY: u64 = layout::KEY_COUNT as u64;
+
+const NO_WORD: u64 = replies::UNREADABLE;
 
 // What is said of a line: its word, what goes with it, where a HIT's value stands in the cache, and the rule broken or 0.
 pub struct Said {
@@ -40,13 +30,13 @@ pub struct Said {
     pub rule: u64,
 }
 
-fn tell(a: Answer, rule: u64) -> Said
-    ensures { λ r. ⌜ r ≡ toldOf a rule ⌝ }
+fn tell(n: Numbers, rule: u64) -> Said
+    ensures { λ r. ⌜ r ≡ told n rule ⌝ }
 {
     Said {
-        word: words::word(a),
-        detail: words::detail(a),
-        at: words::place(a) as usize,
+        word: n.word,
+        detail: n.detail,
+        at: n.place as usize,
         rule,
     }
 }
@@ -57,11 +47,12 @@ pub fn begin(cache: &mut [u8], book: &mut [u8], read: u64, write: u64) -> Said
     ensures { λ r. ⌜ Says (begins (now (cache .entry)) (now (book .entry)) read write) (placeOf (startOf (now (cache .entry)) read write .answer)) r (now (cache .exit)) (now (book .exit)) ⌝ }
 {
     let answer = startup::start(cache, read, write);
-    if words::word(answer) != READY {
-        return tell(answer, KEPT);
+    let n = words::as_numbers(answer);
+    if n.word != words::READY {
+        return tell(n, KEPT);
     }
     book::set_started(book);
-    tell(answer, KEPT)
+    tell(n, KEPT)
 }
 
 // The word at which a command's rule counts.
@@ -69,33 +60,33 @@ fn watched(command: Command) -> u64
     ensures { λ r. ⌜ r ≡ watched command ⌝ }
 {
     match command {
-        Command::Begin => UNREADABLE,
-        Command::Get { session: _, key: _ } => UNREADABLE,
-        Command::Fill { token: _, key: _ } => STORED,
+        Command::Begin => NO_WORD,
+        Command::Get { session: _, key: _ } => NO_WORD,
+        Command::Fill { token: _, key: _ } => words::STORED,
         Command::Quar {
             session: _,
             key: _,
             kind: _,
-        } => UNREADABLE,
+        } => NO_WORD,
         Command::Stage {
             session: _,
             step: _,
             key: _,
-        } => UNREADABLE,
+        } => NO_WORD,
         Command::Delta {
             session: _,
             step: _,
             key: _,
             operation: _,
-        } => UNREADABLE,
+        } => NO_WORD,
         Command::Validate {
             session: _,
             count: _,
-        } => UNREADABLE,
-        Command::Done { session: _ } => DONE,
-        Command::Undo { session: _ } => UNDONE,
-        Command::Evict { key: _ } => UNREADABLE,
-        Command::Tick => UNREADABLE,
+        } => NO_WORD,
+        Command::Done { session: _ } => words::DONE,
+        Command::Undo { session: _ } => words::UNDONE,
+        Command::Evict { key: _ } => NO_WORD,
+        Command::Tick => NO_WORD,
     }
 }
 
@@ -139,7 +130,7 @@ fn note_grant(book: &mut [u8], command: Command, word: u64)
     requires { ⌜ length (now book) ≡ bookSize ⌝ }
     ensures { λ _. ⌜ now (book .exit) ≡ noted (now (book .entry)) command word ⌝ }
 {
-    if word != LEASE {
+    if word != words::LEASE {
         return;
     }
     notes::grant(book, asks_for(command));
@@ -159,7 +150,7 @@ pub fn conclude(book: &mut [u8], command: Command, answer: Answer, risk: u64) ->
     requires { ⌜ length (now book) ≡ bookSize ⌝ }
     ensures { λ r. ⌜ (r ≡ toldOf answer (if eqb (wordOf answer) (watched command) then risk else 0)) × (now (book .exit) ≡ noted (now (book .entry)) command (wordOf answer)) ⌝ }
 {
-    let word = words::word(answer);
-    note_grant(book, command, word);
-    tell(answer, rule_of(command, word, risk))
+    let n = words::as_numbers(answer);
+    note_grant(book, command, n.word);
+    tell(n, rule_of(command, n.word, risk))
 }

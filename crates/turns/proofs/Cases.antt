@@ -1,26 +1,25 @@
--- What BEGIN, VALIDATE, DONE and UNDO come to, case by case: the session that the search found is the one that the definitions look up, and
+-- What VALIDATE, DONE and UNDO come to, case by case: the session that the search found is the one that the definitions look up, and
 -- its life and count decide each test.
-use mathlib.Core.Path.{_≡_, refl, sym, ap, _∙_, subst}
-use mathlib.Core.Bool.{Bool, true, false, not}
+use mathlib.Core.Path.{_≡_, refl, sym, ap, _∙_}
+use mathlib.Core.Bool.{Bool, true, false}
 use mathlib.Core.List.{List, [], _∷_}
-use Prim.Native.Nat.{ℕ, suc, _+_, _≤_, _<_}
-use native.Mathlib.Numerals.{add-one}
+use Prim.Native.Nat.{ℕ, _≤_, _<_}
 use native.Mathlib.Omega.{arith}
-use lib.Dec.{eqb, leb, ltb}
-use lib.ListN.{length, set}
-use borrow.Author.Tests.{eqb-true, eq-eqb, ne-eqb, le-leb, lt-leb, lt-ltb, le-ltb}
-use Rattle.machine.specs.Sizes.{sessionCount, stepMax, numberMax}
-use Rattle.machine.specs.Tables.{place}
-use Rattle.machine.specs.Session.{opened, sealed, isSealed, validationOf}
-use Rattle.machine.specs.State.{Slot, noSession, session, State, free, numbered, sessionPlace, sessionOf, sessionAt}
+use lib.Dec.{eqb}
+use lib.ListN.{set}
+use borrow.Author.Tests.{eqb-true, eq-eqb, lt-ltb, le-ltb}
+use Rattle.machine.specs.Sizes.{sessionCount, stepMax}
+use Rattle.machine.specs.Words.{ARG, NO-SESSION, SEALED, NOT-SEALED}
+use Rattle.machine.specs.Session.{sealed, isSealed, validationOf}
+use Rattle.machine.specs.State.{Slot, noSession, session, State, numbered, sessionPlace, sessionOf, sessionAt}
 use Rattle.machine.specs.Sound.{numberIn, sound}
-use Rattle.machine.specs.Expiry.{withSessions, withNumbers, leave, finish}
-use Rattle.machine.specs.Refusals.{sessionsFull, refusals}
-use Rattle.machine.specs.Effects.{Outcome, told, begins, withSession, toCache, effect}
+use Rattle.machine.specs.Expiry.{withSessions, leave, finish}
+use Rattle.machine.specs.Refusals.{refusals}
+use Rattle.machine.specs.Effects.{told, toCache, effect}
 use Rattle.machine.specs.declared.Session.{Session}
 use Rattle.machine.specs.declared.Validation.{Validation}
 use Rattle.machine.specs.declared.Answer.{Answer}
-use Rattle.machine.specs.declared.Command.the-variants.{Begin, Validate, Done, Undo}
+use Rattle.machine.specs.declared.Command.the-variants.{Validate, Done, Undo}
 use Rattle.machine.proofs.SoundFacts as facts
 use Rattle.lent.specs.Tables.{if_then_else_}
 use Rattle.lent.proofs.Choices.{clash}
@@ -29,8 +28,8 @@ use Rattle.layout.specs.Fields.{sessionIn}
 use Rattle.layout.specs.Holds.{Holds}
 use Rattle.layout.specs.Search.{found}
 use Rattle.layout.specs.declared.Found.{Found}
-use Rattle.layout.proofs.Search.{found-at, found-nothing, found-full, found-room, nothing-entry, place-passes}
-use Rattle.outcome.specs.Outcome.{tried, Gives}
+use Rattle.layout.proofs.Search.{nothing-entry, place-passes}
+use Rattle.outcome.specs.Outcome.{tried}
 
 -- ---- the session that was found
 
@@ -52,20 +51,20 @@ unlocated s n ok e = nothing-entry (numbered n) noSession (s .sessions) sessionC
 
 module _ (s : State) (n : ℕ) where
   -- ---- no session
-  pub undo-none : sessionOf s n ≡ noSession → tried s 0 (Undo n) [] ≡ told (Answer.Refused 5) s
+  pub undo-none : sessionOf s n ≡ noSession → tried s 0 (Undo n) [] ≡ told (Answer.Refused NO-SESSION) s
   unfolding tried refusals
   undo-none e = rw e
 
-  pub done-none : sessionOf s n ≡ noSession → tried s 0 (Done n) [] ≡ told (Answer.Refused 5) s
+  pub done-none : sessionOf s n ≡ noSession → tried s 0 (Done n) [] ≡ told (Answer.Refused NO-SESSION) s
   unfolding tried refusals
   done-none e = rw e
 
   module _ (m : ℕ) where
-    pub validate-far : stepMax < m → tried s 0 (Validate n m) [] ≡ told (Answer.Refused 3) s
+    pub validate-far : stepMax < m → tried s 0 (Validate n m) [] ≡ told (Answer.Refused ARG) s
     unfolding tried refusals
     validate-far h = rw (lt-ltb stepMax m h)
 
-    pub validate-none : m ≤ stepMax → sessionOf s n ≡ noSession → tried s 0 (Validate n m) [] ≡ told (Answer.Refused 5) s
+    pub validate-none : m ≤ stepMax → sessionOf s n ≡ noSession → tried s 0 (Validate n m) [] ≡ told (Answer.Refused NO-SESSION) s
     unfolding tried refusals
     validate-none h e = rw (le-ltb stepMax m h, e)
 
@@ -75,7 +74,7 @@ module _ (s : State) (n : ℕ) where
     unfolding tried refusals effect
     undo-is = rw e
 
-    pub done-open : isSealed x ≡ false → tried s 0 (Done n) [] ≡ told (Answer.Refused 7) s
+    pub done-open : isSealed x ≡ false → tried s 0 (Done n) [] ≡ told (Answer.Refused NOT-SEALED) s
     unfolding tried refusals effect
     done-open q = rw (e, q)
 
@@ -96,7 +95,7 @@ module _ (s : State) (n : ℕ) where
       unfolding tried refusals effect
       validate-loses q p = rw (le-ltb stepMax m h, e, p, q)
 
-      pub validate-clashes : eqb m (x .count) ≡ false → isSealed x ≡ true → tried s 0 (Validate n m) [] ≡ told (Answer.Refused 6) s
+      pub validate-clashes : eqb m (x .count) ≡ false → isSealed x ≡ true → tried s 0 (Validate n m) [] ≡ told (Answer.Refused SEALED) s
       unfolding tried refusals effect
       validate-clashes q p = rw (le-ltb stepMax m h, e, p, q)
 
@@ -161,38 +160,3 @@ module _ (x : Session) (m : ℕ) where
       go true u f = absurd (let z : _≡_ {A = ℕ} 0 1 = cc in omega arith)
       go false true f = (refl, refl)
       go false false f = absurd (let z : _≡_ {A = ℕ} 0 1 = cc in omega arith)
-
--- ---- BEGIN
-
-module _ (s : State) (ok : sound s ≡ true) (now : ℕ) where
-  pub begin-full : found sessionCount (place free (s .sessions)) ≡ Found.Nothing → tried s now Begin [] ≡ told (Answer.Refused 11) s
-  unfolding tried refusals
-  begin-full e = rw (found-full free noSession (s .sessions) sessionCount (sessions-length s ok) e)
-
-  module _ (i : ℕ) (l : i < sessionCount) (p : place free (s .sessions) ≡ i) where
-    room : sessionsFull s ≡ false
-    room = found-room free noSession (s .sessions) sessionCount i (sessions-length s ok) (rw (p, lt-ltb i sessionCount l))
-
-    pub begin-spent : (n : ℕ) → n ≡ s .head .nextSession → numberMax ≤ n → tried s now Begin [] ≡ told (Answer.Refused 13) s
-    unfolding tried refusals
-    begin-spent n e h = rw (room, ← e, le-leb numberMax n h)
-
-    begin-opens : s .head .nextSession < numberMax
-        → tried s now Begin [] ≡ told (Answer.Session (s .head .nextSession))
-        (withNumbers (withSessions s (set (s .sessions) i (session (opened (s .head .nextSession) (now + s .head .writeLife))))) (suc (s .head .nextSession)) (s .head .nextToken))
-    unfolding tried refusals effect begins
-    begin-opens h = rw (room, lt-leb numberMax (s .head .nextSession) h, p)
-
-    -- as the code has it
-    pub begin-gives : (b : List ℕ) (n life : ℕ) (x : Session) → n ≡ s .head .nextSession → life ≡ s .head .writeLife → n < numberMax → x ≡ opened n (now + life)
-        → Holds b (withNumbers (withSessions s (set (s .sessions) i (session x))) (n + 1) (s .head .nextToken)) → Gives (tried s now Begin []) (Answer.Session n) b
-    begin-gives b n life x e f h g q =
-        let opens = begin-opens (rw (← e) h) in
-        let gx : x ≡ opened (s .head .nextSession) (now + s .head .writeLife) = g ∙ ap (λ (m : ℕ). opened m (now + life)) e ∙ ap (λ (t : ℕ). opened (s .head .nextSession) (now + t)) f in
-        let gn : n + 1 ≡ suc (s .head .nextSession) = add-one n ∙ ap suc e in
-        record {
-          answer = ap Answer.Session e ∙ sym (ap (λ (o : Outcome). o .answer) opens);
-          holds = rw opens (subst (Holds b)
-              (ap (λ (y : Session). withNumbers (withSessions s (set (s .sessions) i (session y))) (n + 1) (s .head .nextToken)) gx
-              ∙ ap (λ (m : ℕ). withNumbers (withSessions s (set (s .sessions) i (session (opened (s .head .nextSession) (now + s .head .writeLife))))) m (s .head .nextToken)) gn) q);
-        }

@@ -1,101 +1,105 @@
 // An answer as numbers: its word, what goes with it, and where a HIT's value stands.
 ghost use mathlib.Core.Path.{_≡_};
+ghost use mathlib.Core.List.{[], _∷_};
 ghost use Rattle.machine.specs.Words.{wordOf, detailOf};
-ghost use Rattle.words.specs.Place.{placeOf};
+ghost use Rattle.words.specs.Numbers.{placeOf, numbersOf};
 use machine::Answer;
 
-// The number of an answer's word.
-pub fn word(a: Answer) -> u64
-    ensures { λ r. ⌜ r ≡ wordOf a ⌝ }
+// The words by number: that of a refusal, READY, those of the commands in their order, and SHOW's.
+pub const REFUSED: u64 = 0;
+
+pub const READY: u64 = 1;
+
+pub const SESSION: u64 = 2;
+
+pub const HIT: u64 = 3;
+
+pub const ASK: u64 = 4;
+
+pub const BACKOFF: u64 = 5;
+
+pub const LEASE: u64 = 6;
+
+pub const STORED: u64 = 7;
+
+pub const IGNORED: u64 = 8;
+
+pub const HELD: u64 = 9;
+
+pub const GRANTED: u64 = 10;
+
+pub const ABORTED: u64 = 11;
+
+pub const STAGED: u64 = 12;
+
+pub const REPEATED: u64 = 13;
+
+pub const DROPPED: u64 = 14;
+
+pub const VALIDATED: u64 = 15;
+
+pub const LOST: u64 = 16;
+
+pub const DONE: u64 = 17;
+
+pub const UNDONE: u64 = 18;
+
+pub const EVICTED: u64 = 19;
+
+pub const EMPTY: u64 = 20;
+
+pub const TICKED: u64 = 21;
+
+pub const VALUE: u64 = 22;
+
+pub const NONE: u64 = 23;
+
+// An answer's word, the session, token, wait, length or refusal number that goes with it or 0, and the place of a HIT's value or 0.
+pub struct Numbers {
+    pub word: u64,
+    pub detail: u64,
+    pub place: u64,
+}
+
+// The three in their order.
+fn listed(a: Answer) -> [u64; 3]
+    ensures { λ r. ⌜ r ≡ wordOf a ∷ detailOf a ∷ placeOf a ∷ [] ⌝ }
 {
     match a {
-        Answer::Ready => 1,
-        Answer::Session(_) => 2,
-        Answer::Hit { at: _, length: _ } => 3,
-        Answer::Ask => 4,
-        Answer::Backoff(_) => 5,
-        Answer::Lease(_) => 6,
-        Answer::Stored => 7,
-        Answer::Ignored => 8,
-        Answer::Held => 9,
-        Answer::Granted => 10,
-        Answer::Aborted => 11,
-        Answer::Staged => 12,
-        Answer::Repeated => 13,
-        Answer::Dropped => 14,
-        Answer::Validated => 15,
-        Answer::Lost => 16,
-        Answer::Done => 17,
-        Answer::Undone => 18,
-        Answer::Evicted => 19,
-        Answer::Empty => 20,
-        Answer::Ticked => 21,
-        Answer::Value(_) => 22,
-        Answer::None => 23,
-        Answer::Refused(_) => 0,
+        Answer::Ready => [READY, 0, 0],
+        Answer::Session(n) => [SESSION, n as u64, 0],
+        Answer::Hit { at, length } => [HIT, length as u64, at as u64],
+        Answer::Ask => [ASK, 0, 0],
+        Answer::Backoff(n) => [BACKOFF, n, 0],
+        Answer::Lease(n) => [LEASE, n as u64, 0],
+        Answer::Stored => [STORED, 0, 0],
+        Answer::Ignored => [IGNORED, 0, 0],
+        Answer::Held => [HELD, 0, 0],
+        Answer::Granted => [GRANTED, 0, 0],
+        Answer::Aborted => [ABORTED, 0, 0],
+        Answer::Staged => [STAGED, 0, 0],
+        Answer::Repeated => [REPEATED, 0, 0],
+        Answer::Dropped => [DROPPED, 0, 0],
+        Answer::Validated => [VALIDATED, 0, 0],
+        Answer::Lost => [LOST, 0, 0],
+        Answer::Done => [DONE, 0, 0],
+        Answer::Undone => [UNDONE, 0, 0],
+        Answer::Evicted => [EVICTED, 0, 0],
+        Answer::Empty => [EMPTY, 0, 0],
+        Answer::Ticked => [TICKED, 0, 0],
+        Answer::Value(n) => [VALUE, n as u64, 0],
+        Answer::None => [NONE, 0, 0],
+        Answer::Refused(n) => [REFUSED, n as u64, 0],
     }
 }
 
-// The session, token, wait, length or refusal number that goes with it, or 0.
-pub fn detail(a: Answer) -> u64
-    ensures { λ r. ⌜ r ≡ detailOf a ⌝ }
+pub fn as_numbers(a: Answer) -> Numbers
+    ensures { λ r. ⌜ r ≡ numbersOf a ⌝ }
 {
-    match a {
-        Answer::Ready => 0,
-        Answer::Session(n) => n as u64,
-        Answer::Hit { at: _, length } => length as u64,
-        Answer::Ask => 0,
-        Answer::Backoff(n) => n,
-        Answer::Lease(n) => n as u64,
-        Answer::Stored => 0,
-        Answer::Ignored => 0,
-        Answer::Held => 0,
-        Answer::Granted => 0,
-        Answer::Aborted => 0,
-        Answer::Staged => 0,
-        Answer::Repeated => 0,
-        Answer::Dropped => 0,
-        Answer::Validated => 0,
-        Answer::Lost => 0,
-        Answer::Done => 0,
-        Answer::Undone => 0,
-        Answer::Evicted => 0,
-        Answer::Empty => 0,
-        Answer::Ticked => 0,
-        Answer::Value(n) => n as u64,
-        Answer::None => 0,
-        Answer::Refused(n) => n as u64,
-    }
-}
-
-// Where a HIT's value stands, or 0.
-pub fn place(a: Answer) -> u64
-    ensures { λ r. ⌜ r ≡ placeOf a ⌝ }
-{
-    match a {
-        Answer::Ready => 0,
-        Answer::Session(_) => 0,
-        Answer::Hit { at, length: _ } => at as u64,
-        Answer::Ask => 0,
-        Answer::Backoff(_) => 0,
-        Answer::Lease(_) => 0,
-        Answer::Stored => 0,
-        Answer::Ignored => 0,
-        Answer::Held => 0,
-        Answer::Granted => 0,
-        Answer::Aborted => 0,
-        Answer::Staged => 0,
-        Answer::Repeated => 0,
-        Answer::Dropped => 0,
-        Answer::Validated => 0,
-        Answer::Lost => 0,
-        Answer::Done => 0,
-        Answer::Undone => 0,
-        Answer::Evicted => 0,
-        Answer::Empty => 0,
-        Answer::Ticked => 0,
-        Answer::Value(_) => 0,
-        Answer::None => 0,
-        Answer::Refused(_) => 0,
+    let three = listed(a);
+    Numbers {
+        word: three[0],
+        detail: three[1],
+        place: three[2],
     }
 }

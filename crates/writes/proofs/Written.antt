@@ -26,7 +26,7 @@ use Rattle.layout.proofs.Search.{found-at, found-nothing}
 use Rattle.turns.proofs.Cases.{located, unlocated}
 use Rattle.sights.proofs.Sights.{row-missing, row-taken}
 use Rattle.book.specs.Book.{withRegistered, withMark}
-use Rattle.rules.specs.Rules.{writtenWord}
+use Rattle.replies.specs.Replies.{WRITTEN}
 use Rattle.rules.specs.Says.{Says}
 use Rattle.writes.specs.Writes.{mayWrite, marked, writes, Writes}
 
@@ -84,7 +84,7 @@ module _ (x b : List ℕ) (n k : ℕ) where
 -- ---- what is said of it
 
 pub write-says : (x b : List ℕ) (n k : ℕ) (v : Value) (rule : ℕ) (b₁ b′ : List ℕ) → rule ≡ (if mayWrite x n k then 0 else 2) → b₁ ≡ marked x b n → b′ ≡ withRegistered b₁ k v
-    → Says (writes x b n k v) 0 (record { word = writtenWord; detail = 0; at = 0; rule = rule }) x b′
+    → Says (writes x b n k v) 0 (record { word = WRITTEN; detail = 0; at = 0; rule = rule }) x b′
 unfolding writes
 write-says x b n k v rule b₁ b′ e f g = record {
   word = refl;

@@ -11,7 +11,8 @@ use Rattle.machine.specs.Refusals.{sealedIn}
 use Rattle.layout.specs.Layout.{decode}
 use Rattle.layout.specs.WellFormed.{wellFormed}
 use Rattle.book.specs.Book.{withRegistered, withMark}
-use Rattle.rules.specs.Rules.{Said, writtenWord}
+use Rattle.replies.specs.Replies.{WRITTEN}
+use Rattle.rules.specs.Rules.{Said}
 
 -- the register may write to the key k for the session n
 unfoldable pub mayWrite : List ℕ → ℕ → ℕ → Bool
@@ -24,7 +25,7 @@ marked x b n = if wellFormed x && ltb (sessionPlace (decode x) n) sessionCount t
 -- C: the register writes the value v to the key k for the session n
 unfoldable pub writes : List ℕ → List ℕ → ℕ → ℕ → Value → Said
 writes x b n k v = record {
-  word = writtenWord;
+  word = WRITTEN;
   detail = 0;
   value = [];
   rule = if mayWrite x n k then 0 else 2;

@@ -14,8 +14,6 @@ ghost use Rattle.writes.specs.Writes.{mayWrite, marked, writes, Writes};
 use layout::Found;
 use rules::Said;
 
-const WRITTEN: u64 = 24;
-
 // Rule 2 by its number, 0 where it is kept.
 const KEPT: u64 = 0;
 
@@ -62,7 +60,7 @@ pub fn write(cache: &[u8], book: &mut [u8], session: u64, key: u64, value: &[u8]
     let rule = note_write(cache, book, session, key);
     notes::write(book, key, value);
     Said {
-        word: WRITTEN,
+        word: replies::WRITTEN,
         detail: 0,
         at: 0,
         rule,

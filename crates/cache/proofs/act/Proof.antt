@@ -1,5 +1,5 @@
 -- Each arm is the command of that name; what the command does not look at computes away.
-use mathlib.Core.Path.{_≡_, refl}
+use mathlib.Core.Path.{refl}
 use Rattle.machine.specs.Refusals.{refusals}
 use Rattle.machine.specs.Effects.{effect}
 use Rattle.outcome.specs.Outcome.{tried}

@@ -1,5 +1,5 @@
 -- A buffer that is not well formed is refused; else it holds the state that it decodes to.
-use mathlib.Core.Path.{_≡_, sym, _∙_}
+use mathlib.Core.Path.{sym, _∙_}
 use borrow.Author.Tests.{not-true, not-false}
 use Rattle.layout.proofs.Formed.{formed}
 use Rattle.cache.proofs.Taken.{ran-damaged, ran-formed}

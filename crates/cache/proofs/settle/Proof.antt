@@ -1,5 +1,5 @@
 -- Where nothing lapses expiry changes nothing.
-use mathlib.Core.Path.{_≡_, sym, _∙_}
+use mathlib.Core.Path.{sym, _∙_}
 use Rattle.sweep.proofs.Lapsing.{nothing-lapses}
 use Rattle.cache.proofs.Taken.{nothing-lapsed}
 use borrow.Author.Needs.{needs}

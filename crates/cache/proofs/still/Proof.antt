@@ -1,5 +1,5 @@
 -- The clock is tested first; then the command decides, and an accepted one moves the clock.
-use mathlib.Core.Path.{_≡_, sym, _∙_}
+use mathlib.Core.Path.{sym, _∙_}
 use Rattle.cache.proofs.Taken.{before-clock, past-time, refused-still, accepted-still}
 use borrow.Author.Needs.{needs}
 use Rattle.cache.proofs.still.Statement.{statement}

@@ -2,7 +2,6 @@
 use mathlib.Core.List.{[]}
 use lib.ListN.{length-take}
 use native.Mathlib.Omega.{arith}
-use mathlib.Core.Path.{sym, _∙_}
 use Rattle.rehearsal.proofs.Turns.{not-taken, said-unreadable, said-start, write-size, said-write, command-size, said-command}
 use borrow.Author.Needs.{needs}
 use Rattle.rehearsal.proofs.act.Statement.{statement}

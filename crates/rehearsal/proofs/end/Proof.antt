@@ -1,5 +1,4 @@
 -- Buffers that are not lent right are left alone; else the two counts are printed.
-use native.Mathlib.Omega.{arith}
 use Rattle.rehearsal.proofs.Turns.{end-wrong, end-roomless, end-printed}
 use borrow.Author.Needs.{needs}
 use Rattle.rehearsal.proofs.end.Statement.{statement}

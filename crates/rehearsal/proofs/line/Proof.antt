@@ -1,5 +1,4 @@
 -- Buffers that are not lent right are left alone; else what is said of the line is printed.
-use native.Mathlib.Omega.{arith}
 use Rattle.rehearsal.proofs.Turns.{line-wrong, line-roomless, line-printed, said-within}
 use borrow.Author.Needs.{needs}
 use Rattle.rehearsal.proofs.line.Statement.{statement}

@@ -2,8 +2,6 @@
 use Rattle.rehearsal.proofs.Turns.{part-win, prints}
 use lib.ListN.{length-take}
 use native.Mathlib.Omega.{arith}
-use mathlib.Core.Path.{refl}
-use Rattle.rehearsal.proofs.Turns.{prints}
 use borrow.Author.Needs.{needs}
 use Rattle.rehearsal.proofs.say.Statement.{statement}
 use Rattle.rehearsal.proofs.say.Tie as tie

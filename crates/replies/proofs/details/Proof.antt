@@ -6,6 +6,7 @@ use Rattle.hex.proofs.Printing.{hex-most}
 use Rattle.replies.specs.Replies.{detailed}
 use borrow.Author.Needs.{needs}
 use Rattle.machine.specs.Sizes.{valueMax}
+use Rattle.machine.specs.Words.{HIT}
 use Rattle.replies.proofs.details.Statement.{statement}
 use Rattle.replies.proofs.details.Tie as tie
 
@@ -30,7 +31,7 @@ same-length-2 c = search needs
 
 returns-2 : tie.Need-returns-2
 unfolding detailed
-returns-2 c = let e = sym (c .before .before .before .before .before .before .numbered .ensures) ∙ c .before .before .before .before .before .if1 .left in rw (e, eq-eqb _ 3 (c .before .before .before .before .if2 .taken)) (c .before .before .hexed .ensures)
+returns-2 c = let e = sym (c .before .before .before .before .before .before .numbered .ensures) ∙ c .before .before .before .before .before .if1 .left in rw (e, eq-eqb _ HIT (c .before .before .before .before .if2 .taken)) (c .before .before .hexed .ensures)
 
 byte-requires : tie.Need-byte-requires
 byte-requires c κs = search needs
@@ -40,7 +41,7 @@ same-length-3 c = search needs
 
 returns-3 : tie.Need-returns-3
 unfolding detailed
-returns-3 c = let e = sym (c .before .before .before .before .before .before .numbered .ensures) ∙ c .before .before .before .before .before .if1 .left in rw (e, ne-eqb _ 3 (c .before .before .before .before .if2 .left)) (c .before .before .byte .ensures)
+returns-3 c = let e = sym (c .before .before .before .before .before .before .numbered .ensures) ∙ c .before .before .before .before .before .if1 .left in rw (e, ne-eqb _ HIT (c .before .before .before .before .if2 .left)) (c .before .before .byte .ensures)
 
 pub details-spec : {M : Type 1} → statement M
 details-spec =

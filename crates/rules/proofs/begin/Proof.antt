@@ -1,5 +1,6 @@
 -- The answer is START's, and READY is noted in the book.
-use mathlib.Core.Path.{sym, _∙_}
+use mathlib.Core.Path.{sym, ap, _∙_}
+use Rattle.words.specs.declared.Numbers.{Numbers}
 use Rattle.rules.proofs.Told.{begin-refused, begin-ready}
 use borrow.Author.Needs.{needs}
 use Rattle.rules.proofs.begin.Statement.{statement}
@@ -8,8 +9,8 @@ use Rattle.rules.proofs.begin.Tie as tie
 start-requires : tie.Need-start-requires
 start-requires c κs = search needs
 
-word-requires : tie.Need-word-requires
-word-requires c κs = search needs
+as-numbers-requires : tie.Need-as-numbers-requires
+as-numbers-requires c κs = search needs
 
 tell-requires : tie.Need-tell-requires
 tell-requires c κs = search needs
@@ -18,7 +19,7 @@ same-length : tie.Need-same-length
 same-length c = search needs
 
 returns : tie.Need-returns
-returns c = rw (c .tell .ensures) (begin-refused _ _ _ _ _ _ (c .before .before .before .before .before .start .ensures .0) (c .before .before .before .before .before .start .ensures .1) (λ q. c .before .if1 .taken (c .before .before .word .ensures ∙ q)))
+returns c = rw (c .tell .ensures, c .before .before .before .as-numbers .ensures) (begin-refused _ _ _ _ _ _ (c .before .before .before .before .before .before .start .ensures .0) (c .before .before .before .before .before .before .start .ensures .1) (λ q. c .before .if1 .taken (ap (λ (n : Numbers). n .word) (c .before .before .before .as-numbers .ensures) ∙ q)))
 
 set-started-requires : tie.Need-set-started-requires
 set-started-requires c κs = search needs
@@ -33,14 +34,14 @@ same-length-3 : tie.Need-same-length-3
 same-length-3 c = search needs
 
 returns-2 : tie.Need-returns-2
-returns-2 c = rw (c .tell2 .ensures) (begin-ready _ _ _ _ _ _ (c .before .before .before .before .before .before .before .before .before .start .ensures .0) (c .before .before .before .before .before .before .before .before .before .start .ensures .1) (sym (c .before .before .before .before .before .before .word .ensures) ∙ c .before .before .before .before .before .if1 .left) _ (c .before .before .before .set-started .ensures))
+returns-2 c = rw (c .tell2 .ensures, c .before .before .before .before .before .before .before .as-numbers .ensures) (begin-ready _ _ _ _ _ _ (c .before .before .before .before .before .before .before .before .before .before .start .ensures .0) (c .before .before .before .before .before .before .before .before .before .before .start .ensures .1) (sym (ap (λ (n : Numbers). n .word) (c .before .before .before .before .before .before .before .as-numbers .ensures)) ∙ c .before .before .before .before .before .if1 .left) _ (c .before .before .before .set-started .ensures))
 
 pub begin-spec : {M : Type 1} → statement M
 begin-spec =
     tie.close
     (tie.spec
     start-requires
-    word-requires
+    as-numbers-requires
     tell-requires
     same-length
     returns

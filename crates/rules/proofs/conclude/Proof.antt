@@ -4,8 +4,8 @@ use borrow.Author.Needs.{needs}
 use Rattle.rules.proofs.conclude.Statement.{statement}
 use Rattle.rules.proofs.conclude.Tie as tie
 
-word-requires : tie.Need-word-requires
-word-requires c κs = search needs
+as-numbers-requires : tie.Need-as-numbers-requires
+as-numbers-requires c κs = search needs
 
 note-grant-requires : tie.Need-note-grant-requires
 note-grant-requires c κs = search needs
@@ -20,11 +20,16 @@ same-length : tie.Need-same-length
 same-length c = search needs
 
 returns : tie.Need-returns
-returns c =
-    let a = c .before .before .before .before .before .before .before .before .args in
-    concluded (a .book .now) _ (a .command) (a .answer) (a .risk) (c .before .before .before .before .before .before .word .result) (c .before .rule-of .result) _ (c .before .before .before .before .before .before .word .ensures) (c .before .before .before .before .note-grant .ensures) (c .before .rule-of .ensures) (c .tell .ensures)
+returns c = let a = c .before .before .before .before .before .before .before .before .args in
+    concluded (a .book .now) _ (a .command) (a .answer) _ (a .risk) (c .before .rule-of .result) _ (c .before .before .before .before .before .before .as-numbers .ensures) (c .before .before .before .before .note-grant .ensures) (c .before .rule-of .ensures) (c .tell .ensures)
 
 pub conclude-spec : {M : Type 1} → statement M
 conclude-spec =
     tie.close
-    (tie.spec word-requires note-grant-requires rule-of-requires tell-requires same-length returns)
+    (tie.spec
+    as-numbers-requires
+    note-grant-requires
+    rule-of-requires
+    tell-requires
+    same-length
+    returns)

@@ -2,11 +2,10 @@
 use Rattle.outcome.proofs.Told.{gives}
 use Rattle.machine.specs.State.{sessionAt}
 use Rattle.turns.proofs.Cases.{located, done-open, done-is, number-here, finished-is, live-is, number-in}
-use mathlib.Core.Path.{_≡_, sym, ap, _∙_}
+use mathlib.Core.Path.{sym, ap, _∙_}
 use borrow.Author.Tests.{not-true, not-false}
 use Rattle.machine.specs.Session.{isSealed}
 use Rattle.machine.specs.declared.Session.{Session}
-use Rattle.machine.specs.declared.Answer.{Answer}
 use borrow.Author.Needs.{needs}
 use Rattle.turns.proofs.done_at.Statement.{statement}
 use Rattle.turns.proofs.done_at.Tie as tie

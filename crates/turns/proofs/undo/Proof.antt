@@ -1,9 +1,8 @@
 -- The search finds the session or nothing (`undo-none`).
-use mathlib.Core.Path.{_≡_, sym, ap, _∙_}
+use mathlib.Core.Path.{sym, _∙_}
 use Rattle.outcome.proofs.Told.{gives}
 use Rattle.machine.specs.Sizes.{sessionCount}
 use Rattle.machine.specs.State.{sessionPlace}
-use Rattle.machine.specs.declared.Answer.{Answer}
 use Rattle.layout.proofs.Search.{found-at}
 use Rattle.turns.proofs.Cases.{unlocated, undo-none}
 use borrow.Author.Needs.{needs}

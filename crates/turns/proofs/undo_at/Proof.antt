@@ -1,7 +1,5 @@
 -- The session leaves, open or sealed, the one at the place being that of the number (`number-here`).
-use mathlib.Core.Path.{_≡_, sym, ap, _∙_}
 use Rattle.outcome.proofs.Told.{gives}
-use Rattle.machine.specs.declared.Answer.{Answer}
 use Rattle.turns.proofs.Cases.{located, undo-is, number-here, left-is}
 use borrow.Author.Needs.{needs}
 use Rattle.turns.proofs.undo_at.Statement.{statement}

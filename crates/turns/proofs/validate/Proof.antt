@@ -1,9 +1,8 @@
 -- An n over 1,000 is refused (`validate-far`); then the search finds the session or nothing (`validate-none`).
-use mathlib.Core.Path.{_≡_, sym, ap, _∙_}
+use mathlib.Core.Path.{sym, _∙_}
 use Rattle.outcome.proofs.Told.{gives}
 use Rattle.machine.specs.Sizes.{sessionCount}
 use Rattle.machine.specs.State.{sessionPlace}
-use Rattle.machine.specs.declared.Answer.{Answer}
 use Rattle.layout.proofs.Search.{found-at}
 use Rattle.turns.proofs.Cases.{unlocated, validate-none, validate-far}
 use borrow.Author.Needs.{needs}

@@ -2,14 +2,10 @@
 use Rattle.outcome.proofs.Told.{gives}
 use Rattle.machine.specs.State.{sessionAt}
 use Rattle.turns.proofs.Cases.{located, live-is, number-in, number-here, left-is, live-number, live-count, sealed-held, told-seals, told-loses, told-clashes, validate-seals, validate-loses, validate-clashes}
-use mathlib.Core.Path.{_≡_, sym, ap, _∙_, subst}
-use lib.ListN.{set}
-use Rattle.machine.specs.Session.{validationOf, sealed}
-use Rattle.machine.specs.State.{State, session}
-use Rattle.machine.specs.Expiry.{withSessions}
+use mathlib.Core.Path.{sym, ap, _∙_}
+use Rattle.machine.specs.Session.{validationOf}
+use Rattle.machine.specs.State.{session}
 use Rattle.machine.specs.declared.Session.{Session}
-use Rattle.machine.specs.declared.Answer.{Answer}
-use Rattle.layout.specs.Holds.{Holds}
 use borrow.Author.Needs.{needs}
 use Rattle.turns.proofs.validate_at.Statement.{statement}
 use Rattle.turns.proofs.validate_at.Tie as tie

@@ -2,15 +2,13 @@
 use native.Mathlib.Omega.{arith}
 use Rattle.outcome.proofs.Told.{gives}
 use Rattle.machine.proofs.SoundFacts as facts
-use mathlib.Core.Path.{_≡_, sym, ap, _∙_}
-use Rattle.machine.specs.declared.Answer.{Answer}
 use Rattle.machine.specs.State.{session}
 use Rattle.machine.specs.Expiry.{withSessions}
 use lib.ListN.{set}
-use Rattle.turns.proofs.Cases.{begin-spent, begin-gives}
+use Rattle.openings.proofs.Cases.{begin-spent, begin-gives}
 use borrow.Author.Needs.{needs}
-use Rattle.turns.proofs.open.Statement.{statement}
-use Rattle.turns.proofs.open.Tie as tie
+use Rattle.openings.proofs.open.Statement.{statement}
+use Rattle.openings.proofs.open.Tie as tie
 
 next-session-requires : tie.Need-next-session-requires
 next-session-requires c κs = search needs

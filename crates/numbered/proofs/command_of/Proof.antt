@@ -1,8 +1,7 @@
 -- Each arm says which number it is; in the last arm it is none of the eleven.
-use mathlib.Core.Path.{_≡_, refl}
 use borrow.Author.Tests.{ne-eqb}
-use Rattle.cache.proofs.command_of.Statement.{statement}
-use Rattle.cache.proofs.command_of.Tie as tie
+use Rattle.numbered.proofs.command_of.Statement.{statement}
+use Rattle.numbered.proofs.command_of.Tie as tie
 
 returns : tie.Need-returns
 returns c = rw (c .match .keys1)

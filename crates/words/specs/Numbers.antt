@@ -1,7 +1,14 @@
--- Where a HIT's value stands in the lent state; 0 for every other answer. (An answer's word and what goes with it are in the machine's `Words`.)
+-- An answer as numbers: its word and what goes with it, as the machine's `Words` have them, and where a HIT's value stands in the lent state.
 use Prim.Native.Nat.{ℕ}
+use Rattle.machine.specs.Words.{wordOf, detailOf}
 use Rattle.machine.specs.declared.Answer.{Answer}
+use Rattle.words.specs.declared.Numbers.{Numbers}
 
+-- the word of a refusal
+abbrev pub REFUSED : ℕ
+REFUSED = 0
+
+-- 0 for every other answer
 abbrev pub placeOf : Answer → ℕ
 placeOf Answer.Ready = 0
 placeOf (Answer.Session n) = 0
@@ -27,3 +34,6 @@ placeOf Answer.Ticked = 0
 placeOf (Answer.Value n) = 0
 placeOf Answer.None = 0
 placeOf (Answer.Refused n) = 0
+
+abbrev pub numbersOf : Answer → Numbers
+numbersOf a = record { word = wordOf a; detail = detailOf a; place = placeOf a }

@@ -1,15 +1,14 @@
 -- A full table is refused (`begin-full`); else the session opens in the place that the search found.
-use mathlib.Core.Path.{_≡_, sym, ap, _∙_}
+use mathlib.Core.Path.{sym, _∙_}
 use Rattle.outcome.proofs.Told.{gives}
 use Rattle.machine.specs.Sizes.{sessionCount}
 use Rattle.machine.specs.Tables.{place}
 use Rattle.machine.specs.State.{free}
-use Rattle.machine.specs.declared.Answer.{Answer}
 use Rattle.layout.proofs.Search.{found-at}
-use Rattle.turns.proofs.Cases.{begin-full}
+use Rattle.openings.proofs.Cases.{begin-full}
 use borrow.Author.Needs.{needs}
-use Rattle.turns.proofs.begin.Statement.{statement}
-use Rattle.turns.proofs.begin.Tie as tie
+use Rattle.openings.proofs.begin.Statement.{statement}
+use Rattle.openings.proofs.begin.Tie as tie
 
 free-place-requires : tie.Need-free-place-requires
 free-place-requires c κs = search needs

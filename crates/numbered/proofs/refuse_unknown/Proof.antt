@@ -1,12 +1,12 @@
 -- The tests stand in the order of the definition.
-use mathlib.Core.Path.{_≡_, refl, sym, _∙_, ap}
+use mathlib.Core.Path.{sym, _∙_}
 use borrow.Author.Tests.{not-true, not-false, lt-ltb, le-ltb}
 use Rattle.layout.specs.Layout.{decode}
 use Rattle.layout.proofs.Formed.{formed, holds-decoded}
-use Rattle.cache.specs.Run.{unknown}
+use Rattle.numbered.specs.Commands.{unknown}
 use borrow.Author.Needs.{needs}
-use Rattle.cache.proofs.refuse_unknown.Statement.{statement}
-use Rattle.cache.proofs.refuse_unknown.Tie as tie
+use Rattle.numbered.proofs.refuse_unknown.Statement.{statement}
+use Rattle.numbered.proofs.refuse_unknown.Tie as tie
 
 well-formed-requires : tie.Need-well-formed-requires
 well-formed-requires c κs = search needs

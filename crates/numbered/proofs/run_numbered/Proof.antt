@@ -1,8 +1,8 @@
 -- A number of the list is its command; any other is refused.
-use mathlib.Core.Path.{_≡_, refl, sym, _∙_}
+use mathlib.Core.Path.{refl, sym, _∙_}
 use borrow.Author.Needs.{needs}
-use Rattle.cache.proofs.run_numbered.Statement.{statement}
-use Rattle.cache.proofs.run_numbered.Tie as tie
+use Rattle.numbered.proofs.run_numbered.Statement.{statement}
+use Rattle.numbered.proofs.run_numbered.Tie as tie
 
 command-of-requires : tie.Need-command-of-requires
 command-of-requires c κs = search needs
