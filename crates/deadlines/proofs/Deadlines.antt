@@ -1,12 +1,14 @@
--- A deadline is looked at only where there is one: a token of 0 is no lease, and a place with the number 0 is free.
+-- A deadline is looked at only where there is one: a token of 0 is no lease, and a place with the number 0 is free. A lease that has lapsed
+-- is gone after expiry, and any other is as it was.
 use mathlib.Core.Path.{_≡_, refl}
-use mathlib.Core.Bool.{false}
+use mathlib.Core.Bool.{false, true}
 use mathlib.Core.Option.{Option, none, some}
 use Prim.Native.Nat.{ℕ}
 use lib.Dec.{leb}
 use Rattle.machine.specs.Session.{isDue}
 use Rattle.machine.specs.State.{Lease, Slot, noSession, session}
 use Rattle.machine.specs.Sound.{tokenIn}
+use Rattle.machine.specs.Expiry.{unlapsed}
 use Rattle.layout.specs.Fields.{leaseUntil, sessionIn}
 use Rattle.layout.specs.Holds.{LeaseFits, SlotFits}
 use Rattle.layout.proofs.Records.{lease-none, slot-none}
@@ -26,3 +28,12 @@ module _ (now : ℕ) where
   pub due-by : (e : Slot) → (sessionIn e .number ≡ 0 → ⊥) → dueSlot now e ≡ isDue now (sessionIn e)
   due-by noSession z = absurd (z refl)
   due-by (session x) z = refl
+
+  -- the lease after expiry
+  pub unlapsed-same : (o : Option Lease) → lapsed now o ≡ false → unlapsed now o ≡ o
+  unlapsed-same none e = refl
+  unlapsed-same (some l) e = rw e
+
+  pub unlapsed-none : (o : Option Lease) → lapsed now o ≡ true → unlapsed now o ≡ none
+  unlapsed-none none e = refl
+  unlapsed-none (some l) e = rw e

@@ -1,6 +1,5 @@
 -- The bytes of the fresh state: its tables are all free, so all is zero behind the header, and in the header four numbers are written.
-use mathlib.Core.Path.{_≡_, refl, sym, ap, _∙_}
-use mathlib.Core.Bool.{Bool, true, _&&_}
+use mathlib.Core.Path.{_≡_, refl, sym, _∙_}
 use mathlib.Core.List.{List, _++_}
 use Prim.Native.Nat.{ℕ, _+_, _*_}
 use lib.ListN.{length, replicate, length-replicate, replicate-append-replicate}

@@ -1,10 +1,10 @@
 -- What START answers, and the bytes after it, case by case: each test of the definition's list decided, in its order.
-use mathlib.Core.Path.{_≡_, refl}
-use mathlib.Core.Bool.{Bool, true, false, not, _||_, or-true}
+use mathlib.Core.Path.{_≡_}
+use mathlib.Core.Bool.{true, false, or-true}
 use mathlib.Core.List.{List}
 use Prim.Native.Nat.{ℕ, _≤_, _<_, _^_}
 use native.Mathlib.Omega.{arith}
-use lib.Dec.{eqb, leb}
+use lib.Dec.{leb}
 use lib.ListN.{length}
 use borrow.Author.Tests.{eq-eqb, leb-true, ne-eqb}
 use Rattle.lent.proofs.Choices.{and-yes}
@@ -17,22 +17,22 @@ use Rattle.machine.specs.declared.Answer.{Answer}
 use Rattle.layout.specs.Layout.{encode}
 use Rattle.startup.specs.Start.{Reply, startRefusal, startOf}
 
-abbrev refusing : ℕ → List ℕ → Reply
-refusing n b = record { answer = Answer.Refused n; bytes = b }
+abbrev refused : ℕ → List ℕ → Reply
+refused n b = record { answer = Answer.Refused n; bytes = b }
 
 pub lifetime-small : (n : ℕ) → lifetime n ≡ true → n < 2 ^ 32
 lifetime-small n e = let h : n ≤ lifeMax = leb-true n lifeMax (and-yes (leb 1 n) (leb n lifeMax) e .1) in omega arith
 
 module _ (b : List ℕ) (readLife writeLife : ℕ) where
-  pub started-size : (length b ≡ stateSize → ⊥) → startOf b readLife writeLife ≡ refusing STATE b
+  pub started-size : (length b ≡ stateSize → ⊥) → startOf b readLife writeLife ≡ refused STATE b
   unfolding startOf startRefusal
   started-size n = rw (ne-eqb (length b) stateSize n)
 
-  pub started-read : length b ≡ stateSize → lifetime readLife ≡ false → startOf b readLife writeLife ≡ refusing ARG b
+  pub started-read : length b ≡ stateSize → lifetime readLife ≡ false → startOf b readLife writeLife ≡ refused ARG b
   unfolding startOf startRefusal
   started-read e p = rw (eq-eqb (length b) stateSize e, p)
 
-  pub started-write : length b ≡ stateSize → lifetime writeLife ≡ false → startOf b readLife writeLife ≡ refusing ARG b
+  pub started-write : length b ≡ stateSize → lifetime writeLife ≡ false → startOf b readLife writeLife ≡ refused ARG b
   unfolding startOf startRefusal
   started-write e p = rw (eq-eqb (length b) stateSize e, p, or-true)
 

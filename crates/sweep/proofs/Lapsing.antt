@@ -1,18 +1,19 @@
 -- Where nothing lapses, expiry changes nothing: no lease goes, no session is due, and the rows of no sessions end.
 use mathlib.Core.Path.{_≡_, refl, ap, ap₂}
 use mathlib.Core.Bool.{Bool, false}
-use mathlib.Core.Option.{Option, none, some}
+use mathlib.Core.Option.{Option}
 use mathlib.Core.List.{List, [], _∷_, map}
 use Prim.Native.Nat.{ℕ}
 use Rattle.lent.proofs.Choices.{or-no}
 use Rattle.machine.specs.Tables.{any}
 use Rattle.machine.specs.Session.{isDue}
 use Rattle.machine.specs.State.{Value, Lease, Key, Slot, noSession, session, Staged, Row, noRow, row, State}
-use Rattle.machine.specs.Expiry.{freeSession, freeIfOf, settle, leave, finish, lapsedValue, unlapsed, lapsedLease, those, expire}
+use Rattle.machine.specs.Expiry.{freeSession, freeIfOf, settle, leave, finish, lapsedValue, lapsedLease, those, expire}
 use Rattle.machine.specs.Effects.{toCache}
 use Rattle.endings.specs.declared.Ending.{Ending}
 use Rattle.endings.specs.Ends.{keysSettled, endRows}
-use Rattle.deadlines.specs.Deadlines.{lapsed, lapsedOn, dueSlot}
+use Rattle.deadlines.specs.Deadlines.{lapsedOn, dueSlot}
+use Rattle.deadlines.proofs.Deadlines.{unlapsed-same}
 use Rattle.sweep.specs.Lapsing.{lapsing}
 
 -- a map that changes only what passes a test that nothing passes
@@ -21,11 +22,7 @@ unmapped p f same [] h = refl
 unmapped p f same (x ∷ l) h = let b = or-no (p x) (any p l) h in ap₂ _∷_ (same x (b .0)) (unmapped p f same l (b .1))
 
 same-lease : (now : ℕ) (e : Key) → lapsedOn now e ≡ false → lapsedLease now e ≡ e
-same-lease now e h = ap (λ (o : Option Lease). record { value = e .value; lease = o }) (go (e .lease) h)
-  where
-    go : (o : Option Lease) → lapsed now o ≡ false → unlapsed now o ≡ o
-    go none h = refl
-    go (some l) h = rw h
+same-lease now e h = ap (λ (o : Option Lease). record { value = e .value; lease = o }) (unlapsed-same now (e .lease) h)
 
 none-those : (now : ℕ) (l : List Slot) → any (dueSlot now) l ≡ false → those (isDue now) l ≡ []
 none-those now [] h = refl

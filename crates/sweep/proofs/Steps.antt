@@ -2,37 +2,27 @@
 use mathlib.Core.Path.{_≡_, refl}
 use mathlib.Core.Bool.{true, false}
 use mathlib.Core.List.{[], _∷_}
-use mathlib.Core.Option.{Option, none, some}
+use mathlib.Core.Option.{none}
 use Prim.Native.Nat.{ℕ}
 use lib.ListN.{set}
 use lib.Seq.{set-getD}
 use Rattle.lent.proofs.Choices.{clash}
-use Rattle.machine.specs.State.{Lease, blank, Slot, noSession, session, State, keyOf, sessionAt}
+use Rattle.machine.specs.State.{blank, Slot, noSession, session, State, keyOf, sessionAt}
 use Rattle.machine.specs.Sound.{numberIn}
-use Rattle.machine.specs.Expiry.{withKeys, withSessions, setLease, unlapsed}
-use Rattle.deadlines.specs.Deadlines.{lapsed, lapsedOn, dueSlot}
+use Rattle.machine.specs.Expiry.{withKeys, withSessions, setLease}
+use Rattle.deadlines.specs.Deadlines.{lapsedOn, dueSlot}
+use Rattle.deadlines.proofs.Deadlines.{unlapsed-same, unlapsed-none}
 use Rattle.sweep.specs.Lapsing.{lapseKey, noted, endDue}
 
 -- a lease
 module _ (now k : ℕ) (s : State) where
   pub lease-stays : lapsedOn now (keyOf s k) ≡ false → lapseKey now k s ≡ s
   unfolding lapseKey
-  lease-stays m = rw (go (leaseOf) m, set-getD (s .keys) k blank)
-    where
-      leaseOf : Option Lease
-      leaseOf = keyOf s k .lease
-
-      go : (o : Option Lease) → lapsed now o ≡ false → unlapsed now o ≡ o
-      go none m = refl
-      go (some l) m = rw m
+  lease-stays m = rw (unlapsed-same now (keyOf s k .lease) m, set-getD (s .keys) k blank)
 
   pub lease-goes : lapsedOn now (keyOf s k) ≡ true → lapseKey now k s ≡ withKeys s (setLease (s .keys) k none)
   unfolding lapseKey
-  lease-goes m = rw (go (keyOf s k .lease) m)
-    where
-      go : (o : Option Lease) → lapsed now o ≡ true → unlapsed now o ≡ none
-      go none m = refl
-      go (some l) m = rw m
+  lease-goes m = rw (unlapsed-none now (keyOf s k .lease) m)
 
 -- a session
 module _ (now i : ℕ) (s : State) where
