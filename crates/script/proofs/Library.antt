@@ -13,8 +13,8 @@ use Rattle.lent.proofs.Splice.{length-win, part-win, splice-none}
 use Rattle.book.specs.Book.{bookSize, linesIn, brokenIn}
 use Rattle.replies.specs.Replies.{lineRoom, ended}
 use Rattle.rehearsal.specs.Rehearsal.{Turn, Left, Leaves, wrote, turn, lineOf, endOf}
-use Rattle.script.specs.World.{World, turned, answerLine, endLine}
-use Rattle.script.specs.Buffers.{textMax, worldOf, Printed, Says}
+use Rattle.script.specs.Input.{Memory, asAnswer, answerLine, endLine}
+use Rattle.script.specs.Buffers.{textMax, memoryOf, Printed, Delivered}
 use Rattle.script.proofs.Prints.{printed-part}
 
 -- the part that is lent for a text, when it comes back as x with a text of r bytes
@@ -44,12 +44,12 @@ part-room out put h =
 -- the two calls, where there is room
 module _ (book part : List ℕ) (room : leb lineRoom (length part) ≡ true) where
   line-put : (cache l cache′ book′ x : List ℕ) (r : ℕ) → Leaves (lineOf cache book l part) r cache′ book′ x
-      → Put (answerLine (worldOf cache book) l .text) part r x × (worldOf cache′ book′ ≡ answerLine (worldOf cache book) l .world)
+      → Put (answerLine (memoryOf cache book) l .text) part r x × (memoryOf cache′ book′ ≡ answerLine (memoryOf cache book) l .world)
   unfolding lineOf answerLine
   line-put cache l cache′ book′ x r = rw room (go (eqb (length book) bookSize))
     where
       go : (t : Bool) → Leaves (if t && true then wrote (turn cache book l) part else record { length = 0; cache = cache; book = book; out = part }) r cache′ book′ x
-          → let s = if t then turned (turn cache book l) else record { world = worldOf cache book; text = [] } in Put (s .text) part r x × (worldOf cache′ book′ ≡ s .world)
+          → let s = if t then asAnswer (turn cache book l) else record { world = memoryOf cache book; text = [] } in Put (s .text) part r x × (memoryOf cache′ book′ ≡ s .world)
       go true e = (record { number = e .length; bytes = e .out }, rw (e .cache, e .book))
       go false e = (record { number = e .length; bytes = e .out ∙ sym (splice-none part 0) }, rw (e .cache, e .book))
 
@@ -65,13 +65,13 @@ module _ (book part : List ℕ) (room : leb lineRoom (length part) ≡ true) whe
 -- the same in the whole buffer
 module _ (book out : List ℕ) (put : ℕ) (h : put + textMax ≤ length out) (x : List ℕ) (r : ℕ)
     (same : length x ≡ length (take (put + textMax - put) (drop put out))) where
-  pub line-said : (cache l cache′ book′ : List ℕ) → Leaves (lineOf cache book l (take (put + textMax - put) (drop put out))) r cache′ book′ x
-      → Says (answerLine (worldOf cache book) l) (worldOf cache′ book′) out put (take put out ++ (x ++ drop (put + textMax - put) (drop put out))) (put + r) × (r ≤ textMax)
-  line-said cache l cache′ book′ e =
+  pub line-delivered : (cache l cache′ book′ : List ℕ) → Leaves (lineOf cache book l (take (put + textMax - put) (drop put out))) r cache′ book′ x
+      → Delivered (answerLine (memoryOf cache book) l) (memoryOf cache′ book′) out put (take put out ++ (x ++ drop (put + textMax - put) (drop put out))) (put + r) × (r ≤ textMax)
+  line-delivered cache l cache′ book′ e =
       let p = line-put book _ (part-room out put h) cache l cache′ book′ x r e in
       let q = put-printed out _ x put r h same (p .0) in
       (record { world = p .1; printed = q .0 }, q .1)
 
-  pub end-said : let e = endOf book (take (put + textMax - put) (drop put out)) in (r ≡ e .length) × (x ≡ e .out)
+  pub end-printed : let e = endOf book (take (put + textMax - put) (drop put out)) in (r ≡ e .length) × (x ≡ e .out)
       → Printed (endLine book) out put (take put out ++ (x ++ drop (put + textMax - put) (drop put out))) (put + r) × (r ≤ textMax)
-  end-said e = put-printed out _ x put r h same (end-put book _ (part-room out put h) x r e)
+  end-printed e = put-printed out _ x put r h same (end-put book _ (part-room out put h) x r e)
