@@ -12,27 +12,27 @@ use Rattle.lent.proofs.Splice.{splice-none}
 use Rattle.counts.specs.declared.Count.{Count}
 use Rattle.hex.specs.Hex.{readHex, answered, held}
 use Rattle.hex.specs.declared.Hex.{Hex}
-use Rattle.lines.specs.Fields.{Field, fields, fieldsAt, Ends, _>>=_, readNumber, counted, number, upTo, lastValue}
-use Rattle.lines.specs.Lines.{Read, said, orUnreadable, ended, Gives}
+use Rattle.lines.specs.Fields.{Field, fields, fieldsAt, Ends, _>>=_, readNumber, numberOf, number, upTo, lastValue}
+use Rattle.lines.specs.Lines.{Read, unvalued, orUnreadable, atEnd, Gives}
 use Rattle.lines.specs.declared.Line.{Line}
 use Rattle.lines.proofs.Cutting.{behind, behind-none, fields-in, fields-past}
 
 -- ---- the end of the fields
 
-ended-more : (fs : List Field) (r : Read) → ended (behind [] fs) r ≡ none
-ended-more [] r = refl
-ended-more (f ∷ fs) r = refl
+at-end-more : (fs : List Field) (r : Read) → atEnd (behind [] fs) r ≡ none
+at-end-more [] r = refl
+at-end-more (f ∷ fs) r = refl
 
 module _ (t : List ℕ) (at : ℕ) (r : Read) where
-  pub ended-in : at ≤ length t → ended (fieldsAt t at) r ≡ none
-  ended-in h = rw (fields-in t at h, ← behind-none (drop at t)) (ended-more (fields (drop at t)) r)
+  pub at-end-in : at ≤ length t → atEnd (fieldsAt t at) r ≡ none
+  at-end-in h = rw (fields-in t at h, ← behind-none (drop at t)) (at-end-more (fields (drop at t)) r)
 
-  pub ended-past : length t < at → ended (fieldsAt t at) r ≡ some r
-  ended-past h = rw (fields-past t at h)
+  pub at-end-past : length t < at → atEnd (fieldsAt t at) r ≡ some r
+  at-end-past h = rw (fields-past t at h)
 
 -- ---- a field as a number
 
-pub number-cut : (t : List ℕ) (at e : ℕ) (n : Count) → Ends t at e → n ≡ readNumber (take (e - at) (drop at t)) → number true (fieldsAt t at) ≡ counted n (fieldsAt t (e + 1))
+pub number-cut : (t : List ℕ) (at e : ℕ) (n : Count) → Ends t at e → n ≡ readNumber (take (e - at) (drop at t)) → number true (fieldsAt t at) ≡ numberOf n (fieldsAt t (e + 1))
 unfolding win
 number-cut t at e n c q = rw (c .cut, q)
 
@@ -79,11 +79,11 @@ module _ (most : ℕ) (o : Option (List ℕ)) (r : Hex) (a : r ≡ answered o) w
 
 -- ---- what is given
 
-pub gives-none : (s : List ℕ) → Gives (said Line.Unreadable) Line.Unreadable s s
+pub gives-none : (s : List ℕ) → Gives (unvalued Line.Unreadable) Line.Unreadable s s
 gives-none s = record { line = refl; value = sym (splice-none s 0) }
 
-pub gives-said : (x : Read) (r : Line) (s : List ℕ) → x ≡ said r → Gives x r s s
-gives-said x r s e = rw e (record { line = refl; value = sym (splice-none s 0) })
+pub gives-unvalued : (x : Read) (r : Line) (s : List ℕ) → x ≡ unvalued r → Gives x r s s
+gives-unvalued x r s e = rw e (record { line = refl; value = sym (splice-none s 0) })
 
 module _ (o : Option (List ℕ)) (k : ℕ → Line) (r : Hex) (before after : List ℕ) (a : r ≡ answered o) (s : after ≡ splice before 0 (held o)) where
   pub gives-no-value : r ≡ Hex.Not → Gives (orUnreadable (o >>= λ v. some (record { line = k (length v); value = v }))) Line.Unreadable before after

@@ -5,7 +5,7 @@ ghost use lib.ListN.{length};
 ghost use Rattle.lent.specs.Bytes.{splice};
 ghost use Rattle.hex.specs.Hex.{answered, held};
 ghost use Rattle.lines.specs.Fields.{lineMax, valueRoom, fieldsAt, Ends, readNumber, number, numberAt, numbers, numbersAt, letter, letterAt, lastValue};
-ghost use Rattle.lines.specs.Lines.{said, orUnreadable, shapeOf, commandLine, startLine, writeLine, timedLine, readLine, Gives};
+ghost use Rattle.lines.specs.Lines.{unvalued, orUnreadable, shapeOf, commandLine, startLine, writeLine, timedLine, readLine, Gives};
 use counts::Count;
 use hex::Hex;
 
@@ -72,10 +72,8 @@ const START: u8 = b'A';
 
 const WRITE: u8 = b'C';
 
-// What the register holds.
-const KEY_MAX: u64 = 255;
-
-const VALUE_MAX: usize = 64;
+// The largest key.
+const KEY_MAX: u64 = layout::KEY_COUNT as u64 - 1;
 
 // Where the field that starts at a place ends: at the next space, or with the line.
 fn field_end(line: &[u8], at: usize) -> usize
@@ -201,7 +199,7 @@ fn shape_of(letter: u8) -> Shape
 // A command without a value: its k numbers from a place on and nothing else.
 fn plain(line: &[u8], at: usize, time: u64, place: u64, k: u64) -> Line
     requires { ⌜ length (now line) ≤ lineMax ⌝ }
-    ensures { λ r. ⌜ orUnreadable (commandLine time (Shape.Plain place k) (fieldsAt (now (line .entry)) at)) ≡ said r ⌝ }
+    ensures { λ r. ⌜ orUnreadable (commandLine time (Shape.Plain place k) (fieldsAt (now (line .entry)) at)) ≡ unvalued r ⌝ }
 {
     let Four::Are(a, b, c, d, next) = numbers(line, at, k) else {
         return Line::Unreadable;
@@ -258,7 +256,7 @@ fn command(line: &[u8], at: usize, time: u64, letter: u8, value: &mut [u8]) -> L
 // A start: what follows its letter from a place on.
 fn start(line: &[u8], at: usize) -> Line
     requires { ⌜ length (now line) ≤ lineMax ⌝ }
-    ensures { λ r. ⌜ orUnreadable (startLine (fieldsAt (now (line .entry)) at)) ≡ said r ⌝ }
+    ensures { λ r. ⌜ orUnreadable (startLine (fieldsAt (now (line .entry)) at)) ≡ unvalued r ⌝ }
 {
     let Four::Are(read, write, _, _, next) = numbers(line, at, 2) else {
         return Line::Unreadable;
@@ -280,7 +278,7 @@ fn register_write(line: &[u8], at: usize, value: &mut [u8]) -> Line
     if KEY_MAX < key {
         return Line::Unreadable;
     }
-    let Hex::Is(length) = last_value(line, next, VALUE_MAX, value) else {
+    let Hex::Is(length) = last_value(line, next, layout::VALUE_MAX, value) else {
         return Line::Unreadable;
     };
     Line::Write {

@@ -16,8 +16,6 @@ use libc::STDERR_FILENO;
 use libc::STDIN_FILENO;
 use libc::STDOUT_FILENO;
 
-const CACHE: usize = 65536;
-
 const CHUNK: usize = 32768;
 
 const OUT: usize = 32768;
@@ -111,7 +109,7 @@ fn rehearse(
 }
 
 fn main() {
-    let mut cache = [0u8; CACHE];
+    let mut cache = [0u8; layout::STATE_SIZE];
     let mut book = [0u8; book::BOOK_SIZE];
     let mut line = [0u8; feed::HELD_MAX];
     let mut chunk = [0u8; CHUNK];
