@@ -1,6 +1,6 @@
 -- The bytes of an input, one after the other, are answered as its lines are, one after the other. By induction on the bytes; what is
 -- held stands for all the bytes since the last newline, of which only the first are kept.
-use mathlib.Core.Path.{_≡_, refl, sym, ap, _∙_}
+use mathlib.Core.Path.{_≡_, refl, ap, _∙_}
 use mathlib.Core.Bool.{Bool, true, false}
 use mathlib.Core.List.{List, [], _∷_, _++_, map, append-assoc, append-nil}
 use Prim.Native.Nat.{ℕ}

@@ -6,7 +6,7 @@ use Prim.Native.Nat.{ℕ, zero, suc, _+_, _≤_, _<_}
 use native.Mathlib.Numerals.{add-one}
 use native.Mathlib.Omega.{arith}
 use lib.ListN.{length, take, set, length-append, length-take, length-set}
-use lib.Seq.{length-take-le, take-all, take-suc-set, take-append-le, take-take, take-nil}
+use lib.Seq.{length-take-le, take-all, take-suc-set, take-append-le}
 use mathlib.Core.Bool.{Bool, true, false, _||_}
 use lib.Dec.{eqb, leb}
 use borrow.Author.Tests.{leb-true, leb-false}

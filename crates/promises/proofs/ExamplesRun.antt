@@ -6,9 +6,9 @@ use mathlib.Core.List.{List, [], _∷_, map}
 use Prim.Native.Nat.{ℕ}
 use Rattle.lent.specs.Bytes.{Bytes}
 use Rattle.lent.specs.Tables.{every}
-use Rattle.machine.specs.State.{State, fresh}
+use Rattle.machine.specs.State.{State}
 use Rattle.machine.specs.Sound.{valueSound}
-use Rattle.machine.specs.Examples.{Line, Told, after, answers, Example, told, examples}
+use Rattle.machine.specs.Examples.{Line, after, answers, Example, told, examples}
 use Rattle.machine.specs.declared.Answer.{Answer}
 use Rattle.machine.proofs.Views.{and-true₁, and-true₂}
 use Rattle.machine.proofs.SoundMeans.{value-means}

@@ -1,6 +1,6 @@
 -- Demand 3 over bytes is not empty: on every buffer of 65,536 bytes START answers READY, and the run that the machine computes to keep the rules
 -- (`machine`, `Witness`) keeps them on the bytes, which follow the machine event by event.
-use mathlib.Core.Path.{_≡_, refl, sym, ap}
+use mathlib.Core.Path.{_≡_, refl, ap}
 use mathlib.Core.Bool.{Bool, true, false, _&&_}
 use mathlib.Core.List.{List, [], _∷_}
 use Prim.Native.Nat.{ℕ, zero, suc}
@@ -10,7 +10,7 @@ use borrow.Author.Tests.{ltb-true}
 use lib.ListN.{length, take, drop, take-append-drop}
 use Rattle.machine.specs.Sizes.{stateSize}
 use Rattle.machine.specs.State.{Value, State}
-use Rattle.machine.specs.World.{Event, command, write, World, begun, AllKept, Consistent, AllBytes}
+use Rattle.machine.specs.World.{Event, command, write, begun, AllKept, Consistent, AllBytes}
 use Rattle.machine.specs.declared.Answer.{Answer}
 use Rattle.machine.proofs.Views.{and-true₁, and-true₂}
 use Rattle.machine.proofs.WellFormed.{Bytes}

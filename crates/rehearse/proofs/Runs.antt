@@ -1,16 +1,17 @@
 -- Chunks one behind the other are one input, and at its end the world and what was written are those of its rehearsal.
-use mathlib.Core.Path.{_≡_, refl, sym, ap, _∙_}
+use mathlib.Core.Path.{_≡_, ap, _∙_}
 use mathlib.Core.Bool.{Bool, true, false}
-use mathlib.Core.List.{List, [], _∷_, _++_}
+use mathlib.Core.List.{List, _++_}
 use Prim.Native.Nat.{ℕ, _≤_}
 use native.Mathlib.Omega.{arith}
 use lib.ListN.{length, take}
-use Rattle.lent.specs.Bytes.{splice, win}
+use Rattle.lent.specs.Bytes.{win}
 use Rattle.lent.proofs.Splice.{win-splice}
 use Rattle.feed.specs.Lines.{heldMax}
 use Rattle.feed.specs.Answers.{Answered, Open, behind, fed}
 use Rattle.feed.proofs.Cut.{fed-append}
-use Rattle.script.specs.Input.{Memory, answerLine, finished, rehearsed, nothingRead}
+use Rattle.book.specs.Memory.{Memory}
+use Rattle.script.specs.Input.{answerLine, finished, rehearsed, nothingRead}
 use Rattle.script.specs.Buffers.{Printed, Delivered}
 use Rattle.script.proofs.Whole.{fed-ended}
 use Rattle.rehearse.specs.Turns.{Poured, Turned, Rehearsed}

@@ -6,7 +6,8 @@ use mathlib.Core.List.{List, _++_}
 use lib.ListN.{take}
 use Rattle.feed.specs.Lines.{heldMax}
 use Rattle.feed.specs.Answers.{Open, fed}
-use Rattle.script.specs.Input.{Memory, answerLine, rehearsed}
+use Rattle.book.specs.Memory.{Memory}
+use Rattle.script.specs.Input.{answerLine, rehearsed}
 use Rattle.rehearse.specs.declared.Went.{Went}
 
 -- a chunk is answered and written, or a write has failed

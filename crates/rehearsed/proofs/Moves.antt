@@ -10,7 +10,7 @@ use native.Mathlib.Omega.{arith}
 use lib.Dec.{eqb, ltb}
 use lib.ListN.{getD, set}
 use Rattle.machine.specs.Tables.{place, isNone}
-use Rattle.machine.specs.Words.{wordOf}
+use Rattle.machine.specs.Words.{wordOf, LEASE}
 use Rattle.machine.specs.Session.{opened, advanced, sealed, isDue}
 use Rattle.machine.specs.Decision.{grants}
 use Rattle.machine.specs.State.{Value, Lease, Key, blank, noSession, session, Staged, nothing, staged, DROP, State, free, freeRow, kindOf, stagedIn, rowOf, cached, leaseOn, sessionAt}
@@ -28,7 +28,7 @@ use Rattle.machine.proofs.Frames.{expire-lease}
 
 -- the leases of t: no answer grants one and each was there, or a GET was answered with the next token on its key and each other was there
 pub data Leases (s : State) (c : Command) (a : Answer) (t : State) : Type 0 where
-  quiet : eqb (wordOf a) 6 ≡ false → ((k : ℕ) (l : Lease) → leaseOn t k ≡ some l → leaseOn s k ≡ some l) → Leases s c a t
+  quiet : eqb (wordOf a) LEASE ≡ false → ((k : ℕ) (l : Lease) → leaseOn t k ≡ some l → leaseOn s k ≡ some l) → Leases s c a t
   grant : (n k : ℕ) → c ≡ Get n k → a ≡ Answer.Lease (s .head .nextToken)
       → ((j : ℕ) (l : Lease) → leaseOn t j ≡ some l → ((k ≡ j → ⊥) × (leaseOn s j ≡ some l)) ⊎ ((k ≡ j) × (l .token ≡ s .head .nextToken))) → Leases s c a t
 
@@ -42,26 +42,26 @@ pub record Moves (s : State) (c : Command) (r : Outcome) : Type 0 where
   pub grows : s .head .nextSession ≤ r .after .head .nextSession
 
 -- the answer that stages grants no lease
-staged-quiet : (u : Staged) → eqb (wordOf (stagedAnswer u)) 6 ≡ false
+staged-quiet : (u : Staged) → eqb (wordOf (stagedAnswer u)) LEASE ≡ false
 staged-quiet nothing = refl
 staged-quiet (staged v) = refl
 staged-quiet DROP = refl
 
 module _ (s : State) (c : Command) where
   -- nothing changes
-  still : (a : Answer) (v : Value) → eqb (wordOf a) 6 ≡ false → Moves s c (record { answer = a; handed = v; after = s })
+  still : (a : Answer) (v : Value) → eqb (wordOf a) LEASE ≡ false → Moves s c (record { answer = a; handed = v; after = s })
   still a v q = record { leases = quiet q (λ k l e. e); places = λ i x e. inr (x, e, refl); grows = omega arith }
 
   -- values change, and leases go
-  keyed : (a : Answer) (ks : List Key) → eqb (wordOf a) 6 ≡ false → ((k : ℕ) (l : Lease) → getD ks k blank .lease ≡ some l → leaseOn s k ≡ some l) → Moves s c (told a (withKeys s ks))
+  keyed : (a : Answer) (ks : List Key) → eqb (wordOf a) LEASE ≡ false → ((k : ℕ) (l : Lease) → getD ks k blank .lease ≡ some l → leaseOn s k ≡ some l) → Moves s c (told a (withKeys s ks))
   keyed a ks q f = record { leases = quiet q f; places = λ i x e. inr (x, e, refl); grows = omega arith }
 
   -- sessions end
-  ends : (a : Answer) (ns : List ℕ) (ks : List Key) → eqb (wordOf a) 6 ≡ false → ((k : ℕ) (l : Lease) → getD ks k blank .lease ≡ some l → leaseOn s k ≡ some l) → Moves s c (told a (leave ns (withKeys s ks)))
+  ends : (a : Answer) (ns : List ℕ) (ks : List Key) → eqb (wordOf a) LEASE ≡ false → ((k : ℕ) (l : Lease) → getD ks k blank .lease ≡ some l → leaseOn s k ≡ some l) → Moves s c (told a (leave ns (withKeys s ks)))
   unfolding leave
   ends a ns ks q f = record { leases = quiet q f; places = λ i x e. inr (x, Orderly.was-session ns (s .sessions) i x e .0, refl); grows = omega arith }
 
-  leaves : (a : Answer) (n : ℕ) → eqb (wordOf a) 6 ≡ false → Moves s c (told a (leave (n ∷ []) s))
+  leaves : (a : Answer) (n : ℕ) → eqb (wordOf a) LEASE ≡ false → Moves s c (told a (leave (n ∷ []) s))
   leaves a n q = ends a (n ∷ []) (s .keys) q (λ k l e. e)
 
   finishes : (n : ℕ) → Moves s c (told Answer.Done (finish (n ∷ []) toCache s))

@@ -1,20 +1,21 @@
 -- What the library leaves in the part of the output buffer that is lent for a text. The part keeps its length, so the text fits it.
-use mathlib.Core.Path.{_≡_, refl, sym, ap, _∙_}
+use mathlib.Core.Path.{_≡_, sym, ap, _∙_}
 use mathlib.Core.Bool.{Bool, true, false, _&&_}
-use mathlib.Core.List.{List, [], _∷_, _++_}
+use mathlib.Core.List.{List, [], _++_}
 use Prim.Native.Nat.{ℕ, _+_, _-_, _≤_}
 use native.Mathlib.Omega.{arith}
 use lib.ListN.{length, take, drop, length-append}
 use lib.Dec.{eqb, leb}
 use borrow.Author.Tests.{le-leb}
-use Rattle.lent.specs.Bytes.{splice, win}
+use Rattle.lent.specs.Bytes.{splice}
 use Rattle.lent.specs.Tables.{if_then_else_}
 use Rattle.lent.proofs.Splice.{length-win, part-win, splice-none}
 use Rattle.book.specs.Book.{bookSize, linesIn, brokenIn}
 use Rattle.replies.specs.Replies.{lineRoom, ended}
-use Rattle.rehearsal.specs.Rehearsal.{Turn, Left, Leaves, wrote, turn, lineOf, endOf}
-use Rattle.script.specs.Input.{Memory, asAnswer, answerLine, endLine}
-use Rattle.script.specs.Buffers.{textMax, memoryOf, Printed, Delivered}
+use Rattle.rehearsal.specs.Rehearsal.{Left, Leaves, wrote, turn, lineOf, endOf}
+use Rattle.book.specs.Memory.{memoryOf}
+use Rattle.script.specs.Input.{asAnswer, answerLine, endLine}
+use Rattle.script.specs.Buffers.{textMax, Printed, Delivered}
 use Rattle.script.proofs.Prints.{printed-part}
 
 -- the part that is lent for a text, when it comes back as x with a text of r bytes

@@ -1,17 +1,17 @@
 -- One answer: two returns of `stretch` that satisfy its contract stop at the same place, since before each byte taken there was room and where one stops there is
 -- none or the chunk ends; then both answered the same bytes, and what these leave is fixed. What `finish` leaves is fixed by its contract's equations.
-use mathlib.Core.Path.{_≡_, refl, sym, ap, _∙_}
-use mathlib.Core.Logic.{_⊎_, inl, inr, ⊎-elim}
+use mathlib.Core.Path.{_≡_, sym, ap, _∙_}
+use mathlib.Core.Logic.{⊎-elim}
 use mathlib.Core.List.{List}
-use Prim.Native.Nat.{ℕ, _+_, _-_, _≤_, _<_}
-use native.Mathlib.Nat.{eq-or-lt-of-le}
+use Prim.Native.Nat.{ℕ, _-_, _<_}
 use native.Mathlib.Omega.{arith}
-use lib.ListN.{length, take}
+use lib.ListN.{take}
 use Rattle.lent.specs.Bytes.{win}
 use Rattle.feed.specs.Held.{Buffer, buffer, pushedAll}
-use Rattle.feed.specs.Answers.{Answered, Open, fed}
-use Rattle.script.specs.Input.{Memory, answerLine, finished}
-use Rattle.script.specs.Buffers.{textMax, memoryOf, opened, Printed, Delivered, Reaches, Stretched}
+use Rattle.feed.specs.Answers.{Answered, Open}
+use Rattle.book.specs.Memory.{Memory, memoryOf}
+use Rattle.script.specs.Input.{finished}
+use Rattle.script.specs.Buffers.{opened, Delivered, Stretched}
 
 one-delivered : {W : Type 0} (s : Answered W) (out : List ℕ) (put : ℕ) (v w : W) (o p : List ℕ) (r t : ℕ)
     → Delivered s v out put o r → Delivered s w out put p t → (v ≡ w) × ((o ≡ p) × (r ≡ t))

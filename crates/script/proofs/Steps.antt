@@ -1,5 +1,5 @@
 -- A byte's step by what the byte is, held or the end of a line that is answered; and the end of the input by whether bytes are held.
-use mathlib.Core.Path.{_≡_, refl, sym, ap, _∙_}
+use mathlib.Core.Path.{_≡_, refl, ap, _∙_}
 use mathlib.Core.List.{List, [], _∷_, _++_}
 use Prim.Native.Nat.{ℕ, _+_, _≤_}
 use native.Mathlib.Omega.{arith}
@@ -7,12 +7,13 @@ use lib.ListN.{length, take}
 use lib.Seq.{length-take-le}
 use Rattle.feed.specs.Lines.{heldMax}
 use Rattle.feed.specs.Held.{taken, lineAfter, buffer, pushed}
-use Rattle.feed.specs.Answers.{Answered, byte, last}
+use Rattle.feed.specs.Answers.{byte}
 use Rattle.feed.specs.declared.Taken.{Taken}
-use Rattle.feed.proofs.Laws.{ByteHeld, LineWhole, taken-held, taken-line, length-after}
+use Rattle.feed.proofs.Laws.{taken-held, taken-line, length-after}
 use Rattle.feed.proofs.Cut.{byte-newline, byte-other, last-line, last-none}
-use Rattle.script.specs.Input.{Memory, answerLine, endLine, closed, finished}
-use Rattle.script.specs.Buffers.{textMax, memoryOf, opened, Printed, Delivered, HeldFits}
+use Rattle.book.specs.Memory.{Memory, memoryOf}
+use Rattle.script.specs.Input.{answerLine, endLine, finished}
+use Rattle.script.specs.Buffers.{textMax, opened, Printed, Delivered, HeldFits}
 use Rattle.script.proofs.Prints.{printed-none, printed-next}
 
 module _ (cache book line out : List ℕ) (held b put : ℕ) (after : List ℕ) (h : HeldFits line held) (q : after ≡ lineAfter line held b) where

@@ -1,20 +1,21 @@
 -- A stretch of the chunk, byte by byte: the bytes taken so far are answered and held as the definitions say, and a byte more is its step.
 use mathlib.Core.Path.{_≡_, refl, sym, ap, _∙_}
-use mathlib.Core.Logic.{_⊎_, inl, inr, ⊎-elim}
+use mathlib.Core.Logic.{⊎-elim}
 use mathlib.Core.List.{List, [], _∷_, _++_}
 use Prim.Native.Nat.{ℕ, _+_, _-_, _≤_, _<_}
 use native.Mathlib.Nat.{eq-or-lt-of-le}
 use native.Mathlib.Omega.{arith}
-use lib.ListN.{length, take, drop, getD}
+use lib.ListN.{length, take, getD}
 use lib.Seq.{take-add}
 use Rattle.lent.specs.Bytes.{win}
 use Rattle.lent.proofs.Splice.{win-none, win-more}
 use Rattle.feed.specs.Held.{Buffer, pushed, pushedAll}
-use Rattle.feed.specs.Answers.{Answered, Open, behind, byte, fed}
+use Rattle.feed.specs.Answers.{Open, behind, byte, fed}
 use Rattle.feed.proofs.Laws.{pushed-none, pushed-more}
 use Rattle.feed.proofs.Cut.{fed-none, fed-append, fed-more}
-use Rattle.script.specs.Input.{Memory, answerLine}
-use Rattle.script.specs.Buffers.{textMax, Printed, Delivered, Reaches, Stretched}
+use Rattle.book.specs.Memory.{Memory}
+use Rattle.script.specs.Input.{answerLine}
+use Rattle.script.specs.Buffers.{textMax, Delivered, Reaches, Stretched}
 use Rattle.script.proofs.Prints.{printed-none, printed-next}
 
 -- the bytes from one place of the chunk to another

@@ -1,11 +1,11 @@
 -- However an input is cut into chunks, the texts of the chunks and of the end are, one behind the other, those of its rehearsal.
-use mathlib.Core.Path.{_≡_, refl, sym, ap, _∙_}
-use mathlib.Core.List.{List, [], _∷_, _++_, append-assoc}
+use mathlib.Core.Path.{_≡_, sym, ap, _∙_}
+use mathlib.Core.List.{List, [], _∷_, append-assoc}
 use Prim.Native.Nat.{ℕ}
-use Rattle.feed.specs.Lines.{cutLines}
-use Rattle.feed.specs.Answers.{Answered, Open, behind, answers, fed, last}
+use Rattle.feed.specs.Answers.{Open, behind, fed, last}
 use Rattle.feed.proofs.Cut.{fed-none, fed-append, whole-lines}
-use Rattle.script.specs.Input.{Memory, answerLine, endLine, closed, finished, rehearsed, nothingRead, chunks, joined}
+use Rattle.book.specs.Memory.{Memory}
+use Rattle.script.specs.Input.{answerLine, endLine, closed, finished, rehearsed, nothingRead, chunks, joined}
 
 -- all of an input at once, and then its end
 pub fed-ended : (w : Memory) (input : List ℕ)

@@ -7,14 +7,12 @@ use lib.ListN.{length, take}
 use Rattle.lent.specs.Bytes.{splice, win}
 use Rattle.feed.specs.Lines.{heldMax}
 use Rattle.feed.specs.Answers.{Answered, Open, fed}
-use Rattle.script.specs.Input.{Memory, answerLine}
+use Rattle.book.specs.Memory.{Memory, memoryOf}
+use Rattle.script.specs.Input.{answerLine}
 
 -- the room that an output line or the end line asks for
 abbrev pub textMax : ℕ
 textMax = 256
-
-abbrev pub memoryOf : List ℕ → List ℕ → Memory
-memoryOf cache book = record { cache = cache; book = book }
 
 -- between two bytes: the first `held` bytes of `line` are held
 abbrev pub opened : List ℕ → List ℕ → List ℕ → ℕ → Open Memory

@@ -6,17 +6,13 @@ use lib.ListN.{length}
 use Rattle.lent.specs.Tables.{if_then_else_}
 use Rattle.feed.specs.Lines.{cutLines}
 use Rattle.feed.specs.Answers.{Answered, Open, behind, answers, last, fed}
+use Rattle.book.specs.Memory.{Memory, memoryOf}
 use Rattle.book.specs.Book.{bookSize, linesIn, brokenIn}
 use Rattle.replies.specs.Replies as replies
 use Rattle.rehearsal.specs.Rehearsal.{Turn, turn}
 
--- what a line changes: the cache's bytes and the book's
-pub record Memory : Type 0 where
-  pub cache : List ℕ
-  pub book : List ℕ
-
 abbrev pub asAnswer : Turn → Answered Memory
-asAnswer t = record { world = record { cache = t .cache; book = t .book }; text = t .text }
+asAnswer t = record { world = memoryOf (t .cache) (t .book); text = t .text }
 
 -- a line and its output line; where the book has not its size there is no text
 unfoldable pub answerLine : Memory → List ℕ → Answered Memory

@@ -5,8 +5,9 @@ ghost use lib.ListN.{length, take};
 ghost use Rattle.lent.specs.Bytes.{win};
 ghost use Rattle.feed.specs.Held.{buffer, pushed, pushedAll};
 ghost use Rattle.feed.specs.Answers.{byte};
+ghost use Rattle.book.specs.Memory.{memoryOf};
 ghost use Rattle.script.specs.Input.{answerLine, endLine, finished};
-ghost use Rattle.script.specs.Buffers.{textMax, memoryOf, opened, HeldFits, Printed, Delivered, Stretched};
+ghost use Rattle.script.specs.Buffers.{textMax, opened, HeldFits, Printed, Delivered, Stretched};
 use feed::Taken;
 
 // Room that an output line or the end line asks for.

@@ -1,16 +1,15 @@
 -- `rehearse` meets its contract: after each turn the world is that of all that has been read, and at the end `finish` closes it. The turns end
 -- since they are counted down.
 use borrow.Author.Needs.{needs}
-use Prim.Native.Nat.{_≤_}
-use mathlib.Core.Path.{_≡_, refl, sym, ap, _∙_}
+use mathlib.Core.Path.{_≡_, refl, sym, _∙_}
 use mathlib.Core.List.{[]}
 use native.Mathlib.Omega.{arith}
 use lib.ListN.{length, take}
 use lib.Seq.{length-take-le}
-use Rattle.feed.specs.Answers.{fed}
 use Rattle.feed.proofs.Cut.{fed-none}
+use Rattle.book.specs.Memory.{memoryOf}
 use Rattle.script.specs.Input.{answerLine}
-use Rattle.script.specs.Buffers.{memoryOf, opened, HeldFits}
+use Rattle.script.specs.Buffers.{opened, HeldFits}
 use Rattle.script.proofs.Prints.{printed-length}
 use Rattle.rehearse.proofs.Runs.{Read, read-more, read-ends, turned-on, turned-ended}
 use Rattle.rehearse.proofs.rehearse.Statement.{statement}
