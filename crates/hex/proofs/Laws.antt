@@ -10,7 +10,7 @@ use lib.Dec.{ltb}
 use borrow.Author.Tests.{ltb-true}
 use Rattle.lent.specs.Bytes.{Bytes}
 use Rattle.lent.proofs.Choices.{case-of, and-yes}
-use Rattle.hex.specs.Hex.{digitValue, allDigits, isDash, isHex, bytesOf, readHex, held}
+use Rattle.hex.specs.Hex.{digitValue, allDigits, isDash, isHex, bytesOf, readHex, valueRead}
 use Rattle.hex.proofs.Reading.{hex-digits, read-dash, read-pairs, read-none}
 
 bytes-of : (t : List ℕ) → allDigits t ≡ true → Bytes (bytesOf t)
@@ -31,9 +31,9 @@ by-text P t u v w =
     (case-of (isDash t))
 
 module _ (t : List ℕ) where
-  pub held-bytes : Bytes (held (readHex t))
-  held-bytes = by-text (λ o. Bytes (held o)) t (λ i. omega arith) (λ i. omega arith) (λ e. bytes-of t (hex-digits t e))
+  pub value-read-bytes : Bytes (valueRead (readHex t))
+  value-read-bytes = by-text (λ o. Bytes (valueRead o)) t (λ i. omega arith) (λ i. omega arith) (λ e. bytes-of t (hex-digits t e))
 
 module _ (t v : List ℕ) (e : readHex t ≡ some v) where
   pub read-bytes : Bytes v
-  read-bytes = rw e at (held-bytes t)
+  read-bytes = rw e at (value-read-bytes t)

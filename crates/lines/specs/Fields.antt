@@ -11,7 +11,7 @@ use Rattle.lent.specs.Tables.{if_then_else_}
 use Rattle.counts.specs.Count.{readCount}
 use Rattle.counts.specs.declared.Count.{Count}
 use Rattle.hex.specs.Hex.{readHex}
-use Rattle.lines.specs.declared.Taken.{Taken}
+use Rattle.lines.specs.declared.One.{One}
 use Rattle.lines.specs.declared.Four.{Four}
 use Rattle.lines.specs.declared.Letter.{Letter}
 
@@ -125,9 +125,9 @@ lastValue most (f ∷ g ∷ fs) = none
 
 -- ---- what the code's answers say of a line t
 
-abbrev pub numberAt : List ℕ → Taken → Option OneNumber
-numberAt t (Taken.Is n next) = some (record { number = n; rest = fieldsAt t next })
-numberAt t Taken.Not = none
+abbrev pub numberAt : List ℕ → One → Option OneNumber
+numberAt t (One.Is n next) = some (record { number = n; rest = fieldsAt t next })
+numberAt t One.Not = none
 
 abbrev pub numbersAt : List ℕ → Four → Option Numbers
 numbersAt t (Four.Are a b c d next) = some (record { a = a; b = b; c = c; d = d; rest = fieldsAt t next })

@@ -30,10 +30,10 @@ pub turned-ended : (o : Open Memory) (before : ℕ) (chunk : List ℕ) (now : �
 turned-ended o before chunk now r e t = rw e at t
 
 -- what has been read so far
-abbrev pub Read : Open Memory → Open Memory → Type 0
-Read o now = (input : List ℕ) × (now ≡ fed answerLine o input .world)
+abbrev pub ReadSoFar : Open Memory → Open Memory → Type 0
+ReadSoFar o now = (input : List ℕ) × (now ≡ fed answerLine o input .world)
 
-pub read-more : (o now then : Open Memory) (more : List ℕ) → Read o now → then ≡ fed answerLine now more .world → Read o then
+pub read-more : (o now then : Open Memory) (more : List ℕ) → ReadSoFar o now → then ≡ fed answerLine now more .world → ReadSoFar o then
 read-more o now then more r e = (r .0 ++ more, e ∙ rw (fed-append answerLine o (r .0) more, r .1))
 
 -- the front of what a text is printed on is the text
@@ -44,7 +44,7 @@ printed-front text out after next p =
     rw (p .bytes) (win-splice out 0 text next e (omega arith))
 
 -- whether or not the last write succeeds
-pub read-ends : (w : Memory) (now : Open Memory) (after : Memory) (out out′ : List ℕ) (next : ℕ) (b : Bool) → Read (nothingRead w) now
+pub read-ends : (w : Memory) (now : Open Memory) (after : Memory) (out out′ : List ℕ) (next : ℕ) (b : Bool) → ReadSoFar (nothingRead w) now
     → Delivered (finished (now .world) (now .held)) after out 0 out′ next → Rehearsed w after out′ b
 read-ends w now after out out′ next false r s = tt
 read-ends w now after out out′ next true r s =

@@ -11,7 +11,8 @@ ghost use Prim.Native.Nat.{_+_, _≤_};
 ghost use lib.ListN.{length};
 ghost use Rattle.feed.specs.Lines.{heldMax};
 ghost use Rattle.book.specs.Memory.{memoryOf};
-ghost use Rattle.script.specs.Buffers.{textMax, opened, HeldFits};
+ghost use Rattle.replies.specs.Replies.{lineRoom};
+ghost use Rattle.script.specs.Buffers.{opened, HeldFits};
 ghost use Rattle.rehearse.specs.Turns.{Poured, Turned, Rehearsed};
 use libc::STDERR_FILENO;
 use libc::STDIN_FILENO;
@@ -37,7 +38,7 @@ fn pour(
     chunk: &[u8],
     out: &mut [u8],
 ) -> Went
-    requires { ⌜ (textMax ≤ length (now out)) × HeldFits (now line) held ⌝ }
+    requires { ⌜ (lineRoom ≤ length (now out)) × HeldFits (now line) held ⌝ }
     ensures { λ r. ⌜ Poured (opened (now (cache .entry)) (now (book .entry)) (now (line .entry)) held) (now (chunk .entry)) (opened (now (cache .exit)) (now (book .exit)) (now (line .exit))) r ⌝ }
 {
     let mut held = held;
@@ -63,7 +64,7 @@ fn turn(
     chunk: &mut [u8],
     out: &mut [u8],
 ) -> Went
-    requires { ⌜ (textMax ≤ length (now out)) × HeldFits (now line) held ⌝ }
+    requires { ⌜ (lineRoom ≤ length (now out)) × HeldFits (now line) held ⌝ }
     ensures { λ r. ⌜ Turned (opened (now (cache .entry)) (now (book .entry)) (now (line .entry)) held) held (now (chunk .exit)) (opened (now (cache .exit)) (now (book .exit)) (now (line .exit))) r ⌝ }
 {
     let got = libc::read(STDIN_FILENO, chunk);
@@ -85,7 +86,7 @@ fn rehearse(
     chunk: &mut [u8],
     out: &mut [u8],
 ) -> bool
-    requires { ⌜ (textMax + textMax ≤ length (now out)) × (length (now line) ≡ heldMax) ⌝ }
+    requires { ⌜ (lineRoom + lineRoom ≤ length (now out)) × (length (now line) ≡ heldMax) ⌝ }
     ensures { λ r. ⌜ Rehearsed (memoryOf (now (cache .entry)) (now (book .entry))) (memoryOf (now (cache .exit)) (now (book .exit))) (now (out .exit)) r ⌝ }
 {
     let mut held = 0;

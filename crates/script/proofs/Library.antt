@@ -15,7 +15,7 @@ use Rattle.replies.specs.Replies.{lineRoom, ended}
 use Rattle.rehearsal.specs.Rehearsal.{Left, Leaves, wrote, turn, lineOf, endOf}
 use Rattle.book.specs.Memory.{memoryOf}
 use Rattle.script.specs.Input.{asAnswer, answerLine, endLine}
-use Rattle.script.specs.Buffers.{textMax, Printed, Delivered}
+use Rattle.script.specs.Buffers.{Printed, Delivered}
 use Rattle.script.proofs.Prints.{printed-part}
 
 -- the part that is lent for a text, when it comes back as x with a text of r bytes
@@ -27,20 +27,20 @@ splice-least : (s x : List ℕ) → length x ≤ length (splice s 0 x)
 unfolding splice
 splice-least s x = simp length-append (omega arith)
 
--- a text that was put into the part of textMax bytes at `put`
-pub put-printed : (out text x : List ℕ) (put r : ℕ) → put + textMax ≤ length out
-    → length x ≡ length (take (put + textMax - put) (drop put out)) → Put text (take (put + textMax - put) (drop put out)) r x
-    → Printed text out put (take put out ++ (x ++ drop (put + textMax - put) (drop put out))) (put + r) × (r ≤ textMax)
+-- a text that was put into the part of lineRoom bytes at `put`
+pub put-printed : (out text x : List ℕ) (put r : ℕ) → put + lineRoom ≤ length out
+    → length x ≡ length (take (put + lineRoom - put) (drop put out)) → Put text (take (put + lineRoom - put) (drop put out)) r x
+    → Printed text out put (take put out ++ (x ++ drop (put + lineRoom - put) (drop put out))) (put + r) × (r ≤ lineRoom)
 put-printed out text x put r h l p =
-    let part : List ℕ = take (put + textMax - put) (drop put out) in
-    let lp : length part ≡ textMax = ap length (part-win out put textMax) ∙ length-win out put textMax h in
-    let f : length text ≤ textMax = let s = splice-least part text in omega (arith, ap length (p .bytes)) in
+    let part : List ℕ = take (put + lineRoom - put) (drop put out) in
+    let lp : length part ≡ lineRoom = ap length (part-win out put lineRoom) ∙ length-win out put lineRoom h in
+    let f : length text ≤ lineRoom = let s = splice-least part text in omega (arith, ap length (p .bytes)) in
     (printed-part out text x put r h (p .bytes) (p .number) f, omega (arith, p .number))
 
-part-room : (out : List ℕ) (put : ℕ) → put + textMax ≤ length out → leb lineRoom (length (take (put + textMax - put) (drop put out))) ≡ true
+part-room : (out : List ℕ) (put : ℕ) → put + lineRoom ≤ length out → leb lineRoom (length (take (put + lineRoom - put) (drop put out))) ≡ true
 part-room out put h =
-    let lp : length (take (put + textMax - put) (drop put out)) ≡ textMax = ap length (part-win out put textMax) ∙ length-win out put textMax h in
-    le-leb lineRoom (length (take (put + textMax - put) (drop put out))) (omega arith)
+    let lp : length (take (put + lineRoom - put) (drop put out)) ≡ lineRoom = ap length (part-win out put lineRoom) ∙ length-win out put lineRoom h in
+    le-leb lineRoom (length (take (put + lineRoom - put) (drop put out))) (omega arith)
 
 -- the two calls, where there is room
 module _ (book part : List ℕ) (room : leb lineRoom (length part) ≡ true) where
@@ -64,15 +64,15 @@ module _ (book part : List ℕ) (room : leb lineRoom (length part) ≡ true) whe
       go false e = record { number = e .0; bytes = e .1 ∙ sym (splice-none part 0) }
 
 -- the same in the whole buffer
-module _ (book out : List ℕ) (put : ℕ) (h : put + textMax ≤ length out) (x : List ℕ) (r : ℕ)
-    (same : length x ≡ length (take (put + textMax - put) (drop put out))) where
-  pub line-delivered : (cache l cache′ book′ : List ℕ) → Leaves (lineOf cache book l (take (put + textMax - put) (drop put out))) r cache′ book′ x
-      → Delivered (answerLine (memoryOf cache book) l) (memoryOf cache′ book′) out put (take put out ++ (x ++ drop (put + textMax - put) (drop put out))) (put + r) × (r ≤ textMax)
+module _ (book out : List ℕ) (put : ℕ) (h : put + lineRoom ≤ length out) (x : List ℕ) (r : ℕ)
+    (same : length x ≡ length (take (put + lineRoom - put) (drop put out))) where
+  pub line-delivered : (cache l cache′ book′ : List ℕ) → Leaves (lineOf cache book l (take (put + lineRoom - put) (drop put out))) r cache′ book′ x
+      → Delivered (answerLine (memoryOf cache book) l) (memoryOf cache′ book′) out put (take put out ++ (x ++ drop (put + lineRoom - put) (drop put out))) (put + r) × (r ≤ lineRoom)
   line-delivered cache l cache′ book′ e =
       let p = line-put book _ (part-room out put h) cache l cache′ book′ x r e in
       let q = put-printed out _ x put r h same (p .0) in
       (record { world = p .1; printed = q .0 }, q .1)
 
-  pub end-printed : let e = endOf book (take (put + textMax - put) (drop put out)) in (r ≡ e .length) × (x ≡ e .out)
-      → Printed (endLine book) out put (take put out ++ (x ++ drop (put + textMax - put) (drop put out))) (put + r) × (r ≤ textMax)
+  pub end-printed : let e = endOf book (take (put + lineRoom - put) (drop put out)) in (r ≡ e .length) × (x ≡ e .out)
+      → Printed (endLine book) out put (take put out ++ (x ++ drop (put + lineRoom - put) (drop put out))) (put + r) × (r ≤ lineRoom)
   end-printed e = put-printed out _ x put r h same (end-put book _ (part-room out put h) x r e)

@@ -12,15 +12,16 @@ use Rattle.feed.specs.declared.Taken.{Taken}
 use Rattle.feed.proofs.Laws.{taken-held, taken-line, length-after}
 use Rattle.feed.proofs.Cut.{byte-newline, byte-other, last-line, last-none}
 use Rattle.book.specs.Memory.{Memory, memoryOf}
+use Rattle.replies.specs.Replies.{lineRoom}
 use Rattle.script.specs.Input.{answerLine, endLine, finished}
-use Rattle.script.specs.Buffers.{textMax, opened, Printed, Delivered, HeldFits}
+use Rattle.script.specs.Buffers.{opened, Printed, Delivered, HeldFits}
 use Rattle.script.proofs.Prints.{printed-none, printed-next}
 
 module _ (cache book line out : List ℕ) (held b put : ℕ) (after : List ℕ) (h : HeldFits line held) (q : after ≡ lineAfter line held b) where
   size : length after ≡ heldMax
   size = ap length q ∙ length-after line held b ∙ h .size
 
-  pub step-held : (n : ℕ) → put + textMax ≤ length out → taken line held b ≡ Taken.Held n
+  pub step-held : (n : ℕ) → put + lineRoom ≤ length out → taken line held b ≡ Taken.Held n
       → Delivered (byte answerLine (opened cache book line held) b) (opened cache book after n) out put out put × (HeldFits after n × (buffer after n ≡ pushed (buffer line held) b))
   step-held n r t =
       let k = taken-held line held b n (h .size) (h .most) t in

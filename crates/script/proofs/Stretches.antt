@@ -14,8 +14,9 @@ use Rattle.feed.specs.Answers.{Open, behind, byte, fed}
 use Rattle.feed.proofs.Laws.{pushed-none, pushed-more}
 use Rattle.feed.proofs.Cut.{fed-none, fed-append, fed-more}
 use Rattle.book.specs.Memory.{Memory}
+use Rattle.replies.specs.Replies.{lineRoom}
 use Rattle.script.specs.Input.{answerLine}
-use Rattle.script.specs.Buffers.{textMax, Delivered, Reaches, Stretched}
+use Rattle.script.specs.Buffers.{Delivered, Reaches, Stretched}
 use Rattle.script.proofs.Prints.{printed-none, printed-next}
 
 -- the bytes from one place of the chunk to another
@@ -48,7 +49,7 @@ module _ (o : Open Memory) (chunk : List ℕ) (from : ℕ) (out : List ℕ) wher
       }
 
   pub reaches-more : (i : ℕ) (mid after : List ℕ) (put next : ℕ) (now then : Open Memory)
-      → Reaches o chunk from i now out mid put → i < length chunk → put + textMax ≤ length out
+      → Reaches o chunk from i now out mid put → i < length chunk → put + lineRoom ≤ length out
       → Delivered (byte answerLine now (getD chunk i 0)) then mid put after next
       → Reaches o chunk from (i + 1) then out after next
   reaches-more i mid after put next now then r l m p =
@@ -65,10 +66,10 @@ module _ (o : Open Memory) (chunk : List ℕ) (from : ℕ) (out : List ℕ) wher
 
   -- a stretch that starts within the chunk, with room for an output line, takes a byte
   pub stretched-on : {next : ℕ} {after : List ℕ} {put : ℕ} {now : Open Memory} → Stretched o chunk from next now out after put
-      → from < length chunk → textMax ≤ length out → from < next
+      → from < length chunk → lineRoom ≤ length out → from < next
   stretched-on {next} {after} {put} {now} s l m = ⊎-elim (λ e. omega arith) (λ f. ⊎-elim (λ q. absurd (none q f)) (λ h. h) (eq-or-lt-of-le (s .reaches .within .0))) (s .stops)
     where
-      none : from ≡ next → length out < put + textMax → ⊥
+      none : from ≡ next → length out < put + lineRoom → ⊥
       none q f =
           let z : next - from ≡ 0 = omega arith in
           let e : fed answerLine o (win chunk from (next - from)) ≡ record { world = o; text = [] } =

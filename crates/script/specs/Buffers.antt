@@ -8,11 +8,8 @@ use Rattle.lent.specs.Bytes.{splice, win}
 use Rattle.feed.specs.Lines.{heldMax}
 use Rattle.feed.specs.Answers.{Answered, Open, fed}
 use Rattle.book.specs.Memory.{Memory, memoryOf}
+use Rattle.replies.specs.Replies.{lineRoom}
 use Rattle.script.specs.Input.{answerLine}
-
--- the room that an output line or the end line asks for
-abbrev pub textMax : ℕ
-textMax = 256
 
 -- between two bytes: the first `held` bytes of `line` are held
 abbrev pub opened : List ℕ → List ℕ → List ℕ → ℕ → Open Memory
@@ -38,9 +35,9 @@ pub record Delivered {W : Type 0} (s : Answered W) (now : W) (out : List ℕ) (p
 pub record Reaches (o : Open Memory) (chunk : List ℕ) (from next : ℕ) (now : Open Memory) (out after : List ℕ) (put : ℕ) : Type 0 where
   pub answered : Delivered (fed answerLine o (win chunk from (next - from))) now out 0 after put
   pub within : (from ≤ next) × (next ≤ length chunk)
-  pub room : (k : ℕ) → k < next - from → length (fed answerLine o (win chunk from k) .text) + textMax ≤ length out
+  pub room : (k : ℕ) → k < next - from → length (fed answerLine o (win chunk from k) .text) + lineRoom ≤ length out
 
 -- and no further: the chunk ends there, or there is no more room
 pub record Stretched (o : Open Memory) (chunk : List ℕ) (from next : ℕ) (now : Open Memory) (out after : List ℕ) (put : ℕ) : Type 0 where
   pub reaches : Reaches o chunk from next now out after put
-  pub stops : (next ≡ length chunk) ⊎ (length out < put + textMax)
+  pub stops : (next ≡ length chunk) ⊎ (length out < put + lineRoom)

@@ -11,12 +11,12 @@ use Rattle.book.specs.Memory.{memoryOf}
 use Rattle.script.specs.Input.{answerLine}
 use Rattle.script.specs.Buffers.{opened, HeldFits}
 use Rattle.script.proofs.Prints.{printed-length}
-use Rattle.rehearse.proofs.Runs.{Read, read-more, read-ends, turned-on, turned-ended}
+use Rattle.rehearse.proofs.Runs.{ReadSoFar, read-more, read-ends, turned-on, turned-ended}
 use Rattle.rehearse.proofs.rehearse.Statement.{statement}
 use Rattle.rehearse.proofs.rehearse.Tie as tie
 
 abbrev Inv-loop : tie.InvT-loop
-Inv-loop cache₀ book₀ line₀ chunk₀ out₀ held₀ turns₀ cache book line chunk out held turns = (length cache ≡ length cache₀) × ((length book ≡ length book₀) × ((length chunk ≡ length chunk₀) × ((length out ≡ length out₀) × (HeldFits line held × Read (opened cache₀ book₀ [] 0) (opened cache book line held)))))
+Inv-loop cache₀ book₀ line₀ chunk₀ out₀ held₀ turns₀ cache book line chunk out held turns = (length cache ≡ length cache₀) × ((length book ≡ length book₀) × ((length chunk ≡ length chunk₀) × ((length out ≡ length out₀) × (HeldFits line held × ReadSoFar (opened cache₀ book₀ [] 0) (opened cache book line held)))))
 
 abbrev μ-loop : tie.MeasureT-loop
 μ-loop cache₀ book₀ line₀ chunk₀ out₀ held₀ turns₀ cache book line chunk out held turns = turns
