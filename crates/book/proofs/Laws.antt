@@ -11,10 +11,10 @@ use lib.Dec.{eqb, ltb}
 use lib.ListN.{length, getD, drop, length-take}
 use lib.Seq.{take-length}
 use borrow.Author.Tests.{ltb-true, ltb-false, lt-ltb}
-use Rattle.lent.specs.Bytes.{le32, bytes32, le64, bytes64, win, splice, zeros}
+use Rattle.lent.specs.Bytes.{le32, bytes32, bytes64, win, splice, zeros}
 use Rattle.lent.specs.Tables.{if_then_else_}
 use Rattle.lent.proofs.Choices.{if-ind}
-use Rattle.lent.proofs.Numbers.{le32-bytes, le32-win, le64-bytes, le64-win}
+use Rattle.lent.proofs.Numbers.{le32-bytes, le32-win}
 use Rattle.lent.proofs.Splice.{getD-splice-after, getD-splice-before, getD-splice-in, length-splice, win-splice, win-splice-after, win-splice-before, win-splice-in}
 use Rattle.machine.specs.Sizes.{keyCount, sessionCount, valueMax}
 use Rattle.machine.specs.State.{Value}
@@ -44,9 +44,6 @@ module _ (b : List ℕ) (a : ℕ) (x : List ℕ) (f : a + length x ≤ length b)
   le32-apart : (j : ℕ) → k ≤ j → j + 4 ≤ k + n → le32 (splice b a x) j ≡ le32 b j
   le32-apart j g h =
       rw (getD-apart j (omega arith) (omega arith), getD-apart (j + 1) (omega arith) (omega arith), getD-apart (j + 2) (omega arith) (omega arith), getD-apart (j + 3) (omega arith) (omega arith))
-
-  le64-apart : k + 8 ≤ k + n → le64 (splice b a x) k ≡ le64 b k
-  le64-apart h = rw (le32-apart k (omega arith) (omega arith), le32-apart (k + 4) (omega arith) (omega arith))
 
 -- each reader, over a splice apart from what it reads
 module _ (b : List ℕ) (a : ℕ) (x : List ℕ) (f : a + length x ≤ length b) where
@@ -231,12 +228,6 @@ module _ (b : List ℕ) (e : length b ≡ bookSize) (i : ℕ) (h : i < sessionCo
       go false p = inr (omega (arith, ltb-false j i p, q))
 
 -- ---- a line is counted
-
-le64-same : (b : List ℕ) (a v : ℕ) → a + 8 ≤ length b → v < 2 ^ 64 → le64 (splice b a (bytes64 v)) a ≡ v
-le64-same b a v h g =
-    sym (rw add-zero at (le64-win (splice b a (bytes64 v)) a 8 0 (omega arith)))
-    ∙ ap (λ (s : List ℕ). le64 s 0) (win-splice b a (bytes64 v) 8 refl (omega arith))
-    ∙ le64-bytes v g
 
 module _ (b : List ℕ) (e : length b ≡ bookSize) (rule : ℕ) where
   -- one line more

@@ -7,6 +7,9 @@ ghost use Rattle.book.specs.Book.{bookSize, started, withStarted, linesI
 
 pub const BOOK_SIZE: usize = 33824;
 
+// The rule that a line breaks where it breaks none.
+pub const KEPT: u64 = 0;
+
 const STARTED_AT: usize = 0;
 
 const LINES_AT: usize = 8;
@@ -47,14 +50,14 @@ pub fn broken(b: &[u8]) -> u64
     lent::load_u64(b, BROKEN_AT)
 }
 
-// One line more is read, which breaks the rule, or none if it is 0.
+// One line more is read, which breaks the rule of that number.
 pub fn count(b: &mut [u8], rule: u64)
     requires { ⌜ length (now b) ≡ bookSize ⌝ }
     ensures { λ _. ⌜ now (b .exit) ≡ counted (now (b .entry)) rule ⌝ }
 {
     let n = std::num::wrapping_add_u64(lines(b), 1);
     lent::store_u64(b, LINES_AT, n);
-    if rule == 0 {
+    if rule == KEPT {
         return;
     }
     let m = std::num::wrapping_add_u64(broken(b), 1);

@@ -1,41 +1,41 @@
 -- The bytes of an input, one after the other, are answered as its lines are, one after the other. By induction on the bytes; what is
 -- held stands for all the bytes since the last newline, of which only the first are kept.
-use mathlib.Core.Path.{_≡_, refl, sym, ap, _∙_}
+use mathlib.Core.Path.{_≡_, refl, ap, _∙_}
 use mathlib.Core.Bool.{Bool, true, false}
 use mathlib.Core.List.{List, [], _∷_, _++_, map, append-assoc, append-nil}
 use Prim.Native.Nat.{ℕ}
 use lib.ListN.{length, take}
 use lib.Dec.{eqb}
 use Rattle.lent.specs.Tables.{if_then_else_}
-use Rattle.feed.specs.Lines.{newline, heldMax, onto, linesOf, handed}
-use Rattle.feed.specs.Answers.{Said, Open, behind, answers, byte, fed, last}
+use Rattle.feed.specs.Lines.{newline, heldMax, onto, linesOf, cutLines}
+use Rattle.feed.specs.Answers.{Answered, Open, behind, answers, byte, fed, last}
 use Rattle.feed.proofs.Laws.{take-grow}
 
 -- the lines of an input before which the bytes h of its first line came
-abbrev joined : List ℕ → List (List ℕ) → List (List ℕ)
-joined [] ls = ls
-joined (b ∷ h) ls = onto b (joined h ls)
+abbrev prefixed : List ℕ → List (List ℕ) → List (List ℕ)
+prefixed [] ls = ls
+prefixed (b ∷ h) ls = onto b (prefixed h ls)
 
-joined-cons : (h l : List ℕ) (ls : List (List ℕ)) → joined h (l ∷ ls) ≡ (h ++ l) ∷ ls
+prefixed-cons : (h l : List ℕ) (ls : List (List ℕ)) → prefixed h (l ∷ ls) ≡ (h ++ l) ∷ ls
 unfolding onto
-joined-cons [] l ls = refl
-joined-cons (b ∷ h) l ls = rw (joined-cons h l ls)
+prefixed-cons [] l ls = refl
+prefixed-cons (b ∷ h) l ls = rw (prefixed-cons h l ls)
 
-joined-snoc : (h : List ℕ) (b : ℕ) (ls : List (List ℕ)) → joined (h ++ b ∷ []) ls ≡ joined h (onto b ls)
-joined-snoc [] b ls = refl
-joined-snoc (a ∷ h) b ls = ap (onto a) (joined-snoc h b ls)
+prefixed-snoc : (h : List ℕ) (b : ℕ) (ls : List (List ℕ)) → prefixed (h ++ b ∷ []) ls ≡ prefixed h (onto b ls)
+prefixed-snoc [] b ls = refl
+prefixed-snoc (a ∷ h) b ls = ap (onto a) (prefixed-snoc h b ls)
 
-joined-none : (b : ℕ) (h : List ℕ) → joined (b ∷ h) [] ≡ (b ∷ h) ∷ []
+prefixed-none : (b : ℕ) (h : List ℕ) → prefixed (b ∷ h) [] ≡ (b ∷ h) ∷ []
 unfolding onto
-joined-none b [] = refl
-joined-none b (a ∷ h) = ap (onto b) (joined-none a h)
+prefixed-none b [] = refl
+prefixed-none b (a ∷ h) = ap (onto b) (prefixed-none a h)
 
-module _ {W : Type 0} (answer : W → List ℕ → Said W) where
+module _ {W : Type 0} (answer : W → List ℕ → Answered W) where
   abbrev opened : W → List ℕ → Open W
   opened w h = record { world = w; held = h }
 
   -- bytes in turn, and then the end of the input
-  abbrev pub whole : Open W → List ℕ → Said W
+  abbrev pub whole : Open W → List ℕ → Answered W
   whole o bs = let f = fed answer o bs in behind (f .text) (last answer (f .world .world) (f .world .held))
 
   whole-cons : (o : Open W) (b : ℕ) (bs : List ℕ) → whole o (b ∷ bs) ≡ behind (byte answer o b .text) (whole (byte answer o b .world) bs)
@@ -52,33 +52,33 @@ module _ {W : Type 0} (answer : W → List ℕ → Said W) where
   unfolding byte
   byte-other w h b e = rw e
 
-  ended : (w : W) (h : List ℕ) → whole (opened w (take heldMax h)) [] ≡ answers answer w (map (take heldMax) (joined h []))
+  whole-none : (w : W) (h : List ℕ) → whole (opened w (take heldMax h)) [] ≡ answers answer w (map (take heldMax) (prefixed h []))
   unfolding fed last answers
-  ended w [] = refl
-  ended w (b ∷ h) = rw (joined-none b h, append-nil)
+  whole-none w [] = refl
+  whole-none w (b ∷ h) = rw (prefixed-none b h, append-nil)
 
   -- a byte more in front, by what it is
-  joined-byte : (w : W) (h : List ℕ) (b : ℕ) (bs : List ℕ) (t : Bool) → eqb b newline ≡ t
-      → ((v : W) (k : List ℕ) → whole (opened v (take heldMax k)) bs ≡ answers answer v (map (take heldMax) (joined k (linesOf bs))))
-      → whole (opened w (take heldMax h)) (b ∷ bs) ≡ answers answer w (map (take heldMax) (joined h (if t then [] ∷ linesOf bs else onto b (linesOf bs))))
+  whole-byte : (w : W) (h : List ℕ) (b : ℕ) (bs : List ℕ) (t : Bool) → eqb b newline ≡ t
+      → ((v : W) (k : List ℕ) → whole (opened v (take heldMax k)) bs ≡ answers answer v (map (take heldMax) (prefixed k (linesOf bs))))
+      → whole (opened w (take heldMax h)) (b ∷ bs) ≡ answers answer w (map (take heldMax) (prefixed h (if t then [] ∷ linesOf bs else onto b (linesOf bs))))
   unfolding answers
-  joined-byte w h b bs true e next =
+  whole-byte w h b bs true e next =
       whole-cons (opened w (take heldMax h)) b bs
-      ∙ rw (byte-newline w (take heldMax h) b e, joined-cons h [] (linesOf bs), append-nil)
+      ∙ rw (byte-newline w (take heldMax h) b e, prefixed-cons h [] (linesOf bs), append-nil)
       (ap (behind (answer w (take heldMax h) .text)) (next (answer w (take heldMax h) .world) []))
-  joined-byte w h b bs false e next =
+  whole-byte w h b bs false e next =
       whole-cons (opened w (take heldMax h)) b bs
-      ∙ rw (byte-other w (take heldMax h) b e, take-grow heldMax h (b ∷ []), ← joined-snoc h b (linesOf bs)) (next w (h ++ b ∷ []))
+      ∙ rw (byte-other w (take heldMax h) b e, take-grow heldMax h (b ∷ []), ← prefixed-snoc h b (linesOf bs)) (next w (h ++ b ∷ []))
 
-  joined-lines : (w : W) (h bs : List ℕ) → whole (opened w (take heldMax h)) bs ≡ answers answer w (map (take heldMax) (joined h (linesOf bs)))
+  whole-prefixed : (w : W) (h bs : List ℕ) → whole (opened w (take heldMax h)) bs ≡ answers answer w (map (take heldMax) (prefixed h (linesOf bs)))
   unfolding linesOf
-  joined-lines w h [] = ended w h
-  joined-lines w h (b ∷ bs) = joined-byte w h b bs (eqb b newline) refl (λ v k. joined-lines v k bs)
+  whole-prefixed w h [] = whole-none w h
+  whole-prefixed w h (b ∷ bs) = whole-byte w h b bs (eqb b newline) refl (λ v k. whole-prefixed v k bs)
 
   -- nothing held: all of an input
-  pub whole-lines : (w : W) (bs : List ℕ) → whole (opened w []) bs ≡ answers answer w (handed bs)
-  unfolding handed
-  whole-lines w bs = joined-lines w [] bs
+  pub whole-lines : (w : W) (bs : List ℕ) → whole (opened w []) bs ≡ answers answer w (cutLines bs)
+  unfolding cutLines
+  whole-lines w bs = whole-prefixed w [] bs
 
   pub fed-none : (o : Open W) → fed answer o [] ≡ record { world = o; text = [] }
   unfolding fed
@@ -90,7 +90,7 @@ module _ {W : Type 0} (answer : W → List ℕ → Said W) where
   fed-append o [] ys = refl
   fed-append o (x ∷ xs) ys = rw (fed-append (byte answer o x .world) xs ys, append-assoc)
 
-  pub fed-more : (o : Open W) (xs : List ℕ) (b : ℕ) (s : Said (Open W)) → byte answer (fed answer o xs .world) b ≡ s
+  pub fed-more : (o : Open W) (xs : List ℕ) (b : ℕ) (s : Answered (Open W)) → byte answer (fed answer o xs .world) b ≡ s
       → fed answer o (xs ++ b ∷ []) ≡ behind (fed answer o xs .text) s
   unfolding fed
   fed-more o xs b s e = fed-append o xs (b ∷ []) ∙ rw (e, append-nil)

@@ -24,5 +24,5 @@ linesOf [] = []
 linesOf (b ∷ bs) = let rest = linesOf bs in if eqb b newline then [] ∷ rest else onto b rest
 
 -- the lines as they are handed on
-unfoldable pub handed : List ℕ → List (List ℕ)
-handed input = map (take heldMax) (linesOf input)
+unfoldable pub cutLines : List ℕ → List (List ℕ)
+cutLines input = map (take heldMax) (linesOf input)

@@ -1,18 +1,17 @@
--- What callers cite of a text that is read: it says bytes, at most one for two digits.
+-- What callers cite of a text that is read: what it says are bytes, since two digits say less than 16 * 16.
 use mathlib.Core.Path.{_≡_}
 use mathlib.Core.Logic.{⊎-elim}
 use mathlib.Core.Bool.{true}
 use mathlib.Core.List.{List, [], _∷_}
 use mathlib.Core.Option.{Option, none, some}
-use Prim.Native.Nat.{ℕ, zero, suc, _/_, _≤_}
+use Prim.Native.Nat.{ℕ, zero, suc}
 use native.Mathlib.Omega.{arith}
 use lib.Dec.{ltb}
-use lib.ListN.{length}
 use borrow.Author.Tests.{ltb-true}
 use Rattle.lent.specs.Bytes.{Bytes}
 use Rattle.lent.proofs.Choices.{case-of, and-yes}
-use Rattle.hex.specs.Hex.{digitValue, allDigits, isDash, isHex, bytesOf, readHex, held}
-use Rattle.hex.proofs.Reading.{hex-digits, length-bytes, read-dash, read-pairs, read-none}
+use Rattle.hex.specs.Hex.{digitValue, allDigits, isDash, isHex, bytesOf, readHex, valueRead}
+use Rattle.hex.proofs.Reading.{hex-digits, read-dash, read-pairs, read-none}
 
 bytes-of : (t : List ℕ) → allDigits t ≡ true → Bytes (bytesOf t)
 bytes-of [] e i = omega arith
@@ -32,12 +31,9 @@ by-text P t u v w =
     (case-of (isDash t))
 
 module _ (t : List ℕ) where
-  pub held-short : length (held (readHex t)) ≤ length t / 2
-  held-short = by-text (λ o. length (held o) ≤ length t / 2) t (omega arith) (omega arith) (λ e. omega (arith, length-bytes t))
-
-  pub held-bytes : Bytes (held (readHex t))
-  held-bytes = by-text (λ o. Bytes (held o)) t (λ i. omega arith) (λ i. omega arith) (λ e. bytes-of t (hex-digits t e))
+  pub value-read-bytes : Bytes (valueRead (readHex t))
+  value-read-bytes = by-text (λ o. Bytes (valueRead o)) t (λ i. omega arith) (λ i. omega arith) (λ e. bytes-of t (hex-digits t e))
 
 module _ (t v : List ℕ) (e : readHex t ≡ some v) where
   pub read-bytes : Bytes v
-  read-bytes = rw e at (held-bytes t)
+  read-bytes = rw e at (value-read-bytes t)

@@ -58,10 +58,10 @@ unfoldable pub readHex : List ℕ → Option (List ℕ)
 readHex t = if isDash t then some [] else if isHex t then some (bytesOf t) else none
 
 -- how many bytes were read, and which
-abbrev pub answered : Option (List ℕ) → Hex
-answered (some v) = Is (length v)
-answered none = Not
+abbrev pub lengthRead : Option (List ℕ) → Hex
+lengthRead (some v) = Is (length v)
+lengthRead none = Not
 
-abbrev pub held : Option (List ℕ) → List ℕ
-held (some v) = v
-held none = []
+abbrev pub valueRead : Option (List ℕ) → List ℕ
+valueRead (some v) = v
+valueRead none = []

@@ -4,7 +4,7 @@ ghost use mathlib.Core.Bool.{true};
 ghost use Prim.Native.Nat.{_*_, _/_, _≤_, _<_};
 ghost use lib.ListN.{length};
 ghost use Rattle.lent.specs.Bytes.{splice};
-ghost use Rattle.hex.specs.Hex.{digitOf, digitsOf, hexOf, digitValue, allDigits, isDash, isHex, bytesOf, readHex, answered, held};
+ghost use Rattle.hex.specs.Hex.{digitOf, digitsOf, hexOf, digitValue, allDigits, isDash, isHex, bytesOf, readHex, lengthRead, valueRead};
 
 // How many bytes a text says, or that it says none.
 pub enum Hex {
@@ -85,7 +85,7 @@ fn fill(text: &[u8], out: &mut [u8])
 
 // How many bytes a text says.
 pub fn length(text: &[u8]) -> Hex
-    ensures { λ r. ⌜ r ≡ answered (readHex (now (text .entry))) ⌝ }
+    ensures { λ r. ⌜ r ≡ lengthRead (readHex (now (text .entry))) ⌝ }
 {
     if is_dash(text) {
         return Hex::Is(0);
@@ -99,7 +99,7 @@ pub fn length(text: &[u8]) -> Hex
 // The bytes that a text says, at the front of out; where it says none, out stays.
 pub fn read(text: &[u8], out: &mut [u8]) -> Hex
     requires { ⌜ length (now text) / 2 ≤ length (now out) ⌝ }
-    ensures { λ r. ⌜ (r ≡ answered (readHex (now (text .entry)))) × (now (out .exit) ≡ splice (now (out .entry)) 0 (held (readHex (now (text .entry))))) ⌝ }
+    ensures { λ r. ⌜ (r ≡ lengthRead (readHex (now (text .entry)))) × (now (out .exit) ≡ splice (now (out .entry)) 0 (valueRead (readHex (now (text .entry))))) ⌝ }
 {
     if is_dash(text) {
         return Hex::Is(0);

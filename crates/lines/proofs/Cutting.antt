@@ -15,7 +15,7 @@ use Rattle.lent.specs.Tables.{if_then_else_}
 use Rattle.lent.proofs.Splice.{win-none, win-more, win-one, length-win}
 use Rattle.counts.specs.Count.{readCount}
 use Rattle.counts.specs.declared.Count.{Count}
-use Rattle.lines.specs.Fields.{space, Field, begun, fields, fieldsAt, Ends, readNumber, letter}
+use Rattle.lines.specs.Fields.{space, zeroDigit, Field, onto, fields, fieldsAt, Ends, readNumber, letter}
 
 -- ---- where a field ends
 
@@ -24,17 +24,17 @@ abbrev pub behind : List ℕ → List Field → List Field
 behind w [] = w ∷ []
 behind w (f ∷ fs) = (w ++ f) ∷ fs
 
-behind-begun : (w : List ℕ) (b : ℕ) (fs : List Field) → behind w (begun b fs) ≡ behind (w ++ (b ∷ [])) fs
-behind-begun w b [] = refl
-behind-begun w b (f ∷ fs) = rw append-assoc
+behind-onto : (w : List ℕ) (b : ℕ) (fs : List Field) → behind w (onto b fs) ≡ behind (w ++ (b ∷ [])) fs
+behind-onto w b [] = refl
+behind-onto w b (f ∷ fs) = rw append-assoc
 
-none-begun : (b : ℕ) (fs : List Field) → behind [] (begun b fs) ≡ begun b fs
-none-begun b [] = refl
-none-begun b (f ∷ fs) = refl
+none-onto : (b : ℕ) (fs : List Field) → behind [] (onto b fs) ≡ onto b fs
+none-onto b [] = refl
+none-onto b (f ∷ fs) = refl
 
-none-cut : (s : Bool) (b : ℕ) (fs : List Field) → behind [] (if s then [] ∷ fs else begun b fs) ≡ (if s then [] ∷ fs else begun b fs)
+none-cut : (s : Bool) (b : ℕ) (fs : List Field) → behind [] (if s then [] ∷ fs else onto b fs) ≡ (if s then [] ∷ fs else onto b fs)
 none-cut true b fs = refl
-none-cut false b fs = none-begun b fs
+none-cut false b fs = none-onto b fs
 
 pub behind-none : (t : List ℕ) → behind [] (fields t) ≡ fields t
 unfolding fields
@@ -54,7 +54,7 @@ module _ (t : List ℕ) where
   unfolding fields
   fields-space e h q = rw (fields-in (e + 1) (omega arith), add-one, drop-cons t e 0 h, eq-eqb (getD t e 0) space q)
 
-  fields-other : (e : ℕ) → e < length t → (getD t e 0 ≡ space → ⊥) → fields (drop e t) ≡ begun (getD t e 0) (fields (drop (e + 1) t))
+  fields-other : (e : ℕ) → e < length t → (getD t e 0 ≡ space → ⊥) → fields (drop e t) ≡ onto (getD t e 0) (fields (drop (e + 1) t))
   unfolding fields
   fields-other e h n = rw (add-one, drop-cons t e 0 h, ne-eqb (getD t e 0) space n)
 
@@ -73,7 +73,7 @@ module _ (t : List ℕ) where
         let q : e + 1 - at ≡ (e - at) + 1 = omega arith in
         let p : at + (e - at) ≡ e = omega arith in
         let m : win t at ((e - at) + 1) ≡ win t at (e - at) ++ (getD t e 0 ∷ []) = win-more t at (e - at) (rw p h) ∙ rw p in
-        passed ∙ rw (fields-other e h n, q, m) (behind-begun (win t at (e - at)) (getD t e 0) (fields (drop (e + 1) t)))
+        passed ∙ rw (fields-other e h n, q, m) (behind-onto (win t at (e - at)) (getD t e 0) (fields (drop (e + 1) t)))
 
     ends : e ≤ length t → fields (drop e t) ≡ [] ∷ fieldsAt t (e + 1) → Ends t at e
     ends h q = record { from = from; within = h; cut = passed ∙ rw (q, append-nil) }
@@ -91,13 +91,13 @@ module _ (f : List ℕ) where
   unfolding readNumber
   number-short h = rw (lt-leb 2 (length f) h)
 
-  pub number-zero : 2 ≤ length f → getD f 0 0 ≡ 48 → readNumber f ≡ Count.Not
+  pub number-zero : 2 ≤ length f → getD f 0 0 ≡ zeroDigit → readNumber f ≡ Count.Not
   unfolding readNumber
-  number-zero h e = rw (le-leb 2 (length f) h, eq-eqb (getD f 0 0) 48 e)
+  number-zero h e = rw (le-leb 2 (length f) h, eq-eqb (getD f 0 0) zeroDigit e)
 
-  pub number-other : 2 ≤ length f → (getD f 0 0 ≡ 48 → ⊥) → readNumber f ≡ readCount f
+  pub number-other : 2 ≤ length f → (getD f 0 0 ≡ zeroDigit → ⊥) → readNumber f ≡ readCount f
   unfolding readNumber
-  number-other h n = rw (le-leb 2 (length f) h, ne-eqb (getD f 0 0) 48 n)
+  number-other h n = rw (le-leb 2 (length f) h, ne-eqb (getD f 0 0) zeroDigit n)
 
 -- ---- a letter
 

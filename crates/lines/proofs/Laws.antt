@@ -14,7 +14,7 @@ use Rattle.lent.proofs.Choices.{if-ind}
 use Rattle.hex.specs.Hex.{readHex}
 use Rattle.hex.proofs.Laws.{read-bytes}
 use Rattle.lines.specs.Fields.{lineMax, valueRoom, Field, fields, _>>=_, number, numbers, Lettered, letter, upTo, lastValue}
-use Rattle.lines.specs.Lines.{Read, said, orUnreadable, ended, shapeOf, commandLine, startLetter, writeLetter, keyMax, valueMax, startLine, writeLine, timedLine, lineBy, readLine}
+use Rattle.lines.specs.Lines.{Read, unvalued, orUnreadable, atEnd, shapeOf, commandLine, startLetter, writeLetter, keyMax, valueMax, startLine, writeLine, timedLine, lineBy, readLine}
 use Rattle.lines.specs.declared.Line.{Line}
 use Rattle.lines.specs.declared.Shape.{Shape}
 
@@ -35,7 +35,7 @@ Ranged (Line.Start r w) = Unit
 Ranged (Line.Write s k n) = (k ≤ keyMax) × (n ≤ valueMax)
 Ranged (Line.Command p t a b c d n) = (1 ≤ p) × (p ≤ commandCount)
 
-pub record Sound (x : Read) : Type 0 where
+pub record WellRead (x : Read) : Type 0 where
   pub size : sizeOf (x .line) ≡ length (x .value)
   pub room : length (x .value) ≤ valueRoom
   pub bytes : Bytes (x .value)
@@ -44,59 +44,59 @@ pub record Sound (x : Read) : Type 0 where
 -- ---- the last field
 
 module _ (most : ℕ) (v : List ℕ) where
-  abbrev Said : Type 0
-  Said = (length v ≤ most) × Bytes v
+  abbrev ShortBytes : Type 0
+  ShortBytes = (length v ≤ most) × Bytes v
 
-  within : (f w : List ℕ) (t : Bool) → ltb most (length w) ≡ t → readHex f ≡ some w → (if t then none else some w) ≡ some v → Said
-  within f w true q e h = absurd (Option·none-ne-some v h)
-  within f w false q e h =
+  short-fits : (f w : List ℕ) (t : Bool) → ltb most (length w) ≡ t → readHex f ≡ some w → (if t then none else some w) ≡ some v → ShortBytes
+  short-fits f w true q e h = absurd (Option·none-ne-some v h)
+  short-fits f w false q e h =
       let p : w ≡ v = cc in
       rw (← p) (ltb-false most (length w) q, read-bytes f w e)
 
-  one-value : (f : List ℕ) (o : Option (List ℕ)) → readHex f ≡ o → upTo most o ≡ some v → Said
-  one-value f none e h = absurd (Option·none-ne-some v h)
-  one-value f (some w) e h = within f w (ltb most (length w)) refl e h
+  field-fits : (f : List ℕ) (o : Option (List ℕ)) → readHex f ≡ o → upTo most o ≡ some v → ShortBytes
+  field-fits f none e h = absurd (Option·none-ne-some v h)
+  field-fits f (some w) e h = short-fits f w (ltb most (length w)) refl e h
 
-  value-said : (fs : List Field) → lastValue most fs ≡ some v → Said
-  value-said [] h = absurd (Option·none-ne-some v h)
-  value-said (f ∷ []) h = one-value f (readHex f) refl h
-  value-said (f ∷ g ∷ fs) h = absurd (Option·none-ne-some v h)
+  value-fits : (fs : List Field) → lastValue most fs ≡ some v → ShortBytes
+  value-fits [] h = absurd (Option·none-ne-some v h)
+  value-fits (f ∷ []) h = field-fits f (readHex f) refl h
+  value-fits (f ∷ g ∷ fs) h = absurd (Option·none-ne-some v h)
 
 -- ---- the three forms
 
 -- no value
-said-sound : (l : Line) → sizeOf l ≡ 0 → Ranged l → Sound (said l)
-said-sound l e h = record { size = e; room = omega arith; bytes = λ i. omega arith; range = h }
+unvalued-sound : (l : Line) → sizeOf l ≡ 0 → Ranged l → WellRead (unvalued l)
+unvalued-sound l e h = record { size = e; room = omega arith; bytes = λ i. omega arith; range = h }
 
-unreadable-sound : Sound (said Line.Unreadable)
-unreadable-sound = said-sound Line.Unreadable refl tt
+unreadable-sound : WellRead (unvalued Line.Unreadable)
+unreadable-sound = unvalued-sound Line.Unreadable refl tt
 
 -- what is read, if it is
 abbrev Fine : Option Read → Type 0
-Fine o = Sound (orUnreadable o)
+Fine o = WellRead (orUnreadable o)
 
-after : {A : Type 0} (o : Option A) (f : A → Option Read) → ((x : A) → o ≡ some x → Fine (f x)) → Fine (o >>= f)
-after none f k = unreadable-sound
-after (some x) f k = k x refl
+next-fine : {A : Type 0} (o : Option A) (f : A → Option Read) → ((x : A) → o ≡ some x → Fine (f x)) → Fine (o >>= f)
+next-fine none f k = unreadable-sound
+next-fine (some x) f k = k x refl
 
-ended-fine : (fs : List Field) (r : Read) → Sound r → Fine (ended fs r)
-ended-fine [] r h = h
-ended-fine (f ∷ fs) r h = unreadable-sound
+at-end-fine : (fs : List Field) (r : Read) → WellRead r → Fine (atEnd fs r)
+at-end-fine [] r h = h
+at-end-fine (f ∷ fs) r h = unreadable-sound
 
 -- ---- each way
 
 start-fine : (fs : List Field) → Fine (startLine fs)
 unfolding startLine
 start-fine fs =
-    after (numbers 2 fs) _ (λ n e. ended-fine (n .rest) _ (said-sound (Line.Start (n .a) (n .b)) refl tt))
+    next-fine (numbers 2 fs) _ (λ n e. at-end-fine (n .rest) _ (unvalued-sound (Line.Start (n .a) (n .b)) refl tt))
 
 write-fine : (fs : List Field) → Fine (writeLine fs)
 unfolding writeLine
 write-fine fs =
-    after (numbers 2 fs) _
+    next-fine (numbers 2 fs) _
     (λ n e. if-ind Fine (ltb keyMax (n .b)) (λ t. unreadable-sound)
-    (λ t. after (lastValue valueMax (n .rest)) _
-    (λ v q. let s = value-said valueMax v (n .rest) q in
+    (λ t. next-fine (lastValue valueMax (n .rest)) _
+    (λ v q. let s = value-fits valueMax v (n .rest) q in
     record { size = refl; room = omega (arith, s .0); bytes = s .1; range = (ltb-false keyMax (n .b) t, s .0) })))
 
 abbrev Placed : Shape → Type 0
@@ -123,18 +123,18 @@ shape-placed l =
 command-fine : (time : ℕ) (s : Shape) (fs : List Field) → Placed s → Fine (commandLine time s fs)
 unfolding commandLine
 command-fine time (Shape.Plain place k) fs h =
-    after (numbers k fs) _ (λ n e. ended-fine (n .rest) _ (said-sound (Line.Command place time (n .a) (n .b) (n .c) (n .d) 0) refl h))
+    next-fine (numbers k fs) _ (λ n e. at-end-fine (n .rest) _ (unvalued-sound (Line.Command place time (n .a) (n .b) (n .c) (n .d) 0) refl h))
 command-fine time (Shape.Valued place k) fs h =
-    after (numbers k fs) _
-    (λ n e. after (lastValue valueRoom (n .rest)) _
-    (λ v q. let s = value-said valueRoom v (n .rest) q in record { size = refl; room = s .0; bytes = s .1; range = h }))
+    next-fine (numbers k fs) _
+    (λ n e. next-fine (lastValue valueRoom (n .rest)) _
+    (λ v q. let s = value-fits valueRoom v (n .rest) q in record { size = refl; room = s .0; bytes = s .1; range = h }))
 command-fine time Shape.Unknown fs h = unreadable-sound
 
 timed-fine : (fs : List Field) → Fine (timedLine fs)
 unfolding timedLine
 timed-fine fs =
-    after (number true fs) _
-    (λ t e. after (letter (t .rest)) _
+    next-fine (number true fs) _
+    (λ t e. next-fine (letter (t .rest)) _
     (λ l q. if-ind Fine (eqb (l .letter) writeLetter) (λ p. write-fine (l .rest))
     (λ p. command-fine (t .number) (shapeOf (l .letter)) (l .rest) (shape-placed (l .letter)))))
 
@@ -142,6 +142,6 @@ by-fine : (o : Option Lettered) (fs : List Field) → Fine (lineBy o fs)
 by-fine none fs = timed-fine fs
 by-fine (some l) fs = if-ind Fine (eqb (l .letter) startLetter) (λ p. start-fine (l .rest)) (λ p. timed-fine fs)
 
-pub line-sound : (t : List ℕ) → Sound (readLine t)
+pub line-sound : (t : List ℕ) → WellRead (readLine t)
 unfolding readLine
-line-sound t = if-ind Sound (ltb lineMax (length t)) (λ p. unreadable-sound) (λ p. by-fine (letter (fields t)) (fields t))
+line-sound t = if-ind WellRead (ltb lineMax (length t)) (λ p. unreadable-sound) (λ p. by-fine (letter (fields t)) (fields t))

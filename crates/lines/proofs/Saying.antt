@@ -10,29 +10,29 @@ use borrow.Author.Tests.{lt-ltb, le-ltb}
 use Rattle.lent.specs.Bytes.{splice, win}
 use Rattle.lent.proofs.Splice.{splice-none}
 use Rattle.counts.specs.declared.Count.{Count}
-use Rattle.hex.specs.Hex.{readHex, answered, held}
+use Rattle.hex.specs.Hex.{readHex, lengthRead, valueRead}
 use Rattle.hex.specs.declared.Hex.{Hex}
-use Rattle.lines.specs.Fields.{Field, fields, fieldsAt, Ends, _>>=_, readNumber, counted, number, upTo, lastValue}
-use Rattle.lines.specs.Lines.{Read, said, orUnreadable, ended, Gives}
+use Rattle.lines.specs.Fields.{Field, fields, fieldsAt, Ends, _>>=_, readNumber, numberOf, number, upTo, lastValue}
+use Rattle.lines.specs.Lines.{Read, unvalued, orUnreadable, atEnd, Gives}
 use Rattle.lines.specs.declared.Line.{Line}
 use Rattle.lines.proofs.Cutting.{behind, behind-none, fields-in, fields-past}
 
 -- ---- the end of the fields
 
-ended-more : (fs : List Field) (r : Read) → ended (behind [] fs) r ≡ none
-ended-more [] r = refl
-ended-more (f ∷ fs) r = refl
+at-end-more : (fs : List Field) (r : Read) → atEnd (behind [] fs) r ≡ none
+at-end-more [] r = refl
+at-end-more (f ∷ fs) r = refl
 
 module _ (t : List ℕ) (at : ℕ) (r : Read) where
-  pub ended-in : at ≤ length t → ended (fieldsAt t at) r ≡ none
-  ended-in h = rw (fields-in t at h, ← behind-none (drop at t)) (ended-more (fields (drop at t)) r)
+  pub at-end-in : at ≤ length t → atEnd (fieldsAt t at) r ≡ none
+  at-end-in h = rw (fields-in t at h, ← behind-none (drop at t)) (at-end-more (fields (drop at t)) r)
 
-  pub ended-past : length t < at → ended (fieldsAt t at) r ≡ some r
-  ended-past h = rw (fields-past t at h)
+  pub at-end-past : length t < at → atEnd (fieldsAt t at) r ≡ some r
+  at-end-past h = rw (fields-past t at h)
 
 -- ---- a field as a number
 
-pub number-cut : (t : List ℕ) (at e : ℕ) (n : Count) → Ends t at e → n ≡ readNumber (take (e - at) (drop at t)) → number true (fieldsAt t at) ≡ counted n (fieldsAt t (e + 1))
+pub number-cut : (t : List ℕ) (at e : ℕ) (n : Count) → Ends t at e → n ≡ readNumber (take (e - at) (drop at t)) → number true (fieldsAt t at) ≡ numberOf n (fieldsAt t (e + 1))
 unfolding win
 number-cut t at e n c q = rw (c .cut, q)
 
@@ -54,45 +54,45 @@ module _ (most : ℕ) (t : List ℕ) (at : ℕ) where
     unfolding win
     value-last h = rw (c .cut, fields-past t (e + 1) (omega arith))
 
-answered-not : (o : Option (List ℕ)) → answered o ≡ Hex.Not → o ≡ none
-answered-not none e = refl
-answered-not (some v) e = absurd (let z : _≡_ {A = ℕ} 0 1 = cc in omega arith)
+length-read-not : (o : Option (List ℕ)) → lengthRead o ≡ Hex.Not → o ≡ none
+length-read-not none e = refl
+length-read-not (some v) e = absurd (let z : _≡_ {A = ℕ} 0 1 = cc in omega arith)
 
-answered-is : (o : Option (List ℕ)) (n : ℕ) → answered o ≡ Hex.Is n → (o ≡ some (held o)) × (length (held o) ≡ n)
-answered-is none n e = absurd (let z : _≡_ {A = ℕ} 0 1 = cc in omega arith)
-answered-is (some v) n e = (refl, cc)
+length-read-is : (o : Option (List ℕ)) (n : ℕ) → lengthRead o ≡ Hex.Is n → (o ≡ some (valueRead o)) × (length (valueRead o) ≡ n)
+length-read-is none n e = absurd (let z : _≡_ {A = ℕ} 0 1 = cc in omega arith)
+length-read-is (some v) n e = (refl, cc)
 
-module _ (most : ℕ) (o : Option (List ℕ)) (r : Hex) (a : r ≡ answered o) where
+module _ (most : ℕ) (o : Option (List ℕ)) (r : Hex) (a : r ≡ lengthRead o) where
   pub up-to-not : r ≡ Hex.Not → upTo most o ≡ none
-  up-to-not e = rw (answered-not o (sym a ∙ e))
+  up-to-not e = rw (length-read-not o (sym a ∙ e))
 
   module _ (n : ℕ) (e : r ≡ Hex.Is n) where
     pub up-to-long : most < n → upTo most o ≡ none
     up-to-long h =
-        let p = answered-is o n (sym a ∙ e) in
-        ap (upTo most) (p .0) ∙ rw (lt-ltb most (length (held o)) (omega (arith, p .1)))
+        let p = length-read-is o n (sym a ∙ e) in
+        ap (upTo most) (p .0) ∙ rw (lt-ltb most (length (valueRead o)) (omega (arith, p .1)))
 
     pub up-to-all : n ≤ most → upTo most o ≡ o
     up-to-all h =
-        let p = answered-is o n (sym a ∙ e) in
-        ap (upTo most) (p .0) ∙ rw (le-ltb most (length (held o)) (omega (arith, p .1))) (sym (p .0))
+        let p = length-read-is o n (sym a ∙ e) in
+        ap (upTo most) (p .0) ∙ rw (le-ltb most (length (valueRead o)) (omega (arith, p .1))) (sym (p .0))
 
 -- ---- what is given
 
-pub gives-none : (s : List ℕ) → Gives (said Line.Unreadable) Line.Unreadable s s
+pub gives-none : (s : List ℕ) → Gives (unvalued Line.Unreadable) Line.Unreadable s s
 gives-none s = record { line = refl; value = sym (splice-none s 0) }
 
-pub gives-said : (x : Read) (r : Line) (s : List ℕ) → x ≡ said r → Gives x r s s
-gives-said x r s e = rw e (record { line = refl; value = sym (splice-none s 0) })
+pub gives-unvalued : (x : Read) (r : Line) (s : List ℕ) → x ≡ unvalued r → Gives x r s s
+gives-unvalued x r s e = rw e (record { line = refl; value = sym (splice-none s 0) })
 
-module _ (o : Option (List ℕ)) (k : ℕ → Line) (r : Hex) (before after : List ℕ) (a : r ≡ answered o) (s : after ≡ splice before 0 (held o)) where
+module _ (o : Option (List ℕ)) (k : ℕ → Line) (r : Hex) (before after : List ℕ) (a : r ≡ lengthRead o) (s : after ≡ splice before 0 (valueRead o)) where
   pub gives-no-value : r ≡ Hex.Not → Gives (orUnreadable (o >>= λ v. some (record { line = k (length v); value = v }))) Line.Unreadable before after
   gives-no-value e =
-      let q : o ≡ none = answered-not o (sym a ∙ e) in
+      let q : o ≡ none = length-read-not o (sym a ∙ e) in
       let u : after ≡ splice before 0 [] = s ∙ rw q in
       rw q (record { line = refl; value = u })
 
   pub gives-value : (n : ℕ) → r ≡ Hex.Is n → Gives (orUnreadable (o >>= λ v. some (record { line = k (length v); value = v }))) (k n) before after
   gives-value n e =
-      let p = answered-is o n (sym a ∙ e) in
+      let p = length-read-is o n (sym a ∙ e) in
       rw (p .0) (record { line = ap k (sym (p .1)); value = s })

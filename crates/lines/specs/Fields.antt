@@ -11,7 +11,7 @@ use Rattle.lent.specs.Tables.{if_then_else_}
 use Rattle.counts.specs.Count.{readCount}
 use Rattle.counts.specs.declared.Count.{Count}
 use Rattle.hex.specs.Hex.{readHex}
-use Rattle.lines.specs.declared.Taken.{Taken}
+use Rattle.lines.specs.declared.One.{One}
 use Rattle.lines.specs.declared.Four.{Four}
 use Rattle.lines.specs.declared.Letter.{Letter}
 
@@ -25,20 +25,24 @@ valueRoom = 100
 abbrev pub space : ℕ
 space = 32
 
+-- `0`
+abbrev pub zeroDigit : ℕ
+zeroDigit = 48
+
 abbrev pub Field : Type 0
 Field = List ℕ
 
 -- ---- the fields of a line
 
 -- b before the first field
-abbrev pub begun : ℕ → List Field → List Field
-begun b [] = (b ∷ []) ∷ []
-begun b (f ∷ fs) = (b ∷ f) ∷ fs
+abbrev pub onto : ℕ → List Field → List Field
+onto b [] = (b ∷ []) ∷ []
+onto b (f ∷ fs) = (b ∷ f) ∷ fs
 
 -- a line is cut at each space: one field more than it has spaces, and a field may be empty
 unfoldable pub fields : List ℕ → List Field
 fields [] = [] ∷ []
-fields (b ∷ t) = let fs = fields t in if eqb b space then [] ∷ fs else begun b fs
+fields (b ∷ t) = let fs = fields t in if eqb b space then [] ∷ fs else onto b fs
 
 -- those from place `at` on; none past the line's end
 unfoldable pub fieldsAt : List ℕ → ℕ → List Field
@@ -61,22 +65,22 @@ some x >>= f = f x
 
 -- a count without a leading zero
 unfoldable pub readNumber : Field → Count
-readNumber f = if leb 2 (length f) && eqb (getD f 0 0) 48 then Count.Not else readCount f
+readNumber f = if leb 2 (length f) && eqb (getD f 0 0) zeroDigit then Count.Not else readCount f
 
 -- a number, and the fields behind it
-pub record Numbered : Type 0 where
+pub record OneNumber : Type 0 where
   pub number : ℕ
   pub rest : List Field
 
-abbrev pub counted : Count → List Field → Option Numbered
-counted (Count.Is n) fs = some (record { number = n; rest = fs })
-counted Count.Not fs = none
+abbrev pub numberOf : Count → List Field → Option OneNumber
+numberOf (Count.Is n) fs = some (record { number = n; rest = fs })
+numberOf Count.Not fs = none
 
 -- the first field as a number, where one is wanted; where none is, 0 and all fields are left
-abbrev pub number : Bool → List Field → Option Numbered
+abbrev pub number : Bool → List Field → Option OneNumber
 number false fs = some (record { number = 0; rest = fs })
 number true [] = none
-number true (f ∷ fs) = counted (readNumber f) fs
+number true (f ∷ fs) = numberOf (readNumber f) fs
 
 pub record Numbers : Type 0 where
   pub a : ℕ
@@ -121,9 +125,9 @@ lastValue most (f ∷ g ∷ fs) = none
 
 -- ---- what the code's answers say of a line t
 
-abbrev pub numberAt : List ℕ → Taken → Option Numbered
-numberAt t (Taken.Is n next) = some (record { number = n; rest = fieldsAt t next })
-numberAt t Taken.Not = none
+abbrev pub numberAt : List ℕ → One → Option OneNumber
+numberAt t (One.Is n next) = some (record { number = n; rest = fieldsAt t next })
+numberAt t One.Not = none
 
 abbrev pub numbersAt : List ℕ → Four → Option Numbers
 numbersAt t (Four.Are a b c d next) = some (record { a = a; b = b; c = c; d = d; rest = fieldsAt t next })

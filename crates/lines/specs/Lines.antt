@@ -1,6 +1,6 @@
 -- What a line of the rehearsal says. 01, "The rehearsal": "Letters in the order above, without SHOW: B, G, F, Q, S, D, V, X (DONE), U, E, T; `C s k v` is a register write; `A r w` (no time) starts."
 -- Whether an A line comes first and once is not decided here.
-use Prim.Native.Nat.{ℕ}
+use Prim.Native.Nat.{ℕ, _-_}
 use mathlib.Core.Bool.{true}
 use mathlib.Core.Path.{_≡_}
 use mathlib.Core.List.{List, [], _∷_}
@@ -9,6 +9,8 @@ use lib.ListN.{length}
 use lib.Dec.{eqb, ltb}
 use Rattle.lent.specs.Bytes.{splice}
 use Rattle.lent.specs.Tables.{if_then_else_}
+use Rattle.machine.specs.Sizes.{keyCount}
+pub use Rattle.machine.specs.Sizes.{valueMax}
 use Rattle.lines.specs.Fields.{lineMax, valueRoom, Field, fields, _>>=_, number, numbers, Lettered, letter, lastValue}
 use Rattle.lines.specs.declared.Line.{Line}
 use Rattle.lines.specs.declared.Shape.{Shape}
@@ -19,17 +21,17 @@ pub record Read : Type 0 where
   pub value : List ℕ
 
 -- a line that carries no value
-abbrev pub said : Line → Read
-said l = record { line = l; value = [] }
+abbrev pub unvalued : Line → Read
+unvalued l = record { line = l; value = [] }
 
 abbrev pub orUnreadable : Option Read → Read
 orUnreadable (some r) = r
-orUnreadable none = said Line.Unreadable
+orUnreadable none = unvalued Line.Unreadable
 
 -- r, if no field is left
-abbrev pub ended : List Field → Read → Option Read
-ended [] r = some r
-ended (f ∷ fs) r = none
+abbrev pub atEnd : List Field → Read → Option Read
+atEnd [] r = some r
+atEnd (f ∷ fs) r = none
 
 -- a letter's command, by its place in the document's list, how many numbers follow it, and whether a value does
 unfoldable pub shapeOf : ℕ → Shape
@@ -50,7 +52,7 @@ shapeOf l =
 -- what follows a command's letter: its numbers, the value if it has one, and nothing else
 unfoldable pub commandLine : ℕ → Shape → List Field → Option Read
 commandLine time (Shape.Plain place k) fs =
-    numbers k fs >>= λ n. ended (n .rest) (said (Line.Command place time (n .a) (n .b) (n .c) (n .d) 0))
+    numbers k fs >>= λ n. atEnd (n .rest) (unvalued (Line.Command place time (n .a) (n .b) (n .c) (n .d) 0))
 commandLine time (Shape.Valued place k) fs =
     numbers k fs >>= λ n.
     lastValue valueRoom (n .rest) >>= λ v.
@@ -64,16 +66,13 @@ startLetter = 65
 abbrev pub writeLetter : ℕ
 writeLetter = 67
 
--- the largest key, and the most bytes of a value that the register holds
+-- the largest key
 abbrev pub keyMax : ℕ
-keyMax = 255
-
-abbrev pub valueMax : ℕ
-valueMax = 64
+keyMax = keyCount - 1
 
 -- `A r w`, behind the letter
 unfoldable pub startLine : List Field → Option Read
-startLine fs = numbers 2 fs >>= λ n. ended (n .rest) (said (Line.Start (n .a) (n .b)))
+startLine fs = numbers 2 fs >>= λ n. atEnd (n .rest) (unvalued (Line.Start (n .a) (n .b)))
 
 -- `C s k v`, behind the letter
 unfoldable pub writeLine : List Field → Option Read
@@ -96,7 +95,7 @@ lineBy none fs = timedLine fs
 
 unfoldable pub readLine : List ℕ → Read
 readLine t =
-    if ltb lineMax (length t) then said Line.Unreadable
+    if ltb lineMax (length t) then unvalued Line.Unreadable
     else orUnreadable (lineBy (letter (fields t)) (fields t))
 
 -- the answer is the line, and the buffer has the value at its front

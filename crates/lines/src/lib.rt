@@ -3,9 +3,9 @@ ghost use mathlib.Core.Path.{_≡_};
 ghost use Prim.Native.Nat.{_≤_};
 ghost use lib.ListN.{length};
 ghost use Rattle.lent.specs.Bytes.{splice};
-ghost use Rattle.hex.specs.Hex.{answered, held};
+ghost use Rattle.hex.specs.Hex.{lengthRead, valueRead};
 ghost use Rattle.lines.specs.Fields.{lineMax, valueRoom, fieldsAt, Ends, readNumber, number, numberAt, numbers, numbersAt, letter, letterAt, lastValue};
-ghost use Rattle.lines.specs.Lines.{said, orUnreadable, shapeOf, commandLine, startLine, writeLine, timedLine, readLine, Gives};
+ghost use Rattle.lines.specs.Lines.{unvalued, orUnreadable, shapeOf, commandLine, startLine, writeLine, timedLine, readLine, Gives};
 use counts::Count;
 use hex::Hex;
 
@@ -34,7 +34,7 @@ pub enum Line {
 }
 
 // A number, and the place of the next field.
-enum Taken {
+enum One {
     Is(u64, usize),
     Not,
 }
@@ -72,10 +72,8 @@ const START: u8 = b'A';
 
 const WRITE: u8 = b'C';
 
-// What the register holds.
-const KEY_MAX: u64 = 255;
-
-const VALUE_MAX: usize = 64;
+// The largest key.
+const KEY_MAX: u64 = layout::KEY_COUNT as u64 - 1;
 
 // Where the field that starts at a place ends: at the next space, or with the line.
 fn field_end(line: &[u8], at: usize) -> usize
@@ -106,21 +104,21 @@ fn count(text: &[u8]) -> Count
 }
 
 // The field at a place as a number, where one is wanted.
-fn number_at(line: &[u8], at: usize, wanted: bool) -> Taken
+fn number_at(line: &[u8], at: usize, wanted: bool) -> One
     requires { ⌜ length (now line) ≤ lineMax ⌝ }
     ensures { λ r. ⌜ number wanted (fieldsAt (now (line .entry)) at) ≡ numberAt (now (line .entry)) r ⌝ }
 {
     if !wanted {
-        return Taken::Is(0, at);
+        return One::Is(0, at);
     }
     if line.len() < at {
-        return Taken::Not;
+        return One::Not;
     }
     let e = field_end(line, at);
     let Count::Is(n) = count(&line[at..e]) else {
-        return Taken::Not;
+        return One::Not;
     };
-    Taken::Is(n, e + 1)
+    One::Is(n, e + 1)
 }
 
 // The k fields from a place on as numbers, at most four.
@@ -128,16 +126,16 @@ fn numbers(line: &[u8], at: usize, k: u64) -> Four
     requires { ⌜ length (now line) ≤ lineMax ⌝ }
     ensures { λ r. ⌜ numbers k (fieldsAt (now (line .entry)) at) ≡ numbersAt (now (line .entry)) r ⌝ }
 {
-    let Taken::Is(a, second) = number_at(line, at, 0 < k) else {
+    let One::Is(a, second) = number_at(line, at, 0 < k) else {
         return Four::Not;
     };
-    let Taken::Is(b, third) = number_at(line, second, 1 < k) else {
+    let One::Is(b, third) = number_at(line, second, 1 < k) else {
         return Four::Not;
     };
-    let Taken::Is(c, fourth) = number_at(line, third, 2 < k) else {
+    let One::Is(c, fourth) = number_at(line, third, 2 < k) else {
         return Four::Not;
     };
-    let Taken::Is(d, next) = number_at(line, fourth, 3 < k) else {
+    let One::Is(d, next) = number_at(line, fourth, 3 < k) else {
         return Four::Not;
     };
     Four::Are(a, b, c, d, next)
@@ -161,7 +159,7 @@ fn letter_at(line: &[u8], at: usize) -> Letter
 // The last field, at a place, as a value of at most `most` bytes.
 fn last_value(line: &[u8], at: usize, most: usize, value: &mut [u8]) -> Hex
     requires { ⌜ (length (now line) ≤ lineMax) × (valueRoom ≤ length (now value)) ⌝ }
-    ensures { λ r. ⌜ (r ≡ answered (lastValue most (fieldsAt (now (line .entry)) at))) × (now (value .exit) ≡ splice (now (value .entry)) 0 (held (lastValue most (fieldsAt (now (line .entry)) at)))) ⌝ }
+    ensures { λ r. ⌜ (r ≡ lengthRead (lastValue most (fieldsAt (now (line .entry)) at))) × (now (value .exit) ≡ splice (now (value .entry)) 0 (valueRead (lastValue most (fieldsAt (now (line .entry)) at)))) ⌝ }
 {
     if line.len() < at {
         return Hex::Not;
@@ -201,7 +199,7 @@ fn shape_of(letter: u8) -> Shape
 // A command without a value: its k numbers from a place on and nothing else.
 fn plain(line: &[u8], at: usize, time: u64, place: u64, k: u64) -> Line
     requires { ⌜ length (now line) ≤ lineMax ⌝ }
-    ensures { λ r. ⌜ orUnreadable (commandLine time (Shape.Plain place k) (fieldsAt (now (line .entry)) at)) ≡ said r ⌝ }
+    ensures { λ r. ⌜ orUnreadable (commandLine time (Shape.Plain place k) (fieldsAt (now (line .entry)) at)) ≡ unvalued r ⌝ }
 {
     let Four::Are(a, b, c, d, next) = numbers(line, at, k) else {
         return Line::Unreadable;
@@ -258,7 +256,7 @@ fn command(line: &[u8], at: usize, time: u64, letter: u8, value: &mut [u8]) -> L
 // A start: what follows its letter from a place on.
 fn start(line: &[u8], at: usize) -> Line
     requires { ⌜ length (now line) ≤ lineMax ⌝ }
-    ensures { λ r. ⌜ orUnreadable (startLine (fieldsAt (now (line .entry)) at)) ≡ said r ⌝ }
+    ensures { λ r. ⌜ orUnreadable (startLine (fieldsAt (now (line .entry)) at)) ≡ unvalued r ⌝ }
 {
     let Four::Are(read, write, _, _, next) = numbers(line, at, 2) else {
         return Line::Unreadable;
@@ -280,7 +278,7 @@ fn register_write(line: &[u8], at: usize, value: &mut [u8]) -> Line
     if KEY_MAX < key {
         return Line::Unreadable;
     }
-    let Hex::Is(length) = last_value(line, next, VALUE_MAX, value) else {
+    let Hex::Is(length) = last_value(line, next, layout::VALUE_MAX, value) else {
         return Line::Unreadable;
     };
     Line::Write {
@@ -295,7 +293,7 @@ fn timed(line: &[u8], value: &mut [u8]) -> Line
     requires { ⌜ (length (now line) ≤ lineMax) × (valueRoom ≤ length (now value)) ⌝ }
     ensures { λ r. ⌜ Gives (orUnreadable (timedLine (fieldsAt (now (line .entry)) 0))) r (now (value .entry)) (now (value .exit)) ⌝ }
 {
-    let Taken::Is(time, second) = number_at(line, 0, true) else {
+    let One::Is(time, second) = number_at(line, 0, true) else {
         return Line::Unreadable;
     };
     let Letter::Is(letter, third) = letter_at(line, second) else {

@@ -16,8 +16,7 @@ use Rattle.lent.proofs.Walks.{all-every, some-at, some-is}
 use Rattle.machine.specs.Sizes.{keyCount, sessionCount, rowCount, valueMax, stepMax, lifeMax, timeMax, numberMax}
 use Rattle.machine.specs.Words.{within, isKind, INVALIDATE, REFRESH, INCREMENTAL}
 use Rattle.machine.specs.State.{Value, Head, Lease, Key, blank, Slot, noSession, session, Staged, nothing, staged, DROP, Row, noRow, row, State, keyOf, sessionAt, rowAt, leaseOn}
-use Rattle.machine.specs.Sound.{clockSound, lifetime, nextSound, headSound, valueSound, cachedSound, given, leaseSound, keySound, lifeSound, sessionSound, stagedSound, rowSound}
-use Rattle.machine.specs.Sound.{tokenIn, numberIn, numberAt, tokenAt, distinct, numbersDistinct, tokensDistinct, liveRow, rowsLive, once, rowsOnce, shares, rowsAlone, leaseless, rowsLeaseless, joined, sized, sound}
+use Rattle.machine.specs.Sound.{clockSound, lifetime, nextSound, headSound, valueSound, cachedSound, given, leaseSound, keySound, lifeSound, sessionSound, stagedSound, rowSound, tokenIn, numberIn, numberAt, tokenAt, distinct, numbersDistinct, tokensDistinct, liveRow, rowsLive, once, rowsOnce, shares, rowsAlone, leaseless, rowsLeaseless, joined, sized, sound}
 use Rattle.machine.specs.WellFormed.{Fine, Within, LeaseFits, SessionFits, StagedFits, RowFits, LiveAs, WellFormed}
 use Rattle.machine.specs.declared.Life.{Life}
 use Rattle.machine.specs.declared.Session.{Session}

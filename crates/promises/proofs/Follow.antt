@@ -55,7 +55,7 @@ kept-follows w (e ∷ es) x f h = (h .0, rw (next-follows w e (x .0) f) at (kept
 
 -- ---- the theorem
 
-bytes-before : (es fs : List Event) → AllBytes (es ++ fs) → AllBytes es
+pub bytes-before : (es fs : List Event) → AllBytes (es ++ fs) → AllBytes es
 bytes-before [] fs x = tt
 bytes-before (e ∷ es) fs x = (x .0, bytes-before es fs (x .1))
 

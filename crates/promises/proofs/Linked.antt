@@ -9,24 +9,21 @@ use Rattle.startup.specs.Start.{Reply, startOf}
 use Rattle.show.specs.Show.{showOf}
 use Rattle.numbered.specs.Commands.{commandOf, ranBy}
 use Rattle.exported.specs.Told.{version, Said, Replied, stretchTold}
+use Rattle.promises.specs.OneAnswer.{OneReply}
 use Rattle.promises.proofs.OneAnswer.{one-answer}
 
 pub one-said : (a : Answer) (r t : ℕ) (x y : List ℕ) → Said a r x → Said a t y → (r ≡ t) × (x ≡ y)
 one-said a r t x y p q = (one-answer _ r t (p .word) (q .word), one-answer _ x y (p .numbers) (q .numbers))
 
--- what is returned, what is told, and the buffer
-abbrev pub One : Reply → Type 0
-One f = (r t : ℕ) (x y b d : List ℕ) → Replied f r b x → Replied f t d y → (r ≡ t) × (x ≡ y) × (b ≡ d)
-
-pub one-replied : (f : Reply) → One f
+pub one-replied : (f : Reply) → OneReply f
 one-replied f r t x y b d p q =
     let s = one-said (f .answer) r t x y (p .said) (q .said) in
     (s .0, s .1, one-answer (f .bytes) b d (p .bytes) (q .bytes))
 
-pub one-linked-start : (b : List ℕ) (readLife writeLife : ℕ) → One (startOf b readLife writeLife)
+pub one-linked-start : (b : List ℕ) (readLife writeLife : ℕ) → OneReply (startOf b readLife writeLife)
 one-linked-start b readLife writeLife = one-replied (startOf b readLife writeLife)
 
-pub one-linked-run : (b : List ℕ) (time number i j k l : ℕ) (v : Value) → One (ranBy b time v (commandOf number i j k l))
+pub one-linked-run : (b : List ℕ) (time number i j k l : ℕ) (v : Value) → OneReply (ranBy b time v (commandOf number i j k l))
 one-linked-run b time number i j k l v = one-replied (ranBy b time v (commandOf number i j k l))
 
 pub one-linked-show : (b : List ℕ) (n k r t : ℕ) (x y : List ℕ) → Said (showOf b n k .answer) r x → Said (showOf b n k .answer) t y → (r ≡ t) × (x ≡ y)

@@ -15,13 +15,10 @@ use Rattle.show.specs.Show.{showOf}
 use Rattle.cache.specs.Run.{ran}
 use Rattle.numbered.specs.Commands.{ranBy}
 use Rattle.numbered.specs.declared.Numbered.{Numbered}
+use Rattle.promises.specs.OneAnswer.{Given}
 
 pub one-answer : {A : Type 0} (f x y : A) → x ≡ f → y ≡ f → x ≡ y
 one-answer f x y p q = p ∙ sym q
-
--- an answer and the buffer after it, as a contract gives them
-abbrev pub Given : Reply → Answer → List ℕ → Type 0
-Given f r x = (r ≡ f .answer) × (x ≡ f .bytes)
 
 pub one-reply : (f : Reply) (r t : Answer) (x y : List ℕ) → Given f r x → Given f t y → (r ≡ t) × (x ≡ y)
 one-reply f r t x y p q = (one-answer (f .answer) r t (p .0) (q .0), one-answer (f .bytes) x y (p .1) (q .1))

@@ -13,7 +13,7 @@ use Rattle.lent.specs.Bytes.{Bytes}
 use Rattle.lent.proofs.Choices.{case-of, clash}
 use Rattle.machine.specs.State.{Value}
 use Rattle.machine.specs.Sizes.{stateSize}
-use Rattle.machine.specs.Words.{wordOf}
+use Rattle.machine.specs.Words.{wordOf, STATE}
 use Rattle.machine.specs.Sound.{lifetime, sound}
 use Rattle.machine.specs.Step.{step}
 use Rattle.machine.specs.declared.Answer.{Answer}
@@ -33,7 +33,7 @@ module _ (b : List ℕ) (now : ℕ) (c : Command) (v : Value) where
   unfolding ran
   ran-formed f = rw f
 
-  pub ran-unformed : wellFormed b ≡ false → ran b now c v ≡ record { answer = Answer.Refused 1; bytes = b }
+  pub ran-unformed : wellFormed b ≡ false → ran b now c v ≡ record { answer = Answer.Refused STATE; bytes = b }
   unfolding ran
   ran-unformed f = rw f
 

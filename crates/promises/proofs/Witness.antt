@@ -1,6 +1,6 @@
 -- Demand 3 over bytes is not empty: on every buffer of 65,536 bytes START answers READY, and the run that the machine computes to keep the rules
 -- (`machine`, `Witness`) keeps them on the bytes, which follow the machine event by event.
-use mathlib.Core.Path.{_≡_, refl, sym, ap}
+use mathlib.Core.Path.{_≡_, refl, ap}
 use mathlib.Core.Bool.{Bool, true, false, _&&_}
 use mathlib.Core.List.{List, [], _∷_}
 use Prim.Native.Nat.{ℕ, zero, suc}

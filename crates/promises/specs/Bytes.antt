@@ -21,19 +21,19 @@ abbrev pub worldOf : ByteWorld → World
 worldOf w = record { state = decode (w .bytes); register = w .register; began = w .began; since = w .since; wrote = w .wrote }
 
 -- a buffer in place of a world's cache
-abbrev pub held : List ℕ → World → ByteWorld
-held b w = record { bytes = b; register = w .register; began = w .began; since = w .since; wrote = w .wrote }
+abbrev pub onBytes : List ℕ → World → ByteWorld
+onBytes b w = record { bytes = b; register = w .register; began = w .began; since = w .since; wrote = w .wrote }
 
 -- a buffer beside the register, which is empty at first
 abbrev pub begunOn : List ℕ → ByteWorld
 begunOn b = record { bytes = b; register = λ k. []; began = λ k. []; since = λ t k. []; wrote = λ n. false }
 
-abbrev pub replied : ByteWorld → Reply → ByteWorld
-replied w r = held (r .bytes) (commanded (worldOf w) (record { answer = r .answer; handed = []; after = decode (r .bytes) }))
+abbrev pub afterReply : ByteWorld → Reply → ByteWorld
+afterReply w r = onBytes (r .bytes) (commanded (worldOf w) (record { answer = r .answer; handed = []; after = decode (r .bytes) }))
 
 abbrev pub nextBytes : ByteWorld → Event → ByteWorld
-nextBytes w (command now c v) = replied w (ran (w .bytes) now c v)
-nextBytes w (write n k v) = held (w .bytes) (written (worldOf w) n k v)
+nextBytes w (command now c v) = afterReply w (ran (w .bytes) now c v)
+nextBytes w (write n k v) = onBytes (w .bytes) (written (worldOf w) n k v)
 
 abbrev pub runBytes : ByteWorld → List Event → ByteWorld
 runBytes w [] = w

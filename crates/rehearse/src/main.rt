@@ -10,13 +10,13 @@ ghost use mathlib.Core.Path.{_≡_};
 ghost use Prim.Native.Nat.{_+_, _≤_};
 ghost use lib.ListN.{length};
 ghost use Rattle.feed.specs.Lines.{heldMax};
-ghost use Rattle.script.specs.Buffers.{textMax, worldOf, opened, Holds};
+ghost use Rattle.book.specs.Memory.{memoryOf};
+ghost use Rattle.replies.specs.Replies.{lineRoom};
+ghost use Rattle.script.specs.Buffers.{opened, HeldFits};
 ghost use Rattle.rehearse.specs.Turns.{Poured, Turned, Rehearsed};
 use libc::STDERR_FILENO;
 use libc::STDIN_FILENO;
 use libc::STDOUT_FILENO;
-
-const CACHE: usize = 65536;
 
 const CHUNK: usize = 32768;
 
@@ -38,7 +38,7 @@ fn pour(
     chunk: &[u8],
     out: &mut [u8],
 ) -> Went
-    requires { ⌜ (textMax ≤ length (now out)) × Holds (now line) held ⌝ }
+    requires { ⌜ (lineRoom ≤ length (now out)) × HeldFits (now line) held ⌝ }
     ensures { λ r. ⌜ Poured (opened (now (cache .entry)) (now (book .entry)) (now (line .entry)) held) (now (chunk .entry)) (opened (now (cache .exit)) (now (book .exit)) (now (line .exit))) r ⌝ }
 {
     let mut held = held;
@@ -64,7 +64,7 @@ fn turn(
     chunk: &mut [u8],
     out: &mut [u8],
 ) -> Went
-    requires { ⌜ (textMax ≤ length (now out)) × Holds (now line) held ⌝ }
+    requires { ⌜ (lineRoom ≤ length (now out)) × HeldFits (now line) held ⌝ }
     ensures { λ r. ⌜ Turned (opened (now (cache .entry)) (now (book .entry)) (now (line .entry)) held) held (now (chunk .exit)) (opened (now (cache .exit)) (now (book .exit)) (now (line .exit))) r ⌝ }
 {
     let got = libc::read(STDIN_FILENO, chunk);
@@ -86,8 +86,8 @@ fn rehearse(
     chunk: &mut [u8],
     out: &mut [u8],
 ) -> bool
-    requires { ⌜ (textMax + textMax ≤ length (now out)) × (length (now line) ≡ heldMax) ⌝ }
-    ensures { λ r. ⌜ Rehearsed (worldOf (now (cache .entry)) (now (book .entry))) (worldOf (now (cache .exit)) (now (book .exit))) (now (out .exit)) r ⌝ }
+    requires { ⌜ (lineRoom + lineRoom ≤ length (now out)) × (length (now line) ≡ heldMax) ⌝ }
+    ensures { λ r. ⌜ Rehearsed (memoryOf (now (cache .entry)) (now (book .entry))) (memoryOf (now (cache .exit)) (now (book .exit))) (now (out .exit)) r ⌝ }
 {
     let mut held = 0;
     let mut turns = u64::MAX;
@@ -111,7 +111,7 @@ fn rehearse(
 }
 
 fn main() {
-    let mut cache = [0u8; CACHE];
+    let mut cache = [0u8; layout::STATE_SIZE];
     let mut book = [0u8; book::BOOK_SIZE];
     let mut line = [0u8; feed::HELD_MAX];
     let mut chunk = [0u8; CHUNK];

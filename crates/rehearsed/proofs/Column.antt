@@ -14,7 +14,7 @@ use Rattle.lent.specs.Tables.{same, allZero}
 use Rattle.lent.proofs.Choices.{clash}
 use Rattle.machine.specs.Sizes.{keyCount, sessionCount}
 use Rattle.machine.specs.Tables.{any}
-use Rattle.machine.specs.Words.{wordOf}
+use Rattle.machine.specs.Words.{wordOf, STORED, DONE, UNDONE}
 use Rattle.machine.specs.State.{Value, Key, blank, noSession, State, fresh, sessionPlace}
 use Rattle.machine.specs.Sound.{sound}
 use Rattle.machine.specs.Refusals.{notLive}
@@ -37,28 +37,30 @@ use Rattle.layout.proofs.Formed.{formed}
 use Rattle.startup.specs.Start.{Reply, startOf}
 use Rattle.startup.proofs.Sound.{ready-formed, ready-decodes}
 use Rattle.cache.specs.Run.{ran}
+use Rattle.promises.proofs.Follow.{bytes-before}
 use Rattle.promises.proofs.Ran.{ran-formed, formed-kept, decode-ran}
+use Rattle.book.specs.Memory.{Memory}
 use Rattle.book.specs.Book.{bookSize, registered, granted, mark, withStarted, counted}
 use Rattle.book.proofs.Laws
 use Rattle.risks.specs.Risks.{wroteFor, staleFor}
 use Rattle.rules.specs.Rules.{begins, ruleOf, commands}
 use Rattle.writes.specs.Writes.{mayWrite, marked, writes}
 use Rattle.rehearsed.specs.TwoValues.{oldest, brokenTwo, verdictsTwo, AllKeptTwo}
-use Rattle.rehearsed.specs.Column.{Pair, ruleAt, after, through, column, startedPair, NewBook, Readable, AllReadable, Promised}
+use Rattle.rehearsed.specs.Column.{ruleAt, after, through, column, startedMemory, NewBook, Readable, AllReadable, Promised}
 use Rattle.rehearsed.proofs.Moves.{moves-step}
 use Rattle.rehearsed.proofs.TwoValues.{oldest-any, stored-lease, under, allKeptTwo-of, allKeptTwo-unbroken, allKept-two}
 use Rattle.rehearsed.proofs.Outlived.{done-live, undone-live, was-live, differs-expired, any-differs-as}
 use Rattle.rehearsed.proofs.Recorded.{Recorded, recorded-counted, recorded-commanded, recorded-written}
 
 -- the cache's bytes and the book beside a world of the machine
-pub record Tied (p : Pair) (w : World) : Type 0 where
+pub record Tied (p : Memory) (w : World) : Type 0 where
   pub formed : wellFormed (p .cache) ≡ true
   pub says : decode (p .cache) ≡ w .state
   pub records : Recorded (p .book) w
 
 -- One line
 
-module _ (p : Pair) (w : World) (h : Tied p w) where
+module _ (p : Memory) (w : World) (h : Tied p w) where
   pub tied-sound : sound (w .state) ≡ true
   tied-sound = sym (ap sound (h .says)) ∙ formed (p .cache) (h .formed) .sound
 
@@ -66,7 +68,7 @@ module _ (p : Pair) (w : World) (h : Tied p w) where
   ran-answer now c v = ap (λ (r : Reply). r .answer) (ran-formed (p .cache) now c v (h .formed)) ∙ ap (λ (s : State). step s now c v .answer) (h .says)
 
   -- rule 1: the values registered and noted are the two
-  two-as : (now t k : ℕ) (v : Value) → eqb (wordOf (step (w .state) now (Fill t k) v .answer)) 7 ≡ true
+  two-as : (now t k : ℕ) (v : Value) → eqb (wordOf (step (w .state) now (Fill t k) v .answer)) STORED ≡ true
       → not (same v (registered (p .book) k) || same v (granted (p .book) k)) ≡ not (same v (w .register k) || (same v (oldest (w .register k) (w .since t k)) || false))
   two-as now t k v e =
       let x = stored-lease (w .state) now t k v e in
@@ -90,13 +92,13 @@ module _ (p : Pair) (w : World) (h : Tied p w) where
   rule-of : (now : ℕ) (c : Command) (v : Value) → ruleOf (p .cache) (p .book) c v (wordOf (step (w .state) now c v .answer)) ≡ brokenTwo w (command now c v)
   rule-of now Begin v = refl
   rule-of now (Get n k) v = refl
-  rule-of now (Fill t k) v = under (eqb (wordOf (step (w .state) now (Fill t k) v .answer)) 7) _ _ 1 (two-as now t k v)
+  rule-of now (Fill t k) v = under (eqb (wordOf (step (w .state) now (Fill t k) v .answer)) STORED) _ _ 1 (two-as now t k v)
   rule-of now (Quar n k d) v = refl
   rule-of now (Stage n i k) v = refl
   rule-of now (Delta n i k o) v = refl
   rule-of now (Validate n m) v = refl
-  rule-of now (Done n) v = under (eqb (wordOf (step (w .state) now (Done n) v .answer)) 17) (staleFor (p .cache) (p .book) n) _ 4 (λ e. stale-as now n (done-live (w .state) now n v e))
-  rule-of now (Undo n) v = under (eqb (wordOf (step (w .state) now (Undo n) v .answer)) 18) (wroteFor (p .cache) (p .book) n) _ 3 (λ e. wrote-as n (was-live now (w .state) n (undone-live (w .state) now n v e)))
+  rule-of now (Done n) v = under (eqb (wordOf (step (w .state) now (Done n) v .answer)) DONE) (staleFor (p .cache) (p .book) n) _ 4 (λ e. stale-as now n (done-live (w .state) now n v e))
+  rule-of now (Undo n) v = under (eqb (wordOf (step (w .state) now (Undo n) v .answer)) UNDONE) (wroteFor (p .cache) (p .book) n) _ 3 (λ e. wrote-as n (was-live now (w .state) n (undone-live (w .state) now n v e)))
   rule-of now (Evict k) v = refl
   rule-of now Tick v = refl
 
@@ -123,24 +125,20 @@ module _ (p : Pair) (w : World) (h : Tied p w) where
   }
 
 -- a line that is only counted, as one that is UNREADABLE
-pub tied-counted : (p : Pair) (w : World) (rule : ℕ) → Tied p w → Tied (record { cache = p .cache; book = counted (p .book) rule }) w
+pub tied-counted : (p : Memory) (w : World) (rule : ℕ) → Tied p w → Tied (record { cache = p .cache; book = counted (p .book) rule }) w
 tied-counted p w rule h = record { formed = h .formed; says = h .says; records = recorded-counted (p .book) w rule (h .records) }
 
 -- Every run
 
-pub tied-run : (p : Pair) (w : World) → Tied p w → (es : List Event) → AllBytes es → AllReadable es → Tied (through p es) (run w es)
+pub tied-run : (p : Memory) (w : World) → Tied p w → (es : List Event) → AllBytes es → AllReadable es → Tied (through p es) (run w es)
 tied-run p w h [] x y = h
 tied-run p w h (e ∷ es) x y = tied-run (after p e) (next w e) (tied-next p w h e (x .0) (y .0)) es (x .1) (y .1)
 
-pub column-as : (p : Pair) (w : World) → Tied p w → (es : List Event) → AllBytes es → AllReadable es → column p es ≡ verdictsTwo w es
+pub column-as : (p : Memory) (w : World) → Tied p w → (es : List Event) → AllBytes es → AllReadable es → column p es ≡ verdictsTwo w es
 column-as p w h [] x y = refl
 column-as p w h (e ∷ es) x y =
     ap (λ (n : ℕ). n ∷ column (after p e) es) (rule-as p w h e)
     ∙ ap (λ (l : List ℕ). brokenTwo w e ∷ l) (column-as (after p e) (next w e) (tied-next p w h e (x .0) (y .0)) es (x .1) (y .1))
-
-bytes-before : (es fs : List Event) → AllBytes (es ++ fs) → AllBytes es
-bytes-before [] fs x = tt
-bytes-before (e ∷ es) fs x = (x .0, bytes-before es fs (x .1))
 
 readable-before : (es fs : List Event) → AllReadable (es ++ fs) → AllReadable es
 readable-before [] fs x = tt
@@ -178,8 +176,8 @@ recorded-new b readLife writeLife h = record {
 }
 
 module _ (x b : List ℕ) (readLife writeLife : ℕ) (ready : startOf x readLife writeLife .answer ≡ Answer.Ready) (new : NewBook b) where
-  abbrev p₀ : Pair
-  p₀ = startedPair x b readLife writeLife
+  abbrev p₀ : Memory
+  p₀ = startedMemory x b readLife writeLife
 
   abbrev w₀ : World
   w₀ = freshWorld readLife writeLife

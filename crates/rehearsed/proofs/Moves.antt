@@ -11,7 +11,7 @@ use lib.Dec.{eqb, ltb}
 use lib.ListN.{getD, set}
 use Rattle.lent.proofs.Choices.{if-ind}
 use Rattle.machine.specs.Tables.{place, isNone}
-use Rattle.machine.specs.Words.{wordOf}
+use Rattle.machine.specs.Words.{wordOf, LEASE}
 use Rattle.machine.specs.Session.{opened, advanced, sealed, isDue}
 use Rattle.machine.specs.Decision.{grants}
 use Rattle.machine.specs.State.{Value, Lease, Key, blank, noSession, session, Staged, nothing, staged, DROP, State, free, freeRow, kindOf, stagedIn, rowOf, cached, leaseOn, sessionAt}
@@ -29,7 +29,7 @@ use Rattle.machine.proofs.Frames.{expire-lease, staged-quiet}
 
 -- the leases of t: no answer grants one and each was there, or a GET was answered with the next token on its key and each other was there
 pub data Leases (s : State) (c : Command) (a : Answer) (t : State) : Type 0 where
-  quiet : eqb (wordOf a) 6 ≡ false → ((k : ℕ) (l : Lease) → leaseOn t k ≡ some l → leaseOn s k ≡ some l) → Leases s c a t
+  quiet : eqb (wordOf a) LEASE ≡ false → ((k : ℕ) (l : Lease) → leaseOn t k ≡ some l → leaseOn s k ≡ some l) → Leases s c a t
   grant : (n k : ℕ) → c ≡ Get n k → a ≡ Answer.Lease (s .head .nextToken)
       → ((j : ℕ) (l : Lease) → leaseOn t j ≡ some l → ((k ≡ j → ⊥) × (leaseOn s j ≡ some l)) ⊎ ((k ≡ j) × (l .token ≡ s .head .nextToken))) → Leases s c a t
 
@@ -44,33 +44,33 @@ pub record Moves (s : State) (c : Command) (r : Outcome) : Type 0 where
 
 module _ (s : State) (c : Command) where
   -- nothing changes
-  still : (a : Answer) (v : Value) → eqb (wordOf a) 6 ≡ false → Moves s c (record { answer = a; handed = v; after = s })
-  still a v q = record { leases = quiet q (λ k l e. e); places = λ i x e. inr (x, e, refl); grows = omega arith }
+  moves-still : (a : Answer) (v : Value) → eqb (wordOf a) LEASE ≡ false → Moves s c (record { answer = a; handed = v; after = s })
+  moves-still a v q = record { leases = quiet q (λ k l e. e); places = λ i x e. inr (x, e, refl); grows = omega arith }
 
   -- values change, and leases go
-  keyed : (a : Answer) (ks : List Key) → eqb (wordOf a) 6 ≡ false → ((k : ℕ) (l : Lease) → getD ks k blank .lease ≡ some l → leaseOn s k ≡ some l) → Moves s c (told a (withKeys s ks))
-  keyed a ks q f = record { leases = quiet q f; places = λ i x e. inr (x, e, refl); grows = omega arith }
+  moves-keyed : (a : Answer) (ks : List Key) → eqb (wordOf a) LEASE ≡ false → ((k : ℕ) (l : Lease) → getD ks k blank .lease ≡ some l → leaseOn s k ≡ some l) → Moves s c (told a (withKeys s ks))
+  moves-keyed a ks q f = record { leases = quiet q f; places = λ i x e. inr (x, e, refl); grows = omega arith }
 
   -- sessions end
-  ends : (a : Answer) (ns : List ℕ) (ks : List Key) → eqb (wordOf a) 6 ≡ false → ((k : ℕ) (l : Lease) → getD ks k blank .lease ≡ some l → leaseOn s k ≡ some l) → Moves s c (told a (leave ns (withKeys s ks)))
+  moves-ended : (a : Answer) (ns : List ℕ) (ks : List Key) → eqb (wordOf a) LEASE ≡ false → ((k : ℕ) (l : Lease) → getD ks k blank .lease ≡ some l → leaseOn s k ≡ some l) → Moves s c (told a (leave ns (withKeys s ks)))
   unfolding leave
-  ends a ns ks q f = record { leases = quiet q f; places = λ i x e. inr (x, Orderly.was-session ns (s .sessions) i x e .0, refl); grows = omega arith }
+  moves-ended a ns ks q f = record { leases = quiet q f; places = λ i x e. inr (x, Orderly.was-session ns (s .sessions) i x e .0, refl); grows = omega arith }
 
-  leaves : (a : Answer) (n : ℕ) → eqb (wordOf a) 6 ≡ false → Moves s c (told a (leave (n ∷ []) s))
-  leaves a n q = ends a (n ∷ []) (s .keys) q (λ k l e. e)
+  moves-left : (a : Answer) (n : ℕ) → eqb (wordOf a) LEASE ≡ false → Moves s c (told a (leave (n ∷ []) s))
+  moves-left a n q = moves-ended a (n ∷ []) (s .keys) q (λ k l e. e)
 
-  finishes : (n : ℕ) → Moves s c (told Answer.Done (finish (n ∷ []) toCache s))
+  moves-finished : (n : ℕ) → Moves s c (told Answer.Done (finish (n ∷ []) toCache s))
   unfolding finish
-  finishes n = ends Answer.Done (n ∷ []) (settle (n ∷ []) toCache (s .rows) (s .keys)) refl (λ k l e. sym (Views.settle-lease (n ∷ []) toCache k (s .rows) (s .keys)) ∙ e)
+  moves-finished n = moves-ended Answer.Done (n ∷ []) (settle (n ∷ []) toCache (s .rows) (s .keys)) refl (λ k l e. sym (Views.settle-lease (n ∷ []) toCache k (s .rows) (s .keys)) ∙ e)
 
   -- one session is put through f, which keeps its number
   stood-slot : (n : ℕ) (f : Session → Session) → ((m : Session) → f m .number ≡ m .number) → (i : ℕ) (x : Session) → sessionAt (withSession s n f) i ≡ session x → Stood s i x
   stood-slot n f same i x e = let r = Orderly.was-slot s n f i x e in
       inr (r .0, r .1, elim (r .2) [ inl p ↦ sym (ap (λ (y : Session). y .number) p) | inr p ↦ sym (ap (λ (y : Session). y .number) (p .1) ∙ same (r .0)) ])
 
-  new-session : (now : ℕ) → Moves s c (begins s now)
+  moves-begun : (now : ℕ) → Moves s c (begins s now)
   unfolding begins
-  new-session now = record {
+  moves-begun now = record {
     leases = quiet refl (λ k l e. e);
     places = λ i x e. elim (Orderly.was-set (s .sessions) (place free (s .sessions)) (session (opened (s .head .nextSession) (now + s .head .writeLife))) i noSession (session x) (Views.no-session x) e) [
       | inl p ↦ inr (x, p, refl)
@@ -79,25 +79,25 @@ module _ (s : State) (c : Command) where
     grows = omega arith;
   }
 
-  stages-row : (n k : ℕ) (u : Staged) → Moves s c (told (stagedAnswer u) (withStaged (withSession s n advanced) n k u))
-  stages-row n k u = record { leases = quiet (staged-quiet u) (λ j l e. e); places = stood-slot n advanced (λ m. refl); grows = omega arith }
+  moves-staged : (n k : ℕ) (u : Staged) → Moves s c (told (stagedAnswer u) (withStaged (withSession s n advanced) n k u))
+  moves-staged n k u = record { leases = quiet (staged-quiet u) (λ j l e. e); places = stood-slot n advanced (λ m. refl); grows = omega arith }
 
-  seals : (n : ℕ) → Moves s c (told Answer.Validated (withSession s n sealed))
-  seals n = record { leases = quiet refl (λ j l e. e); places = stood-slot n sealed (λ m. refl); grows = omega arith }
+  moves-sealed : (n : ℕ) → Moves s c (told Answer.Validated (withSession s n sealed))
+  moves-sealed n = record { leases = quiet refl (λ j l e. e); places = stood-slot n sealed (λ m. refl); grows = omega arith }
 
-  staging : (n i k : ℕ) (u : Staged) → Moves s c (stages s n i k u)
+  moves-staging : (n i k : ℕ) (u : Staged) → Moves s c (stages s n i k u)
   unfolding stages
-  staging n i k u = if-ind (Moves s c) (ltb i (countOf s n)) (λ p. still Answer.Repeated [] refl) (λ p. stages-row n k u)
+  moves-staging n i k u = if-ind (Moves s c) (ltb i (countOf s n)) (λ p. moves-still Answer.Repeated [] refl) (λ p. moves-staged n k u)
 
-  asked : (n k kind : ℕ) → Moves s c (asks s n k kind)
+  moves-asked : (n k kind : ℕ) → Moves s c (asks s n k kind)
   unfolding asks
-  asked n k kind = if-ind (Moves s c) (grants (decide s k kind))
-      (λ e. record { leases = quiet refl (λ j l p. Orderly.voided-was s k j l p .1); places = λ i x p. inr (x, p, refl); grows = omega arith }) (λ e. leaves Answer.Aborted n refl)
+  moves-asked n k kind = if-ind (Moves s c) (grants (decide s k kind))
+      (λ e. record { leases = quiet refl (λ j l p. Orderly.voided-was s k j l p .1); places = λ i x p. inr (x, p, refl); grows = omega arith }) (λ e. moves-left Answer.Aborted n refl)
 
 -- GET answered LEASE
-leases-key : (s : State) (now n k : ℕ) → Moves s (Get n k) (leased s now k)
+moves-leased : (s : State) (now n k : ℕ) → Moves s (Get n k) (leased s now k)
 unfolding leased
-leases-key s now n k = record {
+moves-leased s now n k = record {
   leases = grant n k refl refl (λ j l e. there j l e (Views.lease-after (s .keys) k (some new) j));
   places = λ i x e. inr (x, e, refl);
   grows = omega arith;
@@ -118,28 +118,28 @@ leases-key s now n k = record {
       | inr y ↦ Views.no-some l (sym y ∙ e)
     ]
 
-looks : (s : State) (now n k : ℕ) (o : Option Sight) → Moves s (Get n k) (looked s now n k o)
+moves-looked : (s : State) (now n k : ℕ) (o : Option Sight) → Moves s (Get n k) (looked s now n k o)
 unfolding looked missed
-looks s now n k (some x) = still s (Get n k) (Answer.Hit (x .at) _) (x .value) refl
-looks s now n k none = if-ind (Moves s (Get n k)) (freeRow (rowOf s n k))
-    (λ e. if-ind (Moves s (Get n k)) (blocked s k) (λ b. still s (Get n k) (Answer.Backoff (wait s k now)) [] refl) (λ b. leases-key s now n k))
-    (λ e. still s (Get n k) Answer.Ask [] refl)
+moves-looked s now n k (some x) = moves-still s (Get n k) (Answer.Hit (x .at) _) (x .value) refl
+moves-looked s now n k none = if-ind (Moves s (Get n k)) (freeRow (rowOf s n k))
+    (λ e. if-ind (Moves s (Get n k)) (blocked s k) (λ b. moves-still s (Get n k) (Answer.Backoff (wait s k now)) [] refl) (λ b. moves-leased s now n k))
+    (λ e. moves-still s (Get n k) Answer.Ask [] refl)
 
 pub moves-effect : (s : State) (now : ℕ) (c : Command) (v : Value) → Moves s c (effect s now c v)
 unfolding effect fills
-moves-effect s now Begin v = new-session s Begin now
-moves-effect s now (Get n k) v = looks s now n k (sight s n k)
+moves-effect s now Begin v = moves-begun s Begin now
+moves-effect s now (Get n k) v = moves-looked s now n k (sight s n k)
 moves-effect s now (Fill t k) v = if-ind (Moves s (Fill t k)) (matches t (leaseOn s k))
-    (λ m. keyed s (Fill t k) Answer.Stored (set (s .keys) k (record { value = some v; lease = none })) refl (Orderly.filled-was s k v)) (λ m. still s (Fill t k) Answer.Ignored [] refl)
-moves-effect s now (Quar n k d) v = if-ind (Moves s (Quar n k d)) (eqb (kindOf (rowOf s n k)) d) (λ m. still s (Quar n k d) Answer.Held [] refl) (λ m. asked s (Quar n k d) n k d)
-moves-effect s now (Stage n i k) v = staging s (Stage n i k) n i k (staged v)
-moves-effect s now (Delta n i k o) v = staging s (Delta n i k o) n i k (changed o v (stagedIn (rowOf s n k)) (cached s k))
-moves-effect s now (Validate n m) v = if-ind (Moves s (Validate n m)) (eqb m (countOf s n)) (λ p. seals s (Validate n m) n) (λ p. leaves s (Validate n m) Answer.Lost n refl)
-moves-effect s now (Done n) v = finishes s (Done n) n
-moves-effect s now (Undo n) v = leaves s (Undo n) Answer.Undone n refl
-moves-effect s now (Evict k) v = if-ind (Moves s (Evict k)) (isNone (cached s k)) (λ p. still s (Evict k) Answer.Empty [] refl)
-    (λ p. keyed s (Evict k) Answer.Evicted (setValue (s .keys) k none) refl (λ j l e. sym (Views.value-lease (s .keys) k none j) ∙ e))
-moves-effect s now Tick v = still s Tick Answer.Ticked [] refl
+    (λ m. moves-keyed s (Fill t k) Answer.Stored (set (s .keys) k (record { value = some v; lease = none })) refl (Orderly.filled-was s k v)) (λ m. moves-still s (Fill t k) Answer.Ignored [] refl)
+moves-effect s now (Quar n k d) v = if-ind (Moves s (Quar n k d)) (eqb (kindOf (rowOf s n k)) d) (λ m. moves-still s (Quar n k d) Answer.Held [] refl) (λ m. moves-asked s (Quar n k d) n k d)
+moves-effect s now (Stage n i k) v = moves-staging s (Stage n i k) n i k (staged v)
+moves-effect s now (Delta n i k o) v = moves-staging s (Delta n i k o) n i k (changed o v (stagedIn (rowOf s n k)) (cached s k))
+moves-effect s now (Validate n m) v = if-ind (Moves s (Validate n m)) (eqb m (countOf s n)) (λ p. moves-sealed s (Validate n m) n) (λ p. moves-left s (Validate n m) Answer.Lost n refl)
+moves-effect s now (Done n) v = moves-finished s (Done n) n
+moves-effect s now (Undo n) v = moves-left s (Undo n) Answer.Undone n refl
+moves-effect s now (Evict k) v = if-ind (Moves s (Evict k)) (isNone (cached s k)) (λ p. moves-still s (Evict k) Answer.Empty [] refl)
+    (λ p. moves-keyed s (Evict k) Answer.Evicted (setValue (s .keys) k none) refl (λ j l e. sym (Views.value-lease (s .keys) k none j) ∙ e))
+moves-effect s now Tick v = moves-still s Tick Answer.Ticked [] refl
 
 -- Expiry before the effect, and the clock after it
 
@@ -161,7 +161,7 @@ moves-expired s now c r m = record {
 
 moves-settled : (s : State) (now : ℕ) (c : Command) (o : Option ℕ) (r : Outcome) → Moves s c r → Moves s c (settled s now o r)
 unfolding settled
-moves-settled s now c (some e) r m = still s c (Answer.Refused e) [] refl
+moves-settled s now c (some e) r m = moves-still s c (Answer.Refused e) [] refl
 moves-settled s now c none r m = record { leases = clocked (m .leases); places = m .places; grows = m .grows }
   where
     clocked : Leases s c (r .answer) (r .after) → Leases s c (r .answer) (withClock (r .after) now)

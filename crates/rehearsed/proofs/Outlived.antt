@@ -11,7 +11,7 @@ use lib.Dec.{eqb}
 use Rattle.lent.specs.Tables.{same}
 use Rattle.lent.proofs.Choices.{case-of, clash, if-ind}
 use Rattle.machine.specs.Tables.{any, mem}
-use Rattle.machine.specs.Words.{wordOf}
+use Rattle.machine.specs.Words.{wordOf, DONE, UNDONE}
 use Rattle.machine.specs.Session.{isDue}
 use Rattle.machine.specs.State.{Value, nothing, staged, DROP, Row, noRow, row, State, sessionPlace}
 use Rattle.machine.specs.Expiry.{freeIfOf, leave, finish, those, expire}
@@ -39,13 +39,13 @@ module _ (s : State) (now : ℕ) (c : Command) (v : Value) (word : ℕ) (some-wo
 
 module _ (s : State) (now n : ℕ) (v : Value) where
   -- DONE and UNDO are accepted of a session that is live after expiry
-  pub done-live : eqb (wordOf (step s now (Done n) v .answer)) 17 ≡ true → notLive (expire now s) n ≡ false
+  pub done-live : eqb (wordOf (step s now (Done n) v .answer)) DONE ≡ true → notLive (expire now s) n ≡ false
   unfolding refusals
-  done-live p = passed (expire now s) now (Done n) v (accepted s now (Done n) v 17 refl p) 1
+  done-live p = passed (expire now s) now (Done n) v (accepted s now (Done n) v DONE refl p) 1
 
-  pub undone-live : eqb (wordOf (step s now (Undo n) v .answer)) 18 ≡ true → notLive (expire now s) n ≡ false
+  pub undone-live : eqb (wordOf (step s now (Undo n) v .answer)) UNDONE ≡ true → notLive (expire now s) n ≡ false
   unfolding refusals
-  undone-live p = passed (expire now s) now (Undo n) v (accepted s now (Undo n) v 18 refl p) 1
+  undone-live p = passed (expire now s) now (Undo n) v (accepted s now (Undo n) v UNDONE refl p) 1
 
 module _ (now : ℕ) (s : State) (n : ℕ) (live : notLive (expire now s) n ≡ false) where
   pub was-live : notLive s n ≡ false

@@ -14,7 +14,7 @@ use lib.ListN.{length}
 use Rattle.lent.specs.Tables.{if_then_else_}
 use Rattle.lent.proofs.Choices.{case-of, clash}
 use Rattle.machine.specs.Sizes.{keyCount, sessionCount, valueMax}
-use Rattle.machine.specs.Words.{wordOf}
+use Rattle.machine.specs.Words.{wordOf, LEASE}
 use Rattle.machine.specs.State.{Value, Lease, Key, blank, noSession, session, State, numbered, sessionPlace, sessionOf, leaseOn, sessionAt}
 use Rattle.machine.specs.Sound.{sound}
 use Rattle.machine.specs.Refusals.{notLive}
@@ -64,7 +64,7 @@ recorded-counted b w rule h = record {
 
 -- A command: what it notes
 
-noted-quiet : (b : List ℕ) (c : Command) (word : ℕ) → eqb word 6 ≡ false → noted b c word ≡ b
+noted-quiet : (b : List ℕ) (c : Command) (word : ℕ) → eqb word LEASE ≡ false → noted b c word ≡ b
 noted-quiet b Begin word q = refl
 noted-quiet b (Get n k) word q = rw q
 noted-quiet b (Fill t k) word q = refl
@@ -97,10 +97,10 @@ module _ (b : List ℕ) (w : World) (h : Recorded b w) (o : Orderly (w .state)) 
       unwritten p (inr q) = q
 
   -- another book that differs only in what is noted of leases
-  commanded-by : (b′ : List ℕ) → length b′ ≡ bookSize → ((k : ℕ) → registered b′ k ≡ registered b k) → ((i : ℕ) → mark b′ i ≡ mark b i)
+  recorded-by : (b′ : List ℕ) → length b′ ≡ bookSize → ((k : ℕ) → registered b′ k ≡ registered b k) → ((i : ℕ) → mark b′ i ≡ mark b i)
       → ((k : ℕ) (l : Lease) → leaseOn (r .after) k ≡ some l → NotedAs (granted b′ k) (sinceGrant (w .register) (w .since) (r .answer) (l .token) k)) → Recorded b′ (commanded w r)
   unfolding commanded
-  commanded-by b′ e f g grants = record {
+  recorded-by b′ e f g grants = record {
     size = e;
     register = λ k. f k ∙ h .register k;
     grants = grants;
@@ -113,9 +113,9 @@ module _ (b : List ℕ) (w : World) (h : Recorded b w) (o : Orderly (w .state)) 
   recorded-commanded = go (m .leases)
     where
       go : Leases (w .state) c (r .answer) (r .after) → Recorded (noted b c (wordOf (r .answer))) (commanded w r)
-      go (quiet q f) = rw (noted-quiet b c (wordOf (r .answer)) q) (commanded-by b (h .size) (λ k. refl) (λ i. refl)
+      go (quiet q f) = rw (noted-quiet b c (wordOf (r .answer)) q) (recorded-by b (h .size) (λ k. refl) (λ i. refl)
           (λ k l e. rw (since-quiet (w .register) (w .since) (r .answer) (l .token) k q) (h .grants k l (f k l e))))
-      go (grant n k p q f) = rw (noted-grant b c n k (r .answer) (w .state .head .nextToken) p q) (commanded-by b′ (Laws.length-granted b (h .size) k (registered b k) short)
+      go (grant n k p q f) = rw (noted-grant b c n k (r .answer) (w .state .head .nextToken) p q) (recorded-by b′ (Laws.length-granted b (h .size) k (registered b k) short)
           (Laws.registered-granted b (h .size) k (registered b k) short) (Laws.mark-granted b (h .size) k (registered b k) short) (λ j l e. there j l e (f j l e)))
         where
           b′ : List ℕ
@@ -167,8 +167,8 @@ module _ (b : List ℕ) (w : World) (h : Recorded b w) (state-sound : sound (w .
     pub wrote : (m : ℕ) → wroteNow m ≡ true → m < w .state .head .nextSession
 
   -- no session of that number is live
-  dead : notLive (w .state) n ≡ true → Marked b
-  dead e = record {
+  marked-dead : notLive (w .state) n ≡ true → Marked b
+  marked-dead e = record {
     size = h .size;
     register = λ k. refl;
     grants = λ k. refl;
@@ -181,8 +181,8 @@ module _ (b : List ℕ) (w : World) (h : Recorded b w) (state-sound : sound (w .
       was m = rw (e, and-false (eqb m n))
 
   -- one is, and stands at its place
-  live : notLive (w .state) n ≡ false → Marked (withMark b (sessionPlace (w .state) n) n)
-  live e = record {
+  marked-live : notLive (w .state) n ≡ false → Marked (withMark b (sessionPlace (w .state) n) n)
+  marked-live e = record {
     size = Laws.length-marked b (h .size) at inside n;
     register = Laws.registered-marked b (h .size) at inside n;
     grants = Laws.granted-marked b (h .size) at inside n;
@@ -229,8 +229,8 @@ module _ (b : List ℕ) (w : World) (h : Recorded b w) (state-sound : sound (w .
 
   marked-is : Marked (markedAt b (w .state) n)
   marked-is = elim (case-of (notLive (w .state) n)) [
-    | inl e ↦ rw (place-dead (w .state) state-sound n e) (dead e)
-    | inr e ↦ rw (place-live (w .state) state-sound n e) (live e)
+    | inl e ↦ rw (place-dead (w .state) state-sound n e) (marked-dead e)
+    | inr e ↦ rw (place-live (w .state) state-sound n e) (marked-live e)
   ]
 
   pub recorded-written : (k : ℕ) (v : Value) → k < keyCount → length v ≤ valueMax → Recorded (withRegistered (markedAt b (w .state) n) k v) (written w n k v)

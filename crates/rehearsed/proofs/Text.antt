@@ -15,7 +15,7 @@ use Rattle.lent.specs.Bytes.{Bytes, zeros}
 use Rattle.lent.specs.Tables.{allZero}
 use Rattle.lent.proofs.Choices.{case-of, and-yes, if-ind}
 use Rattle.machine.specs.Sizes.{stateSize, sessionCount}
-use Rattle.machine.specs.Words.{wordOf}
+use Rattle.machine.specs.Words.{wordOf, LEASE, STATE, ARG}
 use Rattle.machine.specs.State.{Value, sessionPlace}
 use Rattle.machine.specs.Sound.{lifetime}
 use Rattle.machine.specs.World.{Event, command, write, World, freshWorld, next, run, EventBytes}
@@ -31,6 +31,7 @@ use Rattle.startup.proofs.Started.{started-size, started-read, started-write, s
 use Rattle.cache.specs.Run.{ran}
 use Rattle.numbered.specs.Commands.{commandOf}
 use Rattle.numbered.specs.declared.Numbered.{Numbered}
+use Rattle.book.specs.Memory.{Memory, memoryOf}
 use Rattle.book.specs.Book.{bookSize, started, withStarted, registered, counted}
 use Rattle.book.proofs.Laws
 use Rattle.rules.specs.Rules.{Said, unreadable, begins, noted, commands}
@@ -40,23 +41,23 @@ use Rattle.lines.specs.declared.Line.{Line}
 use Rattle.lines.proofs.Laws.{sizeOf, Ranged, line-sound}
 use Rattle.rehearsal.specs.Rehearsal.{numbered, acted, saidOf, turn}
 use Rattle.rehearsed.specs.TwoValues.{verdictsTwo}
-use Rattle.rehearsed.specs.Column.{Pair, saidOf as actOf, left, NewBook, Readable}
-use Rattle.rehearsed.specs.Text.{Text, textRule, textAfter, textThrough, textColumn, commandTold, told, eventOf, before, eventsIn, Run, beginning, worldOf, begunBy, runOf, ruleBy, ruleIn, RulesKept, PromisedIn}
+use Rattle.rehearsed.specs.Column.{actOf, left, NewBook, Readable}
+use Rattle.rehearsed.specs.Text.{Text, textRule, textAfter, textThrough, textColumn, commandTold, lineTold, eventOf, before, eventsIn, Run, beginning, worldAfter, begunBy, runOf, ruleBy, ruleIn, RulesKept, PromisedIn}
 use Rattle.rehearsed.proofs.TwoValues.{allKeptTwo-of, allKeptTwo-unbroken, allKept-two, two-allKept}
 use Rattle.rehearsed.proofs.Column.{Tied, rule-as, tied-next, tied-counted, tied-started, new-zeros, new-counted}
 
 -- What a line does
 
 -- an event's act, or nothing
-abbrev pub saidBy : Pair → Option Event → Said
+abbrev pub saidBy : Memory → Option Event → Said
 saidBy p none = unreadable (p .cache) (p .book)
 saidBy p (some e) = actOf p e
 
-numbered-told : (p : Pair) (time : ℕ) (c : Numbered) (v : Value) → numbered (p .cache) (p .book) time c v ≡ saidBy p (commandTold time c v)
+numbered-told : (p : Memory) (time : ℕ) (c : Numbered) (v : Value) → numbered (p .cache) (p .book) time c v ≡ saidBy p (commandTold time c v)
 numbered-told p time (Numbered.Is c) v = refl
 numbered-told p time Numbered.Unknown v = refl
 
-acted-told : (p : Pair) → started (p .book) ≡ true → (l : Line) (v : Value) → acted (p .cache) (p .book) l v ≡ saidBy p (told l v)
+acted-told : (p : Memory) → started (p .book) ≡ true → (l : Line) (v : Value) → acted (p .cache) (p .book) l v ≡ saidBy p (lineTold l v)
 unfolding acted
 acted-told p h Line.Unreadable v = refl
 acted-told p h (Line.Start readLife writeLife) v = rw h
@@ -86,7 +87,7 @@ first-unbroken x b (Line.Write n k size) = refl
 first-unbroken x b (Line.Command number time a₁ a₂ a₃ a₄ size) = refl
 
 -- a line as it is read
-module _ (p : Pair) (t : Text) where
+module _ (p : Memory) (t : Text) where
   pub text-told : started (p .book) ≡ true → saidOf (p .cache) (p .book) t ≡ saidBy p (eventOf t)
   unfolding saidOf
   text-told h = acted-told p h (readLine t .line) (readLine t .value)
@@ -109,14 +110,14 @@ command-in-range : (time : ℕ) (c : Numbered) (v : Value) → Bytes v → InRan
 command-in-range time (Numbered.Is c) v h = (h, tt)
 command-in-range time Numbered.Unknown v h = tt
 
-told-in-range : (l : Line) (v : Value) → sizeOf l ≡ length v → Bytes v → Ranged l → InRange (told l v)
-told-in-range Line.Unreadable v e h r = tt
-told-in-range (Line.Start readLife writeLife) v e h r = tt
-told-in-range (Line.Write n k size) v e h r = (tt, (omega (arith, r .0), omega (arith, r .1, e)))
-told-in-range (Line.Command number time a₁ a₂ a₃ a₄ size) v e h r = command-in-range time (commandOf number a₁ a₂ a₃ a₄) v h
+line-in-range : (l : Line) (v : Value) → sizeOf l ≡ length v → Bytes v → Ranged l → InRange (lineTold l v)
+line-in-range Line.Unreadable v e h r = tt
+line-in-range (Line.Start readLife writeLife) v e h r = tt
+line-in-range (Line.Write n k size) v e h r = (tt, (omega (arith, r .0), omega (arith, r .1, e)))
+line-in-range (Line.Command number time a₁ a₂ a₃ a₄ size) v e h r = command-in-range time (commandOf number a₁ a₂ a₃ a₄) v h
 
 event-in-range : (t : Text) → InRange (eventOf t)
-event-in-range t = let h = line-sound t in told-in-range (readLine t .line) (readLine t .value) (h .size) (h .bytes) (h .range)
+event-in-range t = let h = line-sound t in line-in-range (readLine t .line) (readLine t .value) (h .size) (h .bytes) (h .range)
 
 -- The book stays one in which READY is noted
 
@@ -127,7 +128,7 @@ still-noted : (b : List ℕ) → StillBegun b → (c : Command) (w : ℕ) → St
 still-noted b h Begin w = h
 still-noted b h (Get n k) w =
     let s = Laws.registered-short b k in
-    if-ind StillBegun (eqb w 6) (λ q. (Laws.length-granted b (h .0) k (registered b k) s, Laws.started-granted b (h .0) k (registered b k) s ∙ h .1)) (λ q. h)
+    if-ind StillBegun (eqb w LEASE) (λ q. (Laws.length-granted b (h .0) k (registered b k) s, Laws.started-granted b (h .0) k (registered b k) s ∙ h .1)) (λ q. h)
 still-noted b h (Fill t k) w = h
 still-noted b h (Quar n k d) w = h
 still-noted b h (Stage n i k) w = h
@@ -149,7 +150,7 @@ still-marked x b h n =
 still-counted : (b : List ℕ) → StillBegun b → (rule : ℕ) → StillBegun (counted b rule)
 still-counted b h rule = (Laws.length-counted b (h .0) rule, Laws.started-counted b (h .0) rule ∙ h .1)
 
-still-acted : (p : Pair) → StillBegun (p .book) → (e : Event) → Readable e → StillBegun (actOf p e .book)
+still-acted : (p : Memory) → StillBegun (p .book) → (e : Event) → Readable e → StillBegun (actOf p e .book)
 unfolding commands writes
 still-acted p h (command now c v) r = still-noted (p .book) h c (wordOf (ran (p .cache) now c v .answer))
 still-acted p h (write n k v) r =
@@ -159,7 +160,7 @@ still-acted p h (write n k v) r =
 
 -- After READY
 
-record Beside (p : Pair) (w : World) : Type 0 where
+record Beside (p : Memory) (w : World) : Type 0 where
   tied : Tied p w
   flagged : started (p .book) ≡ true
 
@@ -167,32 +168,32 @@ abbrev nextBy : World → Option Event → World
 nextBy w none = w
 nextBy w (some e) = next w e
 
-still-beside : (p : Pair) (w : World) → Beside p w → StillBegun (p .book)
+still-beside : (p : Memory) (w : World) → Beside p w → StillBegun (p .book)
 still-beside p w h = (h .tied .records .size, h .flagged)
 
-beside-said : (p : Pair) (w : World) → Beside p w → (o : Option Event) → InRange o → Beside (left (saidBy p o)) (nextBy w o)
+beside-said : (p : Memory) (w : World) → Beside p w → (o : Option Event) → InRange o → Beside (left (saidBy p o)) (nextBy w o)
 beside-said p w h none r = record { tied = tied-counted p w 0 (h .tied); flagged = still-counted (p .book) (still-beside p w h) 0 .1 }
 beside-said p w h (some e) r = record {
   tied = tied-next p w (h .tied) e (r .0) (r .1);
   flagged = still-counted (actOf p e .book) (still-acted p (still-beside p w h) e (r .1)) (actOf p e .rule) .1;
 }
 
-beside-text : (p : Pair) (w : World) → Beside p w → (t : Text) → Beside (textAfter p t) (nextBy w (eventOf t))
+beside-text : (p : Memory) (w : World) → Beside p w → (t : Text) → Beside (textAfter p t) (nextBy w (eventOf t))
 beside-text p w h t = rw (text-after p t (saidBy p (eventOf t)) (text-told p t (h .flagged))) (beside-said p w h (eventOf t) (event-in-range t))
 
-said-rule : (p : Pair) (w : World) → Tied p w → (o : Option Event) → saidBy p o .rule ≡ ruleBy w o
+said-rule : (p : Memory) (w : World) → Tied p w → (o : Option Event) → saidBy p o .rule ≡ ruleBy w o
 said-rule p w h none = refl
 said-rule p w h (some e) = rule-as p w h e
 
 -- exact for one line: the machine's verdict of its event, and 0 for a line that tells none
-pub tied-rule : (p : Pair) (w : World) → Tied p w → started (p .book) ≡ true → (t : Text) → textRule p t ≡ ruleBy w (eventOf t)
+pub tied-rule : (p : Memory) (w : World) → Tied p w → started (p .book) ≡ true → (t : Text) → textRule p t ≡ ruleBy w (eventOf t)
 tied-rule p w h e t = ap (λ (s : Said). s .rule) (text-told p t e) ∙ said-rule p w h (eventOf t)
 
 run-before : (w : World) (o : Option Event) (es : List Event) → run w (before o es) ≡ run (nextBy w o) es
 run-before w none es = refl
 run-before w (some e) es = refl
 
-beside-through : (p : Pair) (w : World) → Beside p w → (ts : List Text) → Beside (textThrough p ts) (run w (eventsIn ts))
+beside-through : (p : Memory) (w : World) → Beside p w → (ts : List Text) → Beside (textThrough p ts) (run w (eventsIn ts))
 beside-through p w h [] = h
 beside-through p w h (t ∷ ts) = rw (run-before w (eventOf t) (eventsIn ts)) (beside-through (textAfter p t) (nextBy w (eventOf t)) (beside-text p w h t) ts)
 
@@ -201,7 +202,7 @@ unfolding allZero
 zeros-before w none es = refl
 zeros-before w (some e) es = refl
 
-zeros-through : (p : Pair) (w : World) → Beside p w → (ts : List Text) → allZero (textColumn p ts) ≡ allZero (verdictsTwo w (eventsIn ts))
+zeros-through : (p : Memory) (w : World) → Beside p w → (ts : List Text) → allZero (textColumn p ts) ≡ allZero (verdictsTwo w (eventsIn ts))
 unfolding allZero
 zeros-through p w h [] = refl
 zeros-through p w h (t ∷ ts) =
@@ -224,33 +225,30 @@ start-or x readLife writeLife = sized (case-of (eqb (length x) stateSize))
     lives : length x ≡ stateSize → (lifetime readLife ≡ true) ⊎ (lifetime readLife ≡ false) → (lifetime writeLife ≡ true) ⊎ (lifetime writeLife ≡ false)
         → (startOf x readLife writeLife .answer ≡ Answer.Ready) ⊎ Stands x readLife writeLife
     lives l (inl r) (inl w) = inl (ap (λ (a : Reply). a .answer) (started-ready x readLife writeLife l r w))
-    lives l (inl r) (inr w) = inr (record { number = 3; refuses = started-write x readLife writeLife l w })
-    lives l (inr r) w = inr (record { number = 3; refuses = started-read x readLife writeLife l r })
+    lives l (inl r) (inr w) = inr (record { number = ARG; refuses = started-write x readLife writeLife l w })
+    lives l (inr r) w = inr (record { number = ARG; refuses = started-read x readLife writeLife l r })
 
     sized : (eqb (length x) stateSize ≡ true) ⊎ (eqb (length x) stateSize ≡ false) → (startOf x readLife writeLife .answer ≡ Answer.Ready) ⊎ Stands x readLife writeLife
     sized (inl l) = lives (eqb-true (length x) stateSize l) (case-of (lifetime readLife)) (case-of (lifetime writeLife))
-    sized (inr l) = inr (record { number = 1; refuses = started-size x readLife writeLife (eqb-false (length x) stateSize l) })
+    sized (inr l) = inr (record { number = STATE; refuses = started-size x readLife writeLife (eqb-false (length x) stateSize l) })
 
 -- Every text
 
 -- both buffers and the column after lines, beside the run that they tell
-abbrev Follows : Pair → List ℕ → Option Run → Type 0
+abbrev Follows : Memory → List ℕ → Option Run → Type 0
 Follows p col none = (started (p .book) ≡ false) × (allZero col ≡ true)
-Follows p col (some r) = Beside p (worldOf r) × (allZero col ≡ allZero (verdictsTwo (beginning r) (r .events)))
+Follows p col (some r) = Beside p (worldAfter r) × (allZero col ≡ allZero (verdictsTwo (beginning r) (r .events)))
 
-follows-zero : (p : Pair) (col : List ℕ) (o : Option Run) → Follows p col o → Follows p (0 ∷ col) o
+follows-zero : (p : Memory) (col : List ℕ) (o : Option Run) → Follows p col o → Follows p (0 ∷ col) o
 unfolding allZero
 follows-zero p col none h = h
 follows-zero p col (some r) h = h
-
-abbrev pub pairOf : List ℕ → List ℕ → Pair
-pairOf x b = record { cache = x; book = b }
 
 -- after what is said of a line
 abbrev FollowsSaid : Said → List Text → Option Run → Type 0
 FollowsSaid s ts o = Follows (textThrough (left s) ts) (s .rule ∷ textColumn (left s) ts) o
 
-follows-text : (p : Pair) (t : Text) (s : Said) → saidOf (p .cache) (p .book) t ≡ s → (ts : List Text) (o : Option Run) → FollowsSaid s ts o → Follows (textThrough p (t ∷ ts)) (textColumn p (t ∷ ts)) o
+follows-text : (p : Memory) (t : Text) (s : Said) → saidOf (p .cache) (p .book) t ≡ s → (ts : List Text) (o : Option Run) → FollowsSaid s ts o → Follows (textThrough p (t ∷ ts)) (textColumn p (t ∷ ts)) o
 unfolding turn
 follows-text p t s e ts o h = subst (λ (z : Said). FollowsSaid z ts o) (sym e) h
 
@@ -290,13 +288,13 @@ follows-line x b new ts (Line.Start readLife writeLife) later h = elim (start-or
 follows-line x b new ts (Line.Write n k size) later h = h
 follows-line x b new ts (Line.Command number time a₁ a₂ a₃ a₄ size) later h = h
 
-lines-follow : (x b : List ℕ) → NewBook b → started b ≡ false → (ts : List Text) → Follows (textThrough (pairOf x b) ts) (textColumn (pairOf x b) ts) (runOf x ts)
+lines-follow : (x b : List ℕ) → NewBook b → started b ≡ false → (ts : List Text) → Follows (textThrough (memoryOf x b) ts) (textColumn (memoryOf x b) ts) (runOf x ts)
 unfolding allZero
 lines-follow x b new e [] = (e, refl)
 lines-follow x b new e (t ∷ ts) =
-    let p = pairOf x b in
+    let p = memoryOf x b in
     let s = saidFirst x b (readLine t .line) in
-    let q = pairOf x (counted b 0) in
+    let q = memoryOf x (counted b 0) in
     let said : saidOf x b t ≡ s = text-first p t e in
     let rest : Follows (textThrough q ts) (textColumn q ts) (runOf x ts) = lines-follow x (counted b 0) (new-counted b 0 new) (Laws.started-counted b (new .size) 0 ∙ e) ts in
     follows-text p t s said ts (runOf x (t ∷ ts)) (follows-line x b new ts (readLine t .line) (runOf x ts) (follows-zero (textThrough q ts) (textColumn q ts) (runOf x ts) rest))
@@ -304,19 +302,19 @@ lines-follow x b new e (t ∷ ts) =
 -- The theorems, from a cache's buffer of any length and content and a new book
 
 -- the rule printed of the line behind any others
-rule-beside : (p : Pair) (col : List ℕ) (o : Option Run) → Follows p col o → (t : Text) → textRule p t ≡ ruleIn o (eventOf t)
+rule-beside : (p : Memory) (col : List ℕ) (o : Option Run) → Follows p col o → (t : Text) → textRule p t ≡ ruleIn o (eventOf t)
 rule-beside p col none h t = ap (λ (s : Said). s .rule) (text-first p t (h .0)) ∙ first-unbroken (p .cache) (p .book) (readLine t .line)
-rule-beside p col (some r) h t = tied-rule p (worldOf r) (h .0 .tied) (h .0 .flagged) t
+rule-beside p col (some r) h t = tied-rule p (worldAfter r) (h .0 .tied) (h .0 .flagged) t
 
-kept-zeros : (p : Pair) (col : List ℕ) (o : Option Run) → Follows p col o → RulesKept o → allZero col ≡ true
+kept-zeros : (p : Memory) (col : List ℕ) (o : Option Run) → Follows p col o → RulesKept o → allZero col ≡ true
 kept-zeros p col none h k = h .1
 kept-zeros p col (some r) h k = h .1 ∙ allKeptTwo-unbroken (beginning r) (r .events) (orderly-fresh (r .readLife) (r .writeLife)) (two-allKept (r .readLife) (r .writeLife) (r .events) k)
 
-zeros-kept : (p : Pair) (col : List ℕ) (o : Option Run) → Follows p col o → allZero col ≡ true → RulesKept o
+zeros-kept : (p : Memory) (col : List ℕ) (o : Option Run) → Follows p col o → allZero col ≡ true → RulesKept o
 zeros-kept p col none h z = tt
 zeros-kept p col (some r) h z = allKept-two (r .readLife) (r .writeLife) (r .events) (allKeptTwo-of (beginning r) (r .events) (sym (h .1) ∙ z))
 
-kept-promised : (p : Pair) (col : List ℕ) (o : Option Run) → Follows p col o → RulesKept o → PromisedIn p o
+kept-promised : (p : Memory) (col : List ℕ) (o : Option Run) → Follows p col o → RulesKept o → PromisedIn p o
 kept-promised p col none h k = h .0
 kept-promised p col (some r) h k = record {
   consistent = demand-3-whole (r .readLife) (r .writeLife) (r .events) k;
@@ -325,7 +323,7 @@ kept-promised p col (some r) h k = record {
   register = h .0 .tied .records .register;
 }
 
-zeros-first : (p : Pair) (ts us : List Text) → allZero (textColumn p (ts ++ us)) ≡ true → allZero (textColumn p ts) ≡ true
+zeros-first : (p : Memory) (ts us : List Text) → allZero (textColumn p (ts ++ us)) ≡ true → allZero (textColumn p ts) ≡ true
 unfolding allZero
 zeros-first p [] us z = refl
 zeros-first p (t ∷ ts) us z =
@@ -333,8 +331,8 @@ zeros-first p (t ∷ ts) us z =
     rw (h .0) (zeros-first (textAfter p t) ts us (h .1))
 
 module _ (x b : List ℕ) (new : NewBook b) (fresh : started b ≡ false) where
-  abbrev p₀ : Pair
-  p₀ = pairOf x b
+  abbrev p₀ : Memory
+  p₀ = memoryOf x b
 
   -- each line's rule is the machine's verdict of what it tells, in the world of the lines before it
   pub lines-rule : (ts : List Text) (t : Text) → textRule (textThrough p₀ ts) t ≡ ruleIn (runOf x ts) (eventOf t)
@@ -354,12 +352,12 @@ module _ (x b : List ℕ) (new : NewBook b) (fresh : started b ≡ false) where
       (k, kept-promised (textThrough p₀ ts) (textColumn p₀ ts) (runOf x ts) (lines-follow x b new fresh ts) k)
 
 -- as the program begins: the book is zeros
-pub rehearsal-begun : (x : List ℕ) (ts : List Text) (r : Run) → runOf x ts ≡ some r → started (textThrough (pairOf x (zeros bookSize)) ts .book) ≡ true
+pub rehearsal-begun : (x : List ℕ) (ts : List Text) (r : Run) → runOf x ts ≡ some r → started (textThrough (memoryOf x (zeros bookSize)) ts .book) ≡ true
 rehearsal-begun x ts r e =
-    let p = pairOf x (zeros bookSize) in
+    let p = memoryOf x (zeros bookSize) in
     let h : Follows (textThrough p ts) (textColumn p ts) (some r) = subst (Follows (textThrough p ts) (textColumn p ts)) e (lines-follow x (zeros bookSize) new-zeros (Laws.started-new bookSize) ts) in
     h .0 .flagged
 
-pub rehearsal-promised : (x : List ℕ) (ts us : List Text) → allZero (textColumn (pairOf x (zeros bookSize)) (ts ++ us)) ≡ true
-    → RulesKept (runOf x ts) × PromisedIn (textThrough (pairOf x (zeros bookSize)) ts) (runOf x ts)
+pub rehearsal-promised : (x : List ℕ) (ts us : List Text) → allZero (textColumn (memoryOf x (zeros bookSize)) (ts ++ us)) ≡ true
+    → RulesKept (runOf x ts) × PromisedIn (textThrough (memoryOf x (zeros bookSize)) ts) (runOf x ts)
 rehearsal-promised x = lines-promised x (zeros bookSize) new-zeros (Laws.started-new bookSize)

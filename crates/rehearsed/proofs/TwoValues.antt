@@ -15,7 +15,7 @@ use Rattle.lent.specs.Tables.{if_then_else_, same, allZero}
 use Rattle.lent.proofs.Choices.{and-yes, clash, if-ind}
 use Rattle.machine.specs.Sizes.{keyCount}
 use Rattle.machine.specs.Tables.{any}
-use Rattle.machine.specs.Words.{wordOf}
+use Rattle.machine.specs.Words.{wordOf, LEASE, STORED}
 use Rattle.machine.specs.State.{Value, Lease, Key, blank, State, fresh, leaseOn}
 use Rattle.machine.specs.Expiry.{expire}
 use Rattle.machine.specs.Refusals.{refusal}
@@ -74,15 +74,15 @@ level-any v r (x ∷ (y ∷ l)) h f = rw (f x (List·Memᴰ·head refl), level-a
 -- FILL answered STORED: the key has the token's lease
 
 Stores : State → ℕ → ℕ → Outcome → Type 0
-Stores s t k r = eqb (wordOf (r .answer)) 7 ≡ true → (l : Lease) × (leaseOn s k ≡ some l) × (l .token ≡ t)
+Stores s t k r = eqb (wordOf (r .answer)) STORED ≡ true → (l : Lease) × (leaseOn s k ≡ some l) × (l .token ≡ t)
 
 stores-settled : (s : State) (now t k : ℕ) (v : Value) (o : Option ℕ) → Stores (expire now s) t k (settled s now o (effect (expire now s) now (Fill t k) v))
 unfolding Stores settled effect fills
 stores-settled s now t k v (some e) = λ p. clash false p refl
-stores-settled s now t k v none = if-ind (λ (r : Outcome). eqb (wordOf (r .answer)) 7 ≡ true → (l : Lease) × (leaseOn (expire now s) k ≡ some l) × (l .token ≡ t)) (matches t (leaseOn (expire now s) k))
+stores-settled s now t k v none = if-ind (λ (r : Outcome). eqb (wordOf (r .answer)) STORED ≡ true → (l : Lease) × (leaseOn (expire now s) k ≡ some l) × (l .token ≡ t)) (matches t (leaseOn (expire now s) k))
     (λ m p. matched t (leaseOn (expire now s) k) m) (λ m p. clash false p refl)
 
-pub stored-lease : (s : State) (now t k : ℕ) (v : Value) → eqb (wordOf (step s now (Fill t k) v .answer)) 7 ≡ true → (l : Lease) × (leaseOn s k ≡ some l) × (l .token ≡ t)
+pub stored-lease : (s : State) (now t k : ℕ) (v : Value) → eqb (wordOf (step s now (Fill t k) v .answer)) STORED ≡ true → (l : Lease) × (leaseOn s k ≡ some l) × (l .token ≡ t)
 unfolding Stores step
 stored-lease s now t k v p = let r = stores-settled s now t k v (refusal (expire now s) now (Fill t k) v) p in (r .0, expire-lease now s k (r .0) (r .1), r .2)
 
@@ -110,7 +110,7 @@ begun-steady readLife writeLife = record {
     none-fresh k l e = Views.no-some l (sym (ap (λ (x : Key). x .lease) (Views.getD-same keyCount k blank)) ∙ e)
 
 -- what is remembered of a token after an answer
-pub since-quiet : (register : ℕ → Value) (since : ℕ → ℕ → List Value) (a : Answer) (t k : ℕ) → eqb (wordOf a) 6 ≡ false → sinceGrant register since a t k ≡ since t k
+pub since-quiet : (register : ℕ → Value) (since : ℕ → ℕ → List Value) (a : Answer) (t k : ℕ) → eqb (wordOf a) LEASE ≡ false → sinceGrant register since a t k ≡ since t k
 since-quiet register since a t k q = rw q
 
 pub since-grant : (register : ℕ → Value) (since : ℕ → ℕ → List Value) (a : Answer) (u t k : ℕ) → a ≡ Answer.Lease u → t ≡ u → sinceGrant register since a t k ≡ (register k ∷ [])
@@ -175,9 +175,9 @@ run-steady w (e ∷ es) g rules = run-steady (next w e) es (next-steady w e g (r
 steady-two : (w : World) → Steady w → (e : Event) → brokenTwo w e ≡ broken w e
 steady-two w g (command now Begin v) = refl
 steady-two w g (command now (Get n k) v) = refl
-steady-two w g (command now (Fill t k) v) = under (eqb (wordOf (step (w .state) now (Fill t k) v .answer)) 7) _ (not (any (same v) (w .since t k))) 1 one
+steady-two w g (command now (Fill t k) v) = under (eqb (wordOf (step (w .state) now (Fill t k) v .answer)) STORED) _ (not (any (same v) (w .since t k))) 1 one
   where
-    one : eqb (wordOf (step (w .state) now (Fill t k) v .answer)) 7 ≡ true → not (any (same v) (w .register k ∷ oldest (w .register k) (w .since t k) ∷ [])) ≡ not (any (same v) (w .since t k))
+    one : eqb (wordOf (step (w .state) now (Fill t k) v .answer)) STORED ≡ true → not (any (same v) (w .register k ∷ oldest (w .register k) (w .since t k) ∷ [])) ≡ not (any (same v) (w .since t k))
     one p =
         let x = stored-lease (w .state) now t k v p in
         let h : Level (w .register k) (w .since t k) = rw (x .2) at (g .level k (x .0) (x .1)) in

@@ -3,18 +3,17 @@
 use mathlib.Core.Path.{_≡_, refl, _∙_, ap}
 use mathlib.Core.Bool.{Bool, true, _&&_}
 use mathlib.Core.List.{List, [], _∷_, _++_}
-use Prim.Native.Nat.{ℕ, zero, suc}
-use native.Mathlib.Omega.{arith}
+use Prim.Native.Nat.{ℕ}
 use lib.Dec.{leb, ltb}
 use lib.ListN.{length, take, drop, take-append-drop, length-replicate}
 use borrow.Author.Tests.{leb-true, ltb-true}
-use Rattle.lent.specs.Bytes.{Bytes, zeros}
+use Rattle.lent.specs.Bytes.{zeros}
 use Rattle.lent.specs.Tables.{same, allZero}
 use Rattle.lent.proofs.Choices.{and-yes}
 use Rattle.counts.specs.Count.{readCount}
 use Rattle.machine.specs.Sizes.{keyCount, valueMax, stateSize}
 use Rattle.machine.specs.Decision.{decision}
-use Rattle.machine.specs.State.{Value, fresh}
+use Rattle.machine.specs.State.{fresh}
 use Rattle.machine.specs.Expiry.{leave, finish, expire}
 use Rattle.machine.specs.Refusals.{decide, blocked, sight, wouldLease, wouldGrant, refusals, refusal}
 use Rattle.machine.specs.Effects.{begins, wait, leased, missed, looked, fills, asks, operate, changed, stages, effect}
@@ -24,18 +23,16 @@ use Rattle.machine.specs.Test.{verdicts}
 use Rattle.machine.specs.Witness.{events}
 use Rattle.machine.specs.declared.Answer.{Answer}
 use Rattle.machine.specs.declared.Command.the-variants.{Begin, Get, Fill, Quar, Stage, Validate, Done, Undo}
+use Rattle.machine.proofs.Views.{and-true₁, and-true₂}
+use Rattle.machine.proofs.Witness.{events}
 use Rattle.startup.specs.Start.{Reply, startOf}
 use Rattle.startup.proofs.Started.{started-ready}
 use Rattle.book.specs.Book.{bookSize}
 use Rattle.promises.proofs.Witness.{byteTest, byte-test}
 use Rattle.rehearsed.specs.TwoValues.{verdictsTwo}
-use Rattle.rehearsed.specs.Column.{Pair, through, column, startedPair, AllReadable, Promised}
+use Rattle.rehearsed.specs.Column.{through, column, AllReadable, Promised}
+use Rattle.rehearsed.specs.Witness.{begunMemory, breaks, third}
 use Rattle.rehearsed.proofs.Column.{new-zeros, column-verdicts, zeros-promised}
-
--- START on buffers of zeros
-
-abbrev pub begunPair : Pair
-begunPair = startedPair (zeros stateSize) (zeros bookSize) 1000 5000
 
 ready : startOf (zeros stateSize) 1000 5000 .answer ≡ Answer.Ready
 ready = ap (λ (r : Reply). r .answer) (started-ready (zeros stateSize) 1000 5000 (length-replicate {A = ℕ} stateSize 0) refl refl)
@@ -62,58 +59,32 @@ read-readable (write n k v ∷ es) e =
     )
 
 -- then its column is what is computed
-column-is : (es : List Event) (l : List ℕ) → readTest es ≡ true → verdictsTwo (freshWorld 1000 5000) es ≡ l → column begunPair es ≡ l
+column-is : (es : List Event) (l : List ℕ) → readTest es ≡ true → verdictsTwo (freshWorld 1000 5000) es ≡ l → column begunMemory es ≡ l
 column-is es l e f = column-verdicts (zeros stateSize) (zeros bookSize) 1000 5000 ready new-zeros es (read-bytes es e) (read-readable es e) ∙ f
 
 -- The run that keeps the rules
 
-kept-zeros : allZero (verdictsTwo (freshWorld 1000 5000) events) ≡ true
+verdicts-zero : allZero (verdictsTwo (freshWorld 1000 5000) events) ≡ true
 unfolding same allZero readCount decision fresh leave finish expire decide blocked sight wouldLease wouldGrant refusals refusal begins wait leased missed looked fills asks operate changed stages effect settled step commanded written
-kept-zeros = refl
+verdicts-zero = refl
 
-pub witness-zeros : allZero (column begunPair events) ≡ true
-witness-zeros = ap allZero (column-is events (verdictsTwo (freshWorld 1000 5000) events) refl refl) ∙ kept-zeros
+pub witness-zeros : allZero (column begunMemory events) ≡ true
+witness-zeros = ap allZero (column-is events (verdictsTwo (freshWorld 1000 5000) events) refl refl) ∙ verdicts-zero
 
-pub witness-promised : (i : ℕ) → Promised (through begunPair (take i events)) (run (freshWorld 1000 5000) (take i events))
+pub witness-promised : (i : ℕ) → Promised (through begunMemory (take i events)) (run (freshWorld 1000 5000) (take i events))
 witness-promised i =
     let whole : (take i events ++ drop i events) ≡ events = take-append-drop i events in
     zeros-promised (zeros stateSize) (zeros bookSize) 1000 5000 ready new-zeros (take i events) (drop i events)
     (rw whole (read-bytes events refl)) (rw whole (read-readable events refl)) (rw whole witness-zeros)
 
--- A run that breaks each: a FILL of what the register never held, a write for nobody, a DONE that caches another value, an UNDO after a write
+-- A run that breaks each
 
--- "old", "new"
-abbrev old : Value
-old = 111 ∷ 108 ∷ 100 ∷ []
-
-abbrev new : Value
-new = 110 ∷ 101 ∷ 119 ∷ []
-
-abbrev pub breaks : List Event
-breaks =
-    command 0 (Get 0 7) []
-    ∷ command 1 (Fill 1 7) old
-    ∷ write 5 7 old
-    ∷ command 3 Begin []
-    ∷ command 4 (Quar 1 9 2) []
-    ∷ command 5 (Stage 1 0 9) new
-    ∷ command 6 (Validate 1 1) []
-    ∷ write 1 9 old
-    ∷ command 7 (Done 1) []
-    ∷ command 8 Begin []
-    ∷ write 2 9 new
-    ∷ command 9 (Undo 2) []
-    ∷ []
-
-pub witness-breaks : column begunPair breaks ≡ (0 ∷ 1 ∷ 2 ∷ 0 ∷ 0 ∷ 0 ∷ 0 ∷ 0 ∷ 4 ∷ 0 ∷ 2 ∷ 3 ∷ [])
+pub witness-breaks : column begunMemory breaks ≡ (0 ∷ 1 ∷ 2 ∷ 0 ∷ 0 ∷ 0 ∷ 0 ∷ 0 ∷ 4 ∷ 0 ∷ 2 ∷ 3 ∷ [])
 unfolding same allZero readCount decision fresh leave finish expire decide blocked sight wouldLease wouldGrant refusals refusal begins wait leased missed looked fills asks operate changed stages effect settled step commanded written
 witness-breaks = column-is breaks (0 ∷ 1 ∷ 2 ∷ 0 ∷ 0 ∷ 0 ∷ 0 ∷ 0 ∷ 4 ∷ 0 ∷ 2 ∷ 3 ∷ []) refl refl
 
 -- Where rule 2 is broken between the grant and the FILL, the register held a third value there: rule 1 is kept, its two-value form is not
 
-abbrev pub third : List Event
-third = command 0 (Get 0 7) [] ∷ write 5 7 old ∷ write 5 7 new ∷ command 1 (Fill 1 7) old ∷ []
-
-pub witness-third : (column begunPair third ≡ (0 ∷ 2 ∷ 2 ∷ 1 ∷ [])) × (verdicts (freshWorld 1000 5000) third ≡ (0 ∷ 2 ∷ 2 ∷ 0 ∷ []))
+pub witness-third : (column begunMemory third ≡ (0 ∷ 2 ∷ 2 ∷ 1 ∷ [])) × (verdicts (freshWorld 1000 5000) third ≡ (0 ∷ 2 ∷ 2 ∷ 0 ∷ []))
 unfolding same allZero readCount decision fresh leave finish expire decide blocked sight wouldLease wouldGrant refusals refusal begins wait leased missed looked fills asks operate changed stages effect settled step commanded written
 witness-third = (column-is third (0 ∷ 2 ∷ 2 ∷ 1 ∷ []) refl refl, refl)

@@ -8,41 +8,38 @@ use Rattle.machine.specs.Sizes.{keyCount, sessionCount, valueMax}
 use Rattle.machine.specs.World.{Event, command, write, World, Consistent}
 use Rattle.layout.specs.Layout.{decode}
 use Rattle.layout.specs.WellFormed.{wellFormed}
+use Rattle.book.specs.Memory.{Memory}
 use Rattle.book.specs.Book.{bookSize, registered, mark, counted}
 use Rattle.rules.specs.Rules.{Said, begins, commands}
 use Rattle.writes.specs.Writes.{writes}
 
-pub record Pair : Type 0 where
-  pub cache : List ℕ
-  pub book : List ℕ
-
 -- a line's act: any letter but A and C, or C
-abbrev pub saidOf : Pair → Event → Said
-saidOf p (command now c v) = commands (p .cache) (p .book) now c v
-saidOf p (write n k v) = writes (p .cache) (p .book) n k v
+abbrev pub actOf : Memory → Event → Said
+actOf p (command now c v) = commands (p .cache) (p .book) now c v
+actOf p (write n k v) = writes (p .cache) (p .book) n k v
 
 -- the rule that is printed
-abbrev pub ruleAt : Pair → Event → ℕ
-ruleAt p e = saidOf p e .rule
+abbrev pub ruleAt : Memory → Event → ℕ
+ruleAt p e = actOf p e .rule
 
 -- both buffers after a line, which is counted
-abbrev pub left : Said → Pair
+abbrev pub left : Said → Memory
 left r = record { cache = r .cache; book = counted (r .book) (r .rule) }
 
-abbrev pub after : Pair → Event → Pair
-after p e = left (saidOf p e)
+abbrev pub after : Memory → Event → Memory
+after p e = left (actOf p e)
 
-abbrev pub through : Pair → List Event → Pair
+abbrev pub through : Memory → List Event → Memory
 through p [] = p
 through p (e ∷ es) = through (after p e) es
 
-abbrev pub column : Pair → List Event → List ℕ
+abbrev pub column : Memory → List Event → List ℕ
 column p [] = []
 column p (e ∷ es) = ruleAt p e ∷ column (after p e) es
 
 -- after an A line
-abbrev pub startedPair : List ℕ → List ℕ → ℕ → ℕ → Pair
-startedPair x b readLife writeLife = left (begins x b readLife writeLife)
+abbrev pub startedMemory : List ℕ → List ℕ → ℕ → ℕ → Memory
+startedMemory x b readLife writeLife = left (begins x b readLife writeLife)
 
 -- a new book, in which lines are at most counted: no value is registered, and no session is marked
 pub record NewBook (b : List ℕ) : Type 0 where
@@ -60,7 +57,7 @@ AllReadable [] = Unit {0}
 AllReadable (e ∷ es) = Readable e × AllReadable es
 
 -- demand 3 at one moment: the world is consistent, its cache is what the well-formed bytes say, and its register what the book says
-pub record Promised (p : Pair) (w : World) : Type 0 where
+pub record Promised (p : Memory) (w : World) : Type 0 where
   pub consistent : Consistent w
   pub formed : wellFormed (p .cache) ≡ true
   pub cache : decode (p .cache) ≡ w .state

@@ -1,3 +1,5 @@
 pub mod TwoValues
 pub mod Column
 pub mod Text
+pub mod Example
+pub mod Witness

@@ -6,18 +6,19 @@ use mathlib.Core.Option.{Option, none, some}
 use Prim.Native.Nat.{ℕ}
 use lib.Dec.{eqb}
 use Rattle.lent.specs.Tables.{if_then_else_}
-use Rattle.machine.specs.Words.{wordOf}
+use Rattle.machine.specs.Words.{wordOf, READY}
 use Rattle.machine.specs.State.{Value}
 use Rattle.machine.specs.World.{Event, command, write, World, freshWorld, run, AllKept}
 use Rattle.startup.specs.Start.{startOf}
 use Rattle.numbered.specs.Commands.{commandOf}
 use Rattle.numbered.specs.declared.Numbered.{Numbered}
+use Rattle.book.specs.Memory.{Memory}
 use Rattle.book.specs.Book.{started}
 use Rattle.lines.specs.Lines.{readLine}
 use Rattle.lines.specs.declared.Line.{Line}
 use Rattle.rehearsal.specs.Rehearsal.{saidOf, turn}
 use Rattle.rehearsed.specs.TwoValues.{brokenTwo}
-use Rattle.rehearsed.specs.Column.{Pair, Promised}
+use Rattle.rehearsed.specs.Column.{Promised}
 
 abbrev pub Text : Type 0
 Text = List ℕ
@@ -25,17 +26,17 @@ Text = List ℕ
 -- What the rehearsal does
 
 -- the rule that is printed of a line, and both buffers after it
-abbrev pub textRule : Pair → Text → ℕ
+abbrev pub textRule : Memory → Text → ℕ
 textRule p t = saidOf (p .cache) (p .book) t .rule
 
-abbrev pub textAfter : Pair → Text → Pair
+abbrev pub textAfter : Memory → Text → Memory
 textAfter p t = record { cache = turn (p .cache) (p .book) t .cache; book = turn (p .cache) (p .book) t .book }
 
-abbrev pub textThrough : Pair → List Text → Pair
+abbrev pub textThrough : Memory → List Text → Memory
 textThrough p [] = p
 textThrough p (t ∷ ts) = textThrough (textAfter p t) ts
 
-abbrev pub textColumn : Pair → List Text → List ℕ
+abbrev pub textColumn : Memory → List Text → List ℕ
 textColumn p [] = []
 textColumn p (t ∷ ts) = textRule p t ∷ textColumn (textAfter p t) ts
 
@@ -46,14 +47,14 @@ abbrev pub commandTold : ℕ → Numbered → Value → Option Event
 commandTold time (Numbered.Is c) v = some (command time c v)
 commandTold time Numbered.Unknown v = none
 
-abbrev pub told : Line → Value → Option Event
-told Line.Unreadable v = none
-told (Line.Start readLife writeLife) v = none
-told (Line.Write n k length) v = some (write n k v)
-told (Line.Command number time a₁ a₂ a₃ a₄ length) v = commandTold time (commandOf number a₁ a₂ a₃ a₄) v
+abbrev pub lineTold : Line → Value → Option Event
+lineTold Line.Unreadable v = none
+lineTold (Line.Start readLife writeLife) v = none
+lineTold (Line.Write n k length) v = some (write n k v)
+lineTold (Line.Command number time a₁ a₂ a₃ a₄ length) v = commandTold time (commandOf number a₁ a₂ a₃ a₄) v
 
 abbrev pub eventOf : Text → Option Event
-eventOf t = told (readLine t .line) (readLine t .value)
+eventOf t = lineTold (readLine t .line) (readLine t .value)
 
 abbrev pub before : Option Event → List Event → List Event
 before none es = es
@@ -72,12 +73,12 @@ pub record Run : Type 0 where
 abbrev pub beginning : Run → World
 beginning r = freshWorld (r .readLife) (r .writeLife)
 
-abbrev pub worldOf : Run → World
-worldOf r = run (beginning r) (r .events)
+abbrev pub worldAfter : Run → World
+worldAfter r = run (beginning r) (r .events)
 
 -- START on the buffer x answers READY
 abbrev pub ready : List ℕ → ℕ → ℕ → Bool
-ready x readLife writeLife = eqb (wordOf (startOf x readLife writeLife .answer)) 1
+ready x readLife writeLife = eqb (wordOf (startOf x readLife writeLife .answer)) READY
 
 -- with es after the line: an A line that answers READY begins the run, any other leaves it to the lines behind
 abbrev pub begunBy : List ℕ → Line → List Event → Option Run → Option Run
@@ -101,7 +102,7 @@ ruleBy w (some e) = brokenTwo w e
 
 abbrev pub ruleIn : Option Run → Option Event → ℕ
 ruleIn none o = 0
-ruleIn (some r) o = ruleBy (worldOf r) o
+ruleIn (some r) o = ruleBy (worldAfter r) o
 
 -- the clients' four rules, kept by the run
 abbrev pub RulesKept : Option Run → Type 0
@@ -109,6 +110,6 @@ RulesKept none = Unit {0}
 RulesKept (some r) = AllKept (beginning r) (r .events)
 
 -- demand 3 at one moment: no A line has answered READY, or it holds in the run's world
-abbrev pub PromisedIn : Pair → Option Run → Type 0
+abbrev pub PromisedIn : Memory → Option Run → Type 0
 PromisedIn p none = started (p .book) ≡ false
-PromisedIn p (some r) = Promised p (worldOf r)
+PromisedIn p (some r) = Promised p (worldAfter r)

@@ -1,24 +1,21 @@
 // Rules 1, 3 and 4, tested on a command before it runs: the rule that it would break if it were answered with its word.
 ghost use mathlib.Core.Path.{_≡_};
-ghost use mathlib.Core.Bool.{true, _&&_};
+ghost use mathlib.Core.Bool.{true};
 ghost use Prim.Native.Nat.{_<_};
-ghost use lib.Dec.{eqb, ltb};
 ghost use lib.ListN.{length};
 ghost use Rattle.lent.specs.Tables.{if_then_else_};
-ghost use Rattle.machine.specs.Sizes.{stateSize, sessionCount, rowCount};
-ghost use Rattle.machine.specs.Tables.{any};
-ghost use Rattle.machine.specs.State.{State, sessionPlace, rowAt};
+ghost use Rattle.machine.specs.Sizes.{stateSize, rowCount};
+ghost use Rattle.machine.specs.State.{State, rowAt};
 ghost use Rattle.machine.specs.Test.{differs};
 ghost use Rattle.layout.specs.Holds.{Holds};
 ghost use Rattle.layout.specs.WellFormed.{wellFormed};
 ghost use Rattle.book.specs.Book.{bookSize, registered, mark};
+ghost use Rattle.risks.specs.Risks.{wroteIn, staleIn};
 ghost use Rattle.risks.specs.Tests.{fillRisk, riskOf};
 use layout::Found;
 use machine::Command;
 
-// The rules by number, 0 for none.
-const KEPT: u64 = 0;
-
+// The rules by number.
 const FILL_RULE: u64 = 1;
 
 const UNDO_RULE: u64 = 3;
@@ -31,10 +28,10 @@ fn fill_risk(book: &[u8], key: u64, value: &[u8]) -> u64
     ensures { λ r. ⌜ r ≡ fillRisk (now (book .entry)) key (now (value .entry)) ⌝ }
 {
     if notes::is_registered(book, key, value) {
-        return KEPT;
+        return book::KEPT;
     }
     if notes::is_granted(book, key, value) {
-        return KEPT;
+        return book::KEPT;
     }
     FILL_RULE
 }
@@ -42,7 +39,7 @@ fn fill_risk(book: &[u8], key: u64, value: &[u8]) -> u64
 // Rule 3: the register has written for the session.
 fn wrote_for(cache: &[u8], book: &[u8], session: u64) -> bool
     requires { ⌜ (length (now cache) ≡ stateSize) × (length (now book) ≡ bookSize) ⌝ }
-    ensures { λ r. ⌜ ((σ : State) → Holds (now (cache .entry)) σ → r ≡ (ltb (sessionPlace σ session) sessionCount && eqb (mark (now (book .entry)) (sessionPlace σ session)) session)) ⌝ }
+    ensures { λ r. ⌜ ((σ : State) → Holds (now (cache .entry)) σ → r ≡ wroteIn σ (now (book .entry)) session) ⌝ }
 {
     let place = sessions::find(cache, session);
     match place {
@@ -70,7 +67,7 @@ fn is_stale(cache: &[u8], book: &[u8], session: u64, i: usize) -> bool
 
 fn stale_for(cache: &[u8], book: &[u8], session: u64) -> bool
     requires { ⌜ (length (now cache) ≡ stateSize) × (length (now book) ≡ bookSize) ⌝ }
-    ensures { λ r. ⌜ ((σ : State) → Holds (now (cache .entry)) σ → r ≡ any (differs (registered (now (book .entry))) session) (σ .rows)) ⌝ }
+    ensures { λ r. ⌜ ((σ : State) → Holds (now (cache .entry)) σ → r ≡ staleIn σ (now (book .entry)) session) ⌝ }
 {
     for i in 0..layout::ROW_COUNT {
         if is_stale(cache, book, session, i) {
@@ -82,22 +79,22 @@ fn stale_for(cache: &[u8], book: &[u8], session: u64) -> bool
 
 fn done_risk(cache: &[u8], book: &[u8], session: u64) -> u64
     requires { ⌜ (length (now cache) ≡ stateSize) × (length (now book) ≡ bookSize) ⌝ }
-    ensures { λ r. ⌜ ((σ : State) → Holds (now (cache .entry)) σ → r ≡ (if any (differs (registered (now (book .entry))) session) (σ .rows) then 4 else 0)) ⌝ }
+    ensures { λ r. ⌜ ((σ : State) → Holds (now (cache .entry)) σ → r ≡ (if staleIn σ (now (book .entry)) session then 4 else 0)) ⌝ }
 {
     if stale_for(cache, book, session) {
         return DONE_RULE;
     }
-    KEPT
+    book::KEPT
 }
 
 fn undo_risk(cache: &[u8], book: &[u8], session: u64) -> u64
     requires { ⌜ (length (now cache) ≡ stateSize) × (length (now book) ≡ bookSize) ⌝ }
-    ensures { λ r. ⌜ ((σ : State) → Holds (now (cache .entry)) σ → r ≡ (if ltb (sessionPlace σ session) sessionCount && eqb (mark (now (book .entry)) (sessionPlace σ session)) session then 3 else 0)) ⌝ }
+    ensures { λ r. ⌜ ((σ : State) → Holds (now (cache .entry)) σ → r ≡ (if wroteIn σ (now (book .entry)) session then 3 else 0)) ⌝ }
 {
     if wrote_for(cache, book, session) {
         return UNDO_RULE;
     }
-    KEPT
+    book::KEPT
 }
 
 // The rule that the command would break if it were answered with its word. A buffer that is not well formed is answered with a refusal.
@@ -106,35 +103,35 @@ pub fn risk(cache: &[u8], book: &[u8], command: Command, value: &[u8]) -> u64
     ensures { λ r. ⌜ (wellFormed (now (cache .entry)) ≡ true → r ≡ riskOf (now (cache .entry)) (now (book .entry)) command (now (value .entry))) ⌝ }
 {
     if cache.len() != layout::STATE_SIZE {
-        return KEPT;
+        return book::KEPT;
     }
     match command {
-        Command::Begin => KEPT,
-        Command::Get { session: _, key: _ } => KEPT,
+        Command::Begin => book::KEPT,
+        Command::Get { session: _, key: _ } => book::KEPT,
         Command::Fill { token: _, key } => fill_risk(book, key, value),
         Command::Quar {
             session: _,
             key: _,
             kind: _,
-        } => KEPT,
+        } => book::KEPT,
         Command::Stage {
             session: _,
             step: _,
             key: _,
-        } => KEPT,
+        } => book::KEPT,
         Command::Delta {
             session: _,
             step: _,
             key: _,
             operation: _,
-        } => KEPT,
+        } => book::KEPT,
         Command::Validate {
             session: _,
             count: _,
-        } => KEPT,
+        } => book::KEPT,
         Command::Done { session } => done_risk(cache, book, session),
         Command::Undo { session } => undo_risk(cache, book, session),
-        Command::Evict { key: _ } => KEPT,
-        Command::Tick => KEPT,
+        Command::Evict { key: _ } => book::KEPT,
+        Command::Tick => book::KEPT,
     }
 }

@@ -14,9 +14,6 @@ use machine::Answer;
 use machine::Command;
 use words::Numbers;
 
-// No rule broken.
-const KEPT: u64 = 0;
-
 // A number that is no key, and a word that the cache does not have.
 const NO_KEY: u64 = layout::KEY_COUNT as u64;
 
@@ -49,10 +46,10 @@ pub fn begin(cache: &mut [u8], book: &mut [u8], read: u64, write: u64) -> Said
     let answer = startup::start(cache, read, write);
     let n = words::as_numbers(answer);
     if n.word != words::READY {
-        return tell(n, KEPT);
+        return tell(n, book::KEPT);
     }
     book::set_started(book);
-    tell(n, KEPT)
+    tell(n, book::KEPT)
 }
 
 // The word at which a command's rule counts.
@@ -142,7 +139,7 @@ fn rule_of(command: Command, word: u64, risk: u64) -> u64
     if word == watched(command) {
         return risk;
     }
-    KEPT
+    book::KEPT
 }
 
 // Any other letter, once its command has been answered: the answer is told with the rule that counts at its word, and a grant noted.

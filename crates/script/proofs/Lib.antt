@@ -3,3 +3,4 @@ pub mod Library
 pub mod Steps
 pub mod Stretches
 pub mod Whole
+pub mod OneAnswer

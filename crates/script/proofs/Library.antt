@@ -1,20 +1,21 @@
 -- What the library leaves in the part of the output buffer that is lent for a text. The part keeps its length, so the text fits it.
-use mathlib.Core.Path.{_≡_, refl, sym, ap, _∙_}
+use mathlib.Core.Path.{_≡_, sym, ap, _∙_}
 use mathlib.Core.Bool.{Bool, true, false, _&&_}
-use mathlib.Core.List.{List, [], _∷_, _++_}
+use mathlib.Core.List.{List, [], _++_}
 use Prim.Native.Nat.{ℕ, _+_, _-_, _≤_}
 use native.Mathlib.Omega.{arith}
 use lib.ListN.{length, take, drop, length-append}
 use lib.Dec.{eqb, leb}
 use borrow.Author.Tests.{le-leb}
-use Rattle.lent.specs.Bytes.{splice, win}
+use Rattle.lent.specs.Bytes.{splice}
 use Rattle.lent.specs.Tables.{if_then_else_}
 use Rattle.lent.proofs.Splice.{length-win, part-win, splice-none}
 use Rattle.book.specs.Book.{bookSize, linesIn, brokenIn}
 use Rattle.replies.specs.Replies.{lineRoom, ended}
-use Rattle.rehearsal.specs.Rehearsal.{Turn, Left, Leaves, wrote, turn, lineOf, endOf}
-use Rattle.script.specs.World.{World, turned, answerLine, endLine}
-use Rattle.script.specs.Buffers.{textMax, worldOf, Printed, Says}
+use Rattle.rehearsal.specs.Rehearsal.{Left, Leaves, wrote, turn, lineOf, endOf}
+use Rattle.book.specs.Memory.{memoryOf}
+use Rattle.script.specs.Input.{asAnswer, answerLine, endLine}
+use Rattle.script.specs.Buffers.{Printed, Delivered}
 use Rattle.script.proofs.Prints.{printed-part}
 
 -- the part that is lent for a text, when it comes back as x with a text of r bytes
@@ -26,30 +27,30 @@ splice-least : (s x : List ℕ) → length x ≤ length (splice s 0 x)
 unfolding splice
 splice-least s x = simp length-append (omega arith)
 
--- a text that was put into the part of textMax bytes at `put`
-pub put-printed : (out text x : List ℕ) (put r : ℕ) → put + textMax ≤ length out
-    → length x ≡ length (take (put + textMax - put) (drop put out)) → Put text (take (put + textMax - put) (drop put out)) r x
-    → Printed text out put (take put out ++ (x ++ drop (put + textMax - put) (drop put out))) (put + r) × (r ≤ textMax)
+-- a text that was put into the part of lineRoom bytes at `put`
+pub put-printed : (out text x : List ℕ) (put r : ℕ) → put + lineRoom ≤ length out
+    → length x ≡ length (take (put + lineRoom - put) (drop put out)) → Put text (take (put + lineRoom - put) (drop put out)) r x
+    → Printed text out put (take put out ++ (x ++ drop (put + lineRoom - put) (drop put out))) (put + r) × (r ≤ lineRoom)
 put-printed out text x put r h l p =
-    let part : List ℕ = take (put + textMax - put) (drop put out) in
-    let lp : length part ≡ textMax = ap length (part-win out put textMax) ∙ length-win out put textMax h in
-    let f : length text ≤ textMax = let s = splice-least part text in omega (arith, ap length (p .bytes)) in
+    let part : List ℕ = take (put + lineRoom - put) (drop put out) in
+    let lp : length part ≡ lineRoom = ap length (part-win out put lineRoom) ∙ length-win out put lineRoom h in
+    let f : length text ≤ lineRoom = let s = splice-least part text in omega (arith, ap length (p .bytes)) in
     (printed-part out text x put r h (p .bytes) (p .number) f, omega (arith, p .number))
 
-part-room : (out : List ℕ) (put : ℕ) → put + textMax ≤ length out → leb lineRoom (length (take (put + textMax - put) (drop put out))) ≡ true
+part-room : (out : List ℕ) (put : ℕ) → put + lineRoom ≤ length out → leb lineRoom (length (take (put + lineRoom - put) (drop put out))) ≡ true
 part-room out put h =
-    let lp : length (take (put + textMax - put) (drop put out)) ≡ textMax = ap length (part-win out put textMax) ∙ length-win out put textMax h in
-    le-leb lineRoom (length (take (put + textMax - put) (drop put out))) (omega arith)
+    let lp : length (take (put + lineRoom - put) (drop put out)) ≡ lineRoom = ap length (part-win out put lineRoom) ∙ length-win out put lineRoom h in
+    le-leb lineRoom (length (take (put + lineRoom - put) (drop put out))) (omega arith)
 
 -- the two calls, where there is room
 module _ (book part : List ℕ) (room : leb lineRoom (length part) ≡ true) where
   line-put : (cache l cache′ book′ x : List ℕ) (r : ℕ) → Leaves (lineOf cache book l part) r cache′ book′ x
-      → Put (answerLine (worldOf cache book) l .text) part r x × (worldOf cache′ book′ ≡ answerLine (worldOf cache book) l .world)
+      → Put (answerLine (memoryOf cache book) l .text) part r x × (memoryOf cache′ book′ ≡ answerLine (memoryOf cache book) l .world)
   unfolding lineOf answerLine
   line-put cache l cache′ book′ x r = rw room (go (eqb (length book) bookSize))
     where
       go : (t : Bool) → Leaves (if t && true then wrote (turn cache book l) part else record { length = 0; cache = cache; book = book; out = part }) r cache′ book′ x
-          → let s = if t then turned (turn cache book l) else record { world = worldOf cache book; text = [] } in Put (s .text) part r x × (worldOf cache′ book′ ≡ s .world)
+          → let s = if t then asAnswer (turn cache book l) else record { world = memoryOf cache book; text = [] } in Put (s .text) part r x × (memoryOf cache′ book′ ≡ s .world)
       go true e = (record { number = e .length; bytes = e .out }, rw (e .cache, e .book))
       go false e = (record { number = e .length; bytes = e .out ∙ sym (splice-none part 0) }, rw (e .cache, e .book))
 
@@ -63,15 +64,15 @@ module _ (book part : List ℕ) (room : leb lineRoom (length part) ≡ true) whe
       go false e = record { number = e .0; bytes = e .1 ∙ sym (splice-none part 0) }
 
 -- the same in the whole buffer
-module _ (book out : List ℕ) (put : ℕ) (h : put + textMax ≤ length out) (x : List ℕ) (r : ℕ)
-    (same : length x ≡ length (take (put + textMax - put) (drop put out))) where
-  pub line-said : (cache l cache′ book′ : List ℕ) → Leaves (lineOf cache book l (take (put + textMax - put) (drop put out))) r cache′ book′ x
-      → Says (answerLine (worldOf cache book) l) (worldOf cache′ book′) out put (take put out ++ (x ++ drop (put + textMax - put) (drop put out))) (put + r) × (r ≤ textMax)
-  line-said cache l cache′ book′ e =
+module _ (book out : List ℕ) (put : ℕ) (h : put + lineRoom ≤ length out) (x : List ℕ) (r : ℕ)
+    (same : length x ≡ length (take (put + lineRoom - put) (drop put out))) where
+  pub line-delivered : (cache l cache′ book′ : List ℕ) → Leaves (lineOf cache book l (take (put + lineRoom - put) (drop put out))) r cache′ book′ x
+      → Delivered (answerLine (memoryOf cache book) l) (memoryOf cache′ book′) out put (take put out ++ (x ++ drop (put + lineRoom - put) (drop put out))) (put + r) × (r ≤ lineRoom)
+  line-delivered cache l cache′ book′ e =
       let p = line-put book _ (part-room out put h) cache l cache′ book′ x r e in
       let q = put-printed out _ x put r h same (p .0) in
       (record { world = p .1; printed = q .0 }, q .1)
 
-  pub end-said : let e = endOf book (take (put + textMax - put) (drop put out)) in (r ≡ e .length) × (x ≡ e .out)
-      → Printed (endLine book) out put (take put out ++ (x ++ drop (put + textMax - put) (drop put out))) (put + r) × (r ≤ textMax)
-  end-said e = put-printed out _ x put r h same (end-put book _ (part-room out put h) x r e)
+  pub end-printed : let e = endOf book (take (put + lineRoom - put) (drop put out)) in (r ≡ e .length) × (x ≡ e .out)
+      → Printed (endLine book) out put (take put out ++ (x ++ drop (put + lineRoom - put) (drop put out))) (put + r) × (r ≤ lineRoom)
+  end-printed e = put-printed out _ x put r h same (end-put book _ (part-room out put h) x r e)

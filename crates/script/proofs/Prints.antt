@@ -1,25 +1,26 @@
 -- A text printed into a part of the output buffer is printed into the buffer, and one that follows another makes one text with it.
 use mathlib.Core.Path.{_≡_, refl, sym, ap, _∙_}
-use mathlib.Core.List.{List, [], _∷_, _++_}
+use mathlib.Core.List.{List, [], _++_}
 use Prim.Native.Nat.{ℕ, _+_, _-_, _≤_}
 use native.Mathlib.Nat.{add-zero}
 use native.Mathlib.Omega.{arith}
 use lib.ListN.{length, take, drop, length-append}
 use Rattle.lent.specs.Bytes.{splice, win}
 use Rattle.lent.proofs.Splice.{length-win, length-splice, splice-none, splice-next, splice-win, part-win, part-splice}
-use Rattle.script.specs.Buffers.{textMax, Printed}
+use Rattle.replies.specs.Replies.{lineRoom}
+use Rattle.script.specs.Buffers.{Printed}
 
 -- a text at the front of the part that was lent
-pub printed-part : (out text x : List ℕ) (put r : ℕ) → put + textMax ≤ length out
-    → x ≡ splice (take (put + textMax - put) (drop put out)) 0 text → r ≡ length text → length text ≤ textMax
-    → Printed text out put (take put out ++ (x ++ drop (put + textMax - put) (drop put out))) (put + r)
+pub printed-part : (out text x : List ℕ) (put r : ℕ) → put + lineRoom ≤ length out
+    → x ≡ splice (take (put + lineRoom - put) (drop put out)) 0 text → r ≡ length text → length text ≤ lineRoom
+    → Printed text out put (take put out ++ (x ++ drop (put + lineRoom - put) (drop put out))) (put + r)
 printed-part out text x put r h e n f =
-    let q : x ≡ splice (win out put textMax) 0 text = e ∙ ap (λ (l : List ℕ). splice l 0 text) (part-win out put textMax) in
-    let lw : length (win out put textMax) ≡ textMax = length-win out put textMax h in
-    let lx : length x ≡ textMax = ap length q ∙ length-splice (win out put textMax) 0 text (omega arith) ∙ lw in
+    let q : x ≡ splice (win out put lineRoom) 0 text = e ∙ ap (λ (l : List ℕ). splice l 0 text) (part-win out put lineRoom) in
+    let lw : length (win out put lineRoom) ≡ lineRoom = length-win out put lineRoom h in
+    let lx : length x ≡ lineRoom = ap length q ∙ length-splice (win out put lineRoom) 0 text (omega arith) ∙ lw in
     let z : splice out (put + 0) text ≡ splice out put text = rw add-zero in
     record {
-      bytes = part-splice out x put textMax lx ∙ ap (splice out put) q ∙ splice-win out put textMax 0 text h (omega arith) ∙ z;
+      bytes = part-splice out x put lineRoom lx ∙ ap (splice out put) q ∙ splice-win out put lineRoom 0 text h (omega arith) ∙ z;
       place = omega arith;
       fits = omega arith;
     }

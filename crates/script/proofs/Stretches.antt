@@ -1,67 +1,85 @@
--- A stretch of the chunk, byte by byte: the bytes taken so far are answered as the definition answers them, and a byte more is its step.
+-- A stretch of the chunk, byte by byte: the bytes taken so far are answered and held as the definitions say, and a byte more is its step.
 use mathlib.Core.Path.{_≡_, refl, sym, ap, _∙_}
-use mathlib.Core.Logic.{_⊎_, inl, inr, ⊎-elim}
+use mathlib.Core.Logic.{⊎-elim}
 use mathlib.Core.List.{List, [], _∷_, _++_}
 use Prim.Native.Nat.{ℕ, _+_, _-_, _≤_, _<_}
 use native.Mathlib.Nat.{eq-or-lt-of-le}
 use native.Mathlib.Omega.{arith}
-use lib.ListN.{length, take, drop, getD}
+use lib.ListN.{length, take, getD}
 use lib.Seq.{take-add}
 use Rattle.lent.specs.Bytes.{win}
 use Rattle.lent.proofs.Splice.{win-none, win-more}
-use Rattle.feed.specs.Answers.{Said, Open, behind, byte, fed}
+use Rattle.feed.specs.Held.{Buffer, pushed, pushedAll}
+use Rattle.feed.specs.Answers.{Open, behind, byte, fed}
+use Rattle.feed.proofs.Laws.{pushed-none, pushed-more}
 use Rattle.feed.proofs.Cut.{fed-none, fed-append, fed-more}
-use Rattle.script.specs.World.{World, answerLine}
-use Rattle.script.specs.Buffers.{textMax, Printed, Says, Reaches, Stretched}
+use Rattle.book.specs.Memory.{Memory}
+use Rattle.replies.specs.Replies.{lineRoom}
+use Rattle.script.specs.Input.{answerLine}
+use Rattle.script.specs.Buffers.{Delivered, Reaches, Stretched}
 use Rattle.script.proofs.Prints.{printed-none, printed-next}
 
-module _ (o : Open World) (chunk : List ℕ) (from : ℕ) (out : List ℕ) where
+-- the bytes from one place of the chunk to another
+module _ (chunk : List ℕ) (from : ℕ) where
+  win-to-none : win chunk from (from - from) ≡ []
+  win-to-none = let z : from - from ≡ 0 = omega arith in rw z (win-none chunk from)
+
+  win-to-more : (i : ℕ) → from ≤ i → i < length chunk → win chunk from (i + 1 - from) ≡ win chunk from (i - from) ++ getD chunk i 0 ∷ []
+  win-to-more i f l =
+      let n : i + 1 - from ≡ i - from + 1 = omega arith in
+      let a : from + (i - from) ≡ i = omega arith in
+      rw n (win-more chunk from (i - from) (omega arith) ∙ rw a)
+
+  pub buffer-none : (k : Buffer) → k ≡ pushedAll k (win chunk from (from - from))
+  buffer-none k = rw win-to-none (sym (pushed-none k))
+
+  pub buffer-more : (k now then : Buffer) (i : ℕ) → from ≤ i → i < length chunk → now ≡ pushedAll k (win chunk from (i - from)) → then ≡ pushed now (getD chunk i 0)
+      → then ≡ pushedAll k (win chunk from (i + 1 - from))
+  buffer-more k now then i f l e q = rw (win-to-more i f l, pushed-more k (win chunk from (i - from)) (getD chunk i 0), ← e) q
+
+module _ (o : Open Memory) (chunk : List ℕ) (from : ℕ) (out : List ℕ) where
   pub reaches-none : from ≤ length chunk → Reaches o chunk from from o out out 0
   reaches-none h =
-      let z : from - from ≡ 0 = omega arith in
       let e : fed answerLine o (win chunk from (from - from)) ≡ record { world = o; text = [] } =
-      rw (z, win-none chunk from) (fed-none answerLine o) in
+      rw (win-to-none chunk from) (fed-none answerLine o) in
       record {
-        says = rw e (record { world = refl; printed = printed-none out 0 (omega arith) });
+        answered = rw e (record { world = refl; printed = printed-none out 0 (omega arith) });
         within = (omega arith, h);
         room = λ k l. absurd (omega arith);
       }
 
-  pub reaches-more : (i : ℕ) (mid after : List ℕ) (put next : ℕ) (now then : Open World)
-      → Reaches o chunk from i now out mid put → i < length chunk → put + textMax ≤ length out
-      → Says (byte answerLine now (getD chunk i 0)) then mid put after next
+  pub reaches-more : (i : ℕ) (mid after : List ℕ) (put next : ℕ) (now then : Open Memory)
+      → Reaches o chunk from i now out mid put → i < length chunk → put + lineRoom ≤ length out
+      → Delivered (byte answerLine now (getD chunk i 0)) then mid put after next
       → Reaches o chunk from (i + 1) then out after next
   reaches-more i mid after put next now then r l m p =
       let xs : List ℕ = win chunk from (i - from) in
       let f = r .within .0 in
-      let n : i + 1 - from ≡ i - from + 1 = omega arith in
-      let a : from + (i - from) ≡ i = omega arith in
-      let x : win chunk from (i + 1 - from) ≡ xs ++ getD chunk i 0 ∷ [] =
-      rw n (win-more chunk from (i - from) (omega arith) ∙ rw a) in
+      let x = win-to-more chunk from i f l in
       let e : fed answerLine o (win chunk from (i + 1 - from)) ≡ behind (fed answerLine o xs .text) (byte answerLine now (getD chunk i 0)) =
-      rw x (fed-more answerLine o xs (getD chunk i 0) (byte answerLine now (getD chunk i 0)) (rw (r .says .world))) in
+      rw x (fed-more answerLine o xs (getD chunk i 0) (byte answerLine now (getD chunk i 0)) (rw (r .answered .world))) in
       record {
-        says = rw e (record { world = p .world; printed = printed-next _ _ _ _ _ 0 put next (r .says .printed) (p .printed) });
+        answered = rw e (record { world = p .world; printed = printed-next _ _ _ _ _ 0 put next (r .answered .printed) (p .printed) });
         within = (omega arith, omega arith);
-        room = λ k h. ⊎-elim (λ q. rw q (let e = r .says .printed .place in omega arith)) (λ h. r .room k h) (eq-or-lt-of-le (let j : k ≤ i - from = omega arith in j));
+        room = λ k h. ⊎-elim (λ q. rw q (let e = r .answered .printed .place in omega arith)) (λ h. r .room k h) (eq-or-lt-of-le (let j : k ≤ i - from = omega arith in j));
       }
 
   -- a stretch that starts within the chunk, with room for an output line, takes a byte
-  pub stretched-on : {next : ℕ} {after : List ℕ} {put : ℕ} {now : Open World} → Stretched o chunk from next now out after put
-      → from < length chunk → textMax ≤ length out → from < next
+  pub stretched-on : {next : ℕ} {after : List ℕ} {put : ℕ} {now : Open Memory} → Stretched o chunk from next now out after put
+      → from < length chunk → lineRoom ≤ length out → from < next
   stretched-on {next} {after} {put} {now} s l m = ⊎-elim (λ e. omega arith) (λ f. ⊎-elim (λ q. absurd (none q f)) (λ h. h) (eq-or-lt-of-le (s .reaches .within .0))) (s .stops)
     where
-      none : from ≡ next → length out < put + textMax → ⊥
+      none : from ≡ next → length out < put + lineRoom → ⊥
       none q f =
           let z : next - from ≡ 0 = omega arith in
           let e : fed answerLine o (win chunk from (next - from)) ≡ record { world = o; text = [] } =
           rw (z, win-none chunk from) (fed-none answerLine o) in
-          let p : put ≡ 0 + length (fed answerLine o (win chunk from (next - from)) .text) = s .reaches .says .printed .place in
+          let p : put ≡ 0 + length (fed answerLine o (win chunk from (next - from)) .text) = s .reaches .answered .printed .place in
           let p0 : put ≡ 0 = rw e at p in
           omega arith
 
 -- stretches one behind the other
-pub poured-on : (o now then : Open World) (chunk : List ℕ) (from next : ℕ) (out after : List ℕ) (put : ℕ)
+pub poured-on : (o now then : Open Memory) (chunk : List ℕ) (from next : ℕ) (out after : List ℕ) (put : ℕ)
     → now ≡ fed answerLine o (take from chunk) .world → Stretched now chunk from next then out after put
     → then ≡ fed answerLine o (take next chunk) .world
 unfolding win
@@ -70,4 +88,4 @@ poured-on o now then chunk from next out after put e s =
     let n : next ≡ from + (next - from) = omega arith in
     let t : take next chunk ≡ take from chunk ++ win chunk from (next - from) =
     ap (λ (k : ℕ). take k chunk) n ∙ take-add from (next - from) chunk in
-    s .reaches .says .world ∙ rw (t, fed-append answerLine o (take from chunk) (win chunk from (next - from)), e)
+    s .reaches .answered .world ∙ rw (t, fed-append answerLine o (take from chunk) (win chunk from (next - from)), e)

@@ -6,22 +6,17 @@ use mathlib.Core.List.{List}
 use lib.ListN.{length, take}
 use Rattle.lent.specs.Bytes.{splice, win}
 use Rattle.feed.specs.Lines.{heldMax}
-use Rattle.feed.specs.Answers.{Said, Open, fed}
-use Rattle.script.specs.World.{World, answerLine}
-
--- the room that an output line or the end line asks for
-abbrev pub textMax : ℕ
-textMax = 256
-
-abbrev pub worldOf : List ℕ → List ℕ → World
-worldOf cache book = record { cache = cache; book = book }
+use Rattle.feed.specs.Answers.{Answered, Open, fed}
+use Rattle.book.specs.Memory.{Memory, memoryOf}
+use Rattle.replies.specs.Replies.{lineRoom}
+use Rattle.script.specs.Input.{answerLine}
 
 -- between two bytes: the first `held` bytes of `line` are held
-abbrev pub opened : List ℕ → List ℕ → List ℕ → ℕ → Open World
-opened cache book line held = record { world = worldOf cache book; held = take held line }
+abbrev pub opened : List ℕ → List ℕ → List ℕ → ℕ → Open Memory
+opened cache book line held = record { world = memoryOf cache book; held = take held line }
 
 -- the line's buffer has its size, and no more is held than fits it
-pub record Holds (line : List ℕ) (held : ℕ) : Type 0 where
+pub record HeldFits (line : List ℕ) (held : ℕ) : Type 0 where
   pub size : length line ≡ heldMax
   pub most : held ≤ heldMax
 
@@ -31,18 +26,18 @@ pub record Printed (text out : List ℕ) (put : ℕ) (after : List ℕ) (next : 
   pub place : next ≡ put + length text
   pub fits : next ≤ length out
 
--- the world after what was said, and its text printed
-pub record Says {W : Type 0} (s : Said W) (now : W) (out : List ℕ) (put : ℕ) (after : List ℕ) (next : ℕ) : Type 0 where
+-- what stands after an answer, and its text printed
+pub record Delivered {W : Type 0} (s : Answered W) (now : W) (out : List ℕ) (put : ℕ) (after : List ℕ) (next : ℕ) : Type 0 where
   pub world : now ≡ s .world
   pub printed : Printed (s .text) out put after next
 
 -- the bytes of the chunk from place `from` to place `next` are answered, and before each there was room for another output line
-pub record Reaches (o : Open World) (chunk : List ℕ) (from next : ℕ) (now : Open World) (out after : List ℕ) (put : ℕ) : Type 0 where
-  pub says : Says (fed answerLine o (win chunk from (next - from))) now out 0 after put
+pub record Reaches (o : Open Memory) (chunk : List ℕ) (from next : ℕ) (now : Open Memory) (out after : List ℕ) (put : ℕ) : Type 0 where
+  pub answered : Delivered (fed answerLine o (win chunk from (next - from))) now out 0 after put
   pub within : (from ≤ next) × (next ≤ length chunk)
-  pub room : (k : ℕ) → k < next - from → length (fed answerLine o (win chunk from k) .text) + textMax ≤ length out
+  pub room : (k : ℕ) → k < next - from → length (fed answerLine o (win chunk from k) .text) + lineRoom ≤ length out
 
 -- and no further: the chunk ends there, or there is no more room
-pub record Stretched (o : Open World) (chunk : List ℕ) (from next : ℕ) (now : Open World) (out after : List ℕ) (put : ℕ) : Type 0 where
+pub record Stretched (o : Open Memory) (chunk : List ℕ) (from next : ℕ) (now : Open Memory) (out after : List ℕ) (put : ℕ) : Type 0 where
   pub reaches : Reaches o chunk from next now out after put
-  pub stops : (next ≡ length chunk) ⊎ (length out < put + textMax)
+  pub stops : (next ≡ length chunk) ⊎ (length out < put + lineRoom)

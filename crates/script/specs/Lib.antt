@@ -1,2 +1,2 @@
-pub mod World
+pub mod Input
 pub mod Buffers

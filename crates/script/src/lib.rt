@@ -1,13 +1,18 @@
 // The input of a rehearsal as it comes: its bytes are answered into an output buffer.
-ghost use Prim.Native.Nat.{_+_, _≤_};
+ghost use mathlib.Core.Path.{_≡_};
+ghost use Prim.Native.Nat.{_+_, _-_, _≤_};
 ghost use lib.ListN.{length, take};
+ghost use Rattle.lent.specs.Bytes.{win};
+ghost use Rattle.feed.specs.Held.{buffer, pushed, pushedAll};
 ghost use Rattle.feed.specs.Answers.{byte};
-ghost use Rattle.script.specs.World.{answerLine, endLine, ended};
-ghost use Rattle.script.specs.Buffers.{textMax, worldOf, opened, Holds, Printed, Says, Stretched};
+ghost use Rattle.book.specs.Memory.{memoryOf};
+ghost use Rattle.replies.specs.Replies.{lineRoom};
+ghost use Rattle.script.specs.Input.{answerLine, endLine, finished};
+ghost use Rattle.script.specs.Buffers.{opened, HeldFits, Printed, Delivered, Stretched};
 use feed::Taken;
 
 // Room that an output line or the end line asks for.
-const TEXT_MAX: usize = 256;
+const LINE_ROOM: usize = 256;
 
 // How many bytes of a line are held, and how many of the output are put.
 struct Place {
@@ -24,21 +29,21 @@ pub struct Reached {
 
 // Answers a line into `out` at `put`; the place behind the answer.
 fn answer(cache: &mut [u8], book: &mut [u8], line: &[u8], out: &mut [u8], put: usize) -> usize
-    requires { ⌜ put + textMax ≤ length (now out) ⌝ }
-    ensures { λ r. ⌜ Says (answerLine (worldOf (now (cache .entry)) (now (book .entry))) (now (line .entry))) (worldOf (now (cache .exit)) (now (book .exit))) (now (out .entry)) put (now (out .exit)) r ⌝ }
-    ensures { λ r. ⌜ r ≤ put + textMax ⌝ }
+    requires { ⌜ put + lineRoom ≤ length (now out) ⌝ }
+    ensures { λ r. ⌜ Delivered (answerLine (memoryOf (now (cache .entry)) (now (book .entry))) (now (line .entry))) (memoryOf (now (cache .exit)) (now (book .exit))) (now (out .entry)) put (now (out .exit)) r ⌝ }
+    ensures { λ r. ⌜ r ≤ put + lineRoom ⌝ }
 {
-    let until = put + TEXT_MAX;
+    let until = put + LINE_ROOM;
     let n = rehearsal::line(cache, book, line, &mut out[put..until]);
     put + n
 }
 
 // The end line into `out` at `put`; the place behind it.
 fn end(book: &[u8], out: &mut [u8], put: usize) -> usize
-    requires { ⌜ put + textMax ≤ length (now out) ⌝ }
+    requires { ⌜ put + lineRoom ≤ length (now out) ⌝ }
     ensures { λ r. ⌜ Printed (endLine (now (book .entry))) (now (out .entry)) put (now (out .exit)) r ⌝ }
 {
-    let until = put + TEXT_MAX;
+    let until = put + LINE_ROOM;
     let n = rehearsal::end(book, &mut out[put..until]);
     put + n
 }
@@ -52,9 +57,10 @@ fn step(
     out: &mut [u8],
     at: Place,
 ) -> Place
-    requires { ⌜ (at .put + textMax ≤ length (now out)) × Holds (now line) (at .held) ⌝ }
-    ensures { λ r. ⌜ Says (byte answerLine (opened (now (cache .entry)) (now (book .entry)) (now (line .entry)) (at .held)) b) (opened (now (cache .exit)) (now (book .exit)) (now (line .exit)) (r .held)) (now (out .entry)) (at .put) (now (out .exit)) (r .put) ⌝ }
-    ensures { λ r. ⌜ Holds (now (line .exit)) (r .held) ⌝ }
+    requires { ⌜ (at .put + lineRoom ≤ length (now out)) × HeldFits (now line) (at .held) ⌝ }
+    ensures { λ r. ⌜ Delivered (byte answerLine (opened (now (cache .entry)) (now (book .entry)) (now (line .entry)) (at .held)) b) (opened (now (cache .exit)) (now (book .exit)) (now (line .exit)) (r .held)) (now (out .entry)) (at .put) (now (out .exit)) (r .put) ⌝ }
+    ensures { λ r. ⌜ HeldFits (now (line .exit)) (r .held) ⌝ }
+    ensures { λ r. ⌜ buffer (now (line .exit)) (r .held) ≡ pushed (buffer (now (line .entry)) (at .held)) b ⌝ }
 {
     let put = at.put;
     let taken = feed::push(line, at.held, b);
@@ -77,15 +83,16 @@ pub fn stretch(
     from: usize,
     out: &mut [u8],
 ) -> Reached
-    requires { ⌜ (from ≤ length (now chunk)) × Holds (now line) held ⌝ }
+    requires { ⌜ (from ≤ length (now chunk)) × HeldFits (now line) held ⌝ }
     ensures { λ r. ⌜ Stretched (opened (now (cache .entry)) (now (book .entry)) (now (line .entry)) held) (now (chunk .entry)) from (r .from) (opened (now (cache .exit)) (now (book .exit)) (now (line .exit)) (r .held)) (now (out .entry)) (now (out .exit)) (r .put) ⌝ }
-    ensures { λ r. ⌜ Holds (now (line .exit)) (r .held) ⌝ }
+    ensures { λ r. ⌜ HeldFits (now (line .exit)) (r .held) ⌝ }
+    ensures { λ r. ⌜ buffer (now (line .exit)) (r .held) ≡ pushedAll (buffer (now (line .entry)) held) (win (now (chunk .entry)) from (r .from - from)) ⌝ }
 {
     let mut at = Place { held, put: 0 };
     let mut i = from;
     while i < chunk.len() {
         let put = at.put;
-        if out.len() - put < TEXT_MAX {
+        if out.len() - put < LINE_ROOM {
             return Reached {
                 from: i,
                 held: at.held,
@@ -104,8 +111,8 @@ pub fn stretch(
 
 // The end of the input: an unended last line is answered, and the end line follows.
 pub fn finish(cache: &mut [u8], book: &mut [u8], line: &[u8], held: usize, out: &mut [u8]) -> usize
-    requires { ⌜ (textMax + textMax ≤ length (now out)) × Holds (now line) held ⌝ }
-    ensures { λ r. ⌜ Says (ended (worldOf (now (cache .entry)) (now (book .entry))) (take held (now (line .entry)))) (worldOf (now (cache .exit)) (now (book .exit))) (now (out .entry)) 0 (now (out .exit)) r ⌝ }
+    requires { ⌜ (lineRoom + lineRoom ≤ length (now out)) × HeldFits (now line) held ⌝ }
+    ensures { λ r. ⌜ Delivered (finished (memoryOf (now (cache .entry)) (now (book .entry))) (take held (now (line .entry)))) (memoryOf (now (cache .exit)) (now (book .exit))) (now (out .entry)) 0 (now (out .exit)) r ⌝ }
 {
     if held == 0 {
         return end(book, out, 0);

@@ -14,9 +14,7 @@ ghost use Rattle.writes.specs.Writes.{mayWrite, marked, writes, Writes};
 use layout::Found;
 use rules::Said;
 
-// Rule 2 by its number, 0 where it is kept.
-const KEPT: u64 = 0;
-
+// Rule 2 by its number.
 const WRITE_RULE: u64 = 2;
 
 // Rule 2, of a write for the session at place i, which is marked whether it keeps the rule or not.
@@ -32,7 +30,7 @@ fn mark_write(cache: &[u8], book: &mut [u8], i: usize, key: u64) -> u64
     }
     let row = lookups::find(cache, number as u64, key as usize);
     match row {
-        Found::At(_) => KEPT,
+        Found::At(_) => book::KEPT,
         Found::Nothing => WRITE_RULE,
     }
 }

@@ -4,9 +4,7 @@ use mathlib.Core.Path.{_≡_, refl, sym, ap, _∙_}
 use native.Mathlib.Omega.{arith}
 use borrow.Author.Needs.{needs}
 use Rattle.joins.specs.Joins.{item, tries, spread, Passed, stop, full}
-use Rattle.joins.specs.Joins.{item, tries, spread, Passed, stop, full}
 use Rattle.joins.proofs.Seats.{spread-more, seat-later, passed-more}
-use Rattle.joins.proofs.Seats.{spread-more, passed-more}
 use Rattle.joins.proofs.seek.Statement.{statement}
 use Rattle.joins.proofs.seek.Tie as tie
 

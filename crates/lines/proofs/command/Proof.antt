@@ -1,7 +1,7 @@
 -- `command` meets its contract: an arm for each form of a shape.
 use mathlib.Core.Path.{sym, _∙_}
 use Rattle.lines.specs.Lines.{commandLine}
-use Rattle.lines.proofs.Saying.{gives-none, gives-said}
+use Rattle.lines.proofs.Saying.{gives-none, gives-unvalued}
 use borrow.Author.Needs.{needs}
 use Rattle.lines.proofs.command.Statement.{statement}
 use Rattle.lines.proofs.command.Tie as tie
@@ -25,7 +25,7 @@ enum-told : tie.Need-enum-told
 enum-told c = search needs
 
 returns : tie.Need-returns
-returns c = rw (sym (c .before .before .before .before .shape-of .ensures) ∙ c .before .before .shape .given .1) (gives-said _ _ _ (c .plain .ensures))
+returns c = rw (sym (c .before .before .before .before .shape-of .ensures) ∙ c .before .before .shape .given .1) (gives-unvalued _ _ _ (c .plain .ensures))
 
 same-length : tie.Need-same-length
 same-length c = search needs

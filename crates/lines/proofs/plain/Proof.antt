@@ -1,6 +1,6 @@
 -- `plain` meets its contract: behind the numbers no field is left exactly if the next place is past the line.
 use Rattle.lines.specs.Lines.{commandLine}
-use Rattle.lines.proofs.Saying.{ended-in, ended-past}
+use Rattle.lines.proofs.Saying.{at-end-in, at-end-past}
 use borrow.Author.Needs.{needs}
 use Rattle.lines.proofs.plain.Statement.{statement}
 use Rattle.lines.proofs.plain.Tie as tie
@@ -20,11 +20,11 @@ returns c = rw (c .before .before .numbers .ensures, c .enum-told .given .1)
 
 returns-2 : tie.Need-returns-2
 unfolding commandLine
-returns-2 c = rw (c .before .before .before .before .numbers .ensures, c .before .before .a .given .1, ended-in (c .before .before .before .before .before .before .args .line .now) (c .before .before .a .given .0 .1 .1 .1 .1 .0) _ (search needs))
+returns-2 c = rw (c .before .before .before .before .numbers .ensures, c .before .before .a .given .1, at-end-in (c .before .before .before .before .before .before .args .line .now) (c .before .before .a .given .0 .1 .1 .1 .1 .0) _ (search needs))
 
 returns-3 : tie.Need-returns-3
 unfolding commandLine
-returns-3 c = rw (c .before .before .before .before .numbers .ensures, c .before .before .a .given .1, ended-past (c .before .before .before .before .before .before .args .line .now) (c .before .before .a .given .0 .1 .1 .1 .1 .0) _ (search needs))
+returns-3 c = rw (c .before .before .before .before .numbers .ensures, c .before .before .a .given .1, at-end-past (c .before .before .before .before .before .before .args .line .now) (c .before .before .a .given .0 .1 .1 .1 .1 .0) _ (search needs))
 
 pub plain-spec : {M : Type 1} → statement M
 plain-spec =

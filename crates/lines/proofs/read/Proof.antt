@@ -6,7 +6,7 @@ use borrow.Author.Tests.{lt-ltb, le-ltb, eq-eqb, ne-eqb}
 use Rattle.lines.specs.Fields.{lineMax}
 use Rattle.lines.specs.Lines.{readLine, startLetter}
 use Rattle.lines.proofs.Cutting.{fields-in}
-use Rattle.lines.proofs.Saying.{gives-none, gives-said}
+use Rattle.lines.proofs.Saying.{gives-none, gives-unvalued}
 use borrow.Author.Needs.{needs}
 use Rattle.lines.proofs.read.Statement.{statement}
 use Rattle.lines.proofs.read.Tie as tie
@@ -39,7 +39,7 @@ start-requires c κs = search needs
 
 returns-3 : tie.Need-returns-3
 unfolding readLine
-returns-3 c = rw (le-ltb lineMax (length (c .before .before .before .before .before .before .before .before .before .args .line .now)) (search needs), sym (fields-in (c .before .before .before .before .before .before .before .before .before .args .line .now) 0 (omega arith)), c .before .before .before .before .before .letter-at .ensures, c .before .before .before .first .given .1, eq-eqb (c .before .before .before .first .given .0 .0) startLetter (c .before .if2 .taken)) (gives-said _ _ _ (c .start .ensures))
+returns-3 c = rw (le-ltb lineMax (length (c .before .before .before .before .before .before .before .before .before .args .line .now)) (search needs), sym (fields-in (c .before .before .before .before .before .before .before .before .before .args .line .now) 0 (omega arith)), c .before .before .before .before .before .letter-at .ensures, c .before .before .before .first .given .1, eq-eqb (c .before .before .before .first .given .0 .0) startLetter (c .before .if2 .taken)) (gives-unvalued _ _ _ (c .start .ensures))
 
 timed-requires-2 : tie.Need-timed-requires-2
 timed-requires-2 c κs = search needs

@@ -1,13 +1,11 @@
 -- Whoever is left validates by himself, and only a clash is a refusal.
 use mathlib.Core.Path.{sym, ap, _∙_}
 use Rattle.refusals.proofs.Lefts.{left-is, left-nobody, clashIn, validates}
-use mathlib.Core.Path.{sym, _∙_}
 use Rattle.machine.specs.State.{sessionOf}
 use Rattle.machine.specs.Expiry.{expire}
 use Rattle.machine.specs.Refusals.{refusals}
 use borrow.Author.Tests.{lt-ltb, le-ltb}
 use Rattle.machine.specs.Sizes.{stepMax}
-use Rattle.refusals.proofs.Lefts.{left-is, left-nobody}
 use borrow.Author.Needs.{needs}
 use Rattle.refusals.proofs.validate.Statement.{statement}
 use Rattle.refusals.proofs.validate.Tie as tie

@@ -1,21 +1,21 @@
 -- `pour` meets its contract: the chunk's bytes before `from` are answered, and each stretch takes at least one more.
 use borrow.Author.Needs.{needs}
 use Prim.Native.Nat.{_-_, _≤_}
-use mathlib.Core.Path.{_≡_, refl, sym, ap, _∙_}
+use mathlib.Core.Path.{_≡_, refl, sym, _∙_}
 use native.Mathlib.Omega.{arith}
 use lib.ListN.{length, take}
 use lib.Seq.{length-take-le, take-length}
 use Rattle.feed.specs.Answers.{fed}
 use Rattle.feed.proofs.Cut.{fed-none}
-use Rattle.script.specs.World.{answerLine}
-use Rattle.script.specs.Buffers.{opened, Holds}
+use Rattle.script.specs.Input.{answerLine}
+use Rattle.script.specs.Buffers.{opened, HeldFits}
 use Rattle.script.proofs.Prints.{printed-length}
 use Rattle.script.proofs.Stretches.{stretched-on, poured-on}
 use Rattle.rehearse.proofs.pour.Statement.{statement}
 use Rattle.rehearse.proofs.pour.Tie as tie
 
 abbrev Inv-loop : tie.InvT-loop
-Inv-loop cache₀ book₀ line₀ held chunk out₀ held₀ from₀ cache book line out held' from = (length cache ≡ length cache₀) × ((length book ≡ length book₀) × ((length out ≡ length out₀) × ((from ≤ length chunk) × (Holds line held' × (opened cache book line held' ≡ fed answerLine (opened cache₀ book₀ line₀ held) (take from chunk) .world)))))
+Inv-loop cache₀ book₀ line₀ held chunk out₀ held₀ from₀ cache book line out held' from = (length cache ≡ length cache₀) × ((length book ≡ length book₀) × ((length out ≡ length out₀) × ((from ≤ length chunk) × (HeldFits line held' × (opened cache book line held' ≡ fed answerLine (opened cache₀ book₀ line₀ held) (take from chunk) .world)))))
 
 abbrev μ-loop : tie.MeasureT-loop
 μ-loop cache₀ book₀ line₀ held chunk out₀ held₀ from₀ cache book line out held' from = length chunk - from
@@ -27,10 +27,10 @@ stretch-requires : tie.Need-stretch-requires Inv-loop μ-loop
 stretch-requires c κs = (c .before .before .before .before .before .loop .inv .1 .1 .1 .0, c .before .before .before .before .before .loop .inv .1 .1 .1 .1 .0)
 
 slice-reshare-prefix-write-all : tie.Need-slice-reshare-prefix-write-all Inv-loop μ-loop
-slice-reshare-prefix-write-all c = let l = printed-length (c .before .before .before .before .before .before .before .before .stretch .ensures .0 .reaches .says .printed) in omega (arith, c .before .before .before .before .before .before .before .before .stretch .ensures .0 .reaches .says .printed .fits)
+slice-reshare-prefix-write-all c = let l = printed-length (c .before .before .before .before .before .before .before .before .stretch .ensures .0 .reaches .answered .printed) in omega (arith, c .before .before .before .before .before .before .before .before .stretch .ensures .0 .reaches .answered .printed .fits)
 
 slice-aggregate-write-all : tie.Need-slice-aggregate-write-all Inv-loop μ-loop
-slice-aggregate-write-all c = let l = printed-length (c .before .before .before .before .before .before .before .before .before .stretch .ensures .0 .reaches .says .printed) in sym (length-take-le _ _ (omega (arith, c .before .before .before .before .before .before .before .before .before .stretch .ensures .0 .reaches .says .printed .fits)))
+slice-aggregate-write-all c = let l = printed-length (c .before .before .before .before .before .before .before .before .before .stretch .ensures .0 .reaches .answered .printed) in sym (length-take-le _ _ (omega (arith, c .before .before .before .before .before .before .before .before .before .stretch .ensures .0 .reaches .answered .printed .fits)))
 
 write-all-requires : tie.Need-write-all-requires Inv-loop μ-loop
 write-all-requires c κs = search needs
@@ -42,7 +42,7 @@ same-length-2 : tie.Need-same-length-2 Inv-loop μ-loop
 same-length-2 c = search needs
 
 same-length-3 : tie.Need-same-length-3 Inv-loop μ-loop
-same-length-3 c = c .before .before .before .before .before .before .before .before .before .before .before .stretch .ensures .1 .size ∙ sym (c .before .before .before .before .before .before .before .before .before .before .before .before .before .before .before .before .before .before .before .before .before .before .before .pre .1 .size)
+same-length-3 c = c .before .before .before .before .before .before .before .before .before .before .before .stretch .ensures .1 .0 .size ∙ sym (c .before .before .before .before .before .before .before .before .before .before .before .before .before .before .before .before .before .before .before .before .before .before .before .pre .1 .size)
 
 same-length-4 : tie.Need-same-length-4 Inv-loop μ-loop
 same-length-4 c = search needs
@@ -54,7 +54,7 @@ loop-less : tie.Need-loop-less Inv-loop μ-loop
 loop-less c = let l = c .before .before .before .before .before .before .before .before .before .before .before .before .before .before .before .before .before .loop .inv .1 .1 .0 in omega (arith, stretched-on _ _ _ _ (c .before .before .before .before .before .before .before .before .before .before .before .stretch .ensures .0) (c .before .before .before .before .before .before .before .before .before .before .before .before .before .before .before .before .loop-test .taken) (omega (arith, c .before .before .before .before .before .before .before .before .before .before .before .before .before .before .before .before .before .before .before .before .before .before .before .pre .0)), c .before .before .before .before .before .before .before .before .before .before .before .stretch .ensures .0 .reaches .within .1)
 
 loop-again : tie.Need-loop-again Inv-loop μ-loop
-loop-again c = (search needs, (search needs, (search needs, (c .before .before .before .before .before .before .before .before .before .before .before .stretch .ensures .0 .reaches .within .1, (record { size = c .before .before .before .before .before .before .before .before .before .before .before .stretch .ensures .1 .size; most = omega (arith, c .before .before .before .before .before .before .before .before .before .before .before .stretch .ensures .1 .most) }, poured-on _ _ _ _ _ _ _ _ _ (c .before .before .before .before .before .before .before .before .before .before .before .before .before .before .before .before .before .loop .inv .1 .1 .1 .1 .1) (c .before .before .before .before .before .before .before .before .before .before .before .stretch .ensures .0))))))
+loop-again c = (search needs, (search needs, (search needs, (c .before .before .before .before .before .before .before .before .before .before .before .stretch .ensures .0 .reaches .within .1, (record { size = c .before .before .before .before .before .before .before .before .before .before .before .stretch .ensures .1 .0 .size; most = omega (arith, c .before .before .before .before .before .before .before .before .before .before .before .stretch .ensures .1 .0 .most) }, poured-on _ _ _ _ _ _ _ _ _ (c .before .before .before .before .before .before .before .before .before .before .before .before .before .before .before .before .before .loop .inv .1 .1 .1 .1 .1) (c .before .before .before .before .before .before .before .before .before .before .before .stretch .ensures .0))))))
 
 same-length-5 : tie.Need-same-length-5 Inv-loop μ-loop
 same-length-5 c = c .before .loop .inv .0

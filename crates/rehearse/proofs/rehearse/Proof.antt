@@ -1,23 +1,22 @@
 -- `rehearse` meets its contract: after each turn the world is that of all that has been read, and at the end `finish` closes it. The turns end
 -- since they are counted down.
 use borrow.Author.Needs.{needs}
-use Prim.Native.Nat.{_≤_}
-use mathlib.Core.Path.{_≡_, refl, sym, ap, _∙_}
+use mathlib.Core.Path.{_≡_, refl, sym, _∙_}
 use mathlib.Core.List.{[]}
 use native.Mathlib.Omega.{arith}
 use lib.ListN.{length, take}
 use lib.Seq.{length-take-le}
-use Rattle.feed.specs.Answers.{fed}
 use Rattle.feed.proofs.Cut.{fed-none}
-use Rattle.script.specs.World.{answerLine}
-use Rattle.script.specs.Buffers.{worldOf, opened, Holds}
+use Rattle.book.specs.Memory.{memoryOf}
+use Rattle.script.specs.Input.{answerLine}
+use Rattle.script.specs.Buffers.{opened, HeldFits}
 use Rattle.script.proofs.Prints.{printed-length}
-use Rattle.rehearse.proofs.Runs.{Read, read-more, read-ends, turned-on, turned-ended}
+use Rattle.rehearse.proofs.Runs.{ReadSoFar, read-more, read-ends, turned-on, turned-ended}
 use Rattle.rehearse.proofs.rehearse.Statement.{statement}
 use Rattle.rehearse.proofs.rehearse.Tie as tie
 
 abbrev Inv-loop : tie.InvT-loop
-Inv-loop cache₀ book₀ line₀ chunk₀ out₀ held₀ turns₀ cache book line chunk out held turns = (length cache ≡ length cache₀) × ((length book ≡ length book₀) × ((length chunk ≡ length chunk₀) × ((length out ≡ length out₀) × (Holds line held × Read (opened cache₀ book₀ [] 0) (opened cache book line held)))))
+Inv-loop cache₀ book₀ line₀ chunk₀ out₀ held₀ turns₀ cache book line chunk out held turns = (length cache ≡ length cache₀) × ((length book ≡ length book₀) × ((length chunk ≡ length chunk₀) × ((length out ≡ length out₀) × (HeldFits line held × ReadSoFar (opened cache₀ book₀ [] 0) (opened cache book line held)))))
 
 abbrev μ-loop : tie.MeasureT-loop
 μ-loop cache₀ book₀ line₀ chunk₀ out₀ held₀ turns₀ cache book line chunk out held turns = turns
@@ -64,7 +63,7 @@ same-length-5 c = search needs
 returns : tie.Need-returns Inv-loop μ-loop
 returns c = let t = turned-ended (opened (c .before .before .before .before .before .before .before .before .before .before .before .before .before .before .before .before .before .before .before .before .before .before .before .before .before .before .before .before .before .before .before .before .loop .cache) (c .before .before .before .before .before .before .before .before .before .before .before .before .before .before .before .before .before .before .before .before .before .before .before .before .before .before .before .before .before .before .before .before .loop .book) (c .before .before .before .before .before .before .before .before .before .before .before .before .before .before .before .before .before .before .before .before .before .before .before .before .before .before .before .before .before .before .before .before .loop .line) (c .before .before .before .before .before .before .before .before .before .before .before .before .before .before .before .before .before .before .before .before .before .before .before .before .before .before .before .before .before .before .before .before .loop .held)) (c .before .before .before .before .before .before .before .before .before .before .before .before .before .before .before .before .before .before .before .before .before .before .before .before .before .before .before .before .before .before .before .before .loop .held) (c .before .before .before .before .before .before .before .before .before .before .before .before .before .before .before .before .before .before .before .before .before .before .before .before .before .turn .last .1 .1 .1 .1 .0) (opened (c .before .before .before .before .before .before .before .before .before .before .before .before .before .before .before .before .before .before .before .before .before .before .before .before .before .turn .last .0) (c .before .before .before .before .before .before .before .before .before .before .before .before .before .before .before .before .before .before .before .before .before .before .before .before .before .turn .last .1 .0) (c .before .before .before .before .before .before .before .before .before .before .before .before .before .before .before .before .before .before .before .before .before .before .before .before .before .turn .last .1 .1 .0)) (c .before .before .before .before .before .before .before .before .before .before .before .before .before .before .before .before .before .before .before .before .before .before .before .before .before .turn .result) (c .before .before .before .before .before .before .before .before .before .before .before .before .before .enum-told .given .1) (c .before .before .before .before .before .before .before .before .before .before .before .before .before .before .before .before .before .before .before .before .before .before .before .before .before .turn .ensures) in
     let q = c .before .before .before .before .before .before .before .before .before .before .before .before .before .before .before .before .before .before .before .before .before .before .before .before .before .before .before .before .before .before .before .before .loop .inv .1 .1 .1 .1 .1 in
-    read-ends (worldOf (c .before .before .before .before .before .before .before .before .before .before .before .before .before .before .before .before .before .before .before .before .before .before .before .before .before .before .before .before .before .before .before .before .before .before .before .before .before .before .args .cache .now) (c .before .before .before .before .before .before .before .before .before .before .before .before .before .before .before .before .before .before .before .before .before .before .before .before .before .before .before .before .before .before .before .before .before .before .before .before .before .before .args .book .now)) (opened (c .before .before .before .before .before .before .before .before .before .before .before .before .before .before .before .before .before .before .before .before .before .before .before .before .before .turn .last .0) (c .before .before .before .before .before .before .before .before .before .before .before .before .before .before .before .before .before .before .before .before .before .before .before .before .before .turn .last .1 .0) (c .before .before .before .before .before .before .before .before .before .before .before .before .before .before .before .before .before .before .before .before .before .before .before .before .before .turn .last .1 .1 .0) (c .before .before .before .before .before .before .before .before .before .before .before .before .before .before .before .before .before .before .before .before .before .before .before .before .before .before .before .before .before .before .before .before .loop .held)) _ _ _ _ (c .write-all .result) (q .0, t ∙ q .1) (c .before .before .before .before .before .before .before .before .finish .ensures)
+    read-ends (memoryOf (c .before .before .before .before .before .before .before .before .before .before .before .before .before .before .before .before .before .before .before .before .before .before .before .before .before .before .before .before .before .before .before .before .before .before .before .before .before .before .args .cache .now) (c .before .before .before .before .before .before .before .before .before .before .before .before .before .before .before .before .before .before .before .before .before .before .before .before .before .before .before .before .before .before .before .before .before .before .before .before .before .before .args .book .now)) (opened (c .before .before .before .before .before .before .before .before .before .before .before .before .before .before .before .before .before .before .before .before .before .before .before .before .before .turn .last .0) (c .before .before .before .before .before .before .before .before .before .before .before .before .before .before .before .before .before .before .before .before .before .before .before .before .before .turn .last .1 .0) (c .before .before .before .before .before .before .before .before .before .before .before .before .before .before .before .before .before .before .before .before .before .before .before .before .before .turn .last .1 .1 .0) (c .before .before .before .before .before .before .before .before .before .before .before .before .before .before .before .before .before .before .before .before .before .before .before .before .before .before .before .before .before .before .before .before .loop .held)) _ _ _ _ (c .write-all .result) (q .0, t ∙ q .1) (c .before .before .before .before .before .before .before .before .finish .ensures)
 
 enum-told-2 : tie.Need-enum-told-2 Inv-loop μ-loop
 enum-told-2 c = search needs

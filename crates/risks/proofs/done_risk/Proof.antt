@@ -1,4 +1,4 @@
--- The test decides.
+-- `done_risk` meets its contract: rule 4 would be broken exactly where `stale_for` finds a row.
 use mathlib.Core.Path.{sym, _∙_}
 use borrow.Author.Needs.{needs}
 use Rattle.risks.proofs.done_risk.Statement.{statement}

@@ -1,4 +1,4 @@
--- One of the two values is the same, or neither is.
+-- `fill_risk` meets its contract: rule 1 would be broken exactly where neither of the two notes is the value.
 use mathlib.Core.Path.{sym, _∙_}
 use borrow.Author.Needs.{needs}
 use Rattle.risks.proofs.fill_risk.Statement.{statement}

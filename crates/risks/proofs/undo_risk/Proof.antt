@@ -1,4 +1,4 @@
--- The test decides.
+-- `undo_risk` meets its contract: rule 3 would be broken exactly where `wrote_for` finds a mark.
 use mathlib.Core.Path.{sym, _∙_}
 use borrow.Author.Needs.{needs}
 use Rattle.risks.proofs.undo_risk.Statement.{statement}

@@ -1,6 +1,6 @@
 -- `answer` prints the library's output line: it stands at the front of the part that is lent for it, and fits it.
 use native.Mathlib.Omega.{arith}
-use Rattle.script.proofs.Library.{line-said}
+use Rattle.script.proofs.Library.{line-delivered}
 use borrow.Author.Needs.{needs}
 use Rattle.script.proofs.answer.Statement.{statement}
 use Rattle.script.proofs.answer.Tie as tie
@@ -21,7 +21,7 @@ line-requires : tie.Need-line-requires
 line-requires c κs = search needs
 
 add-result : tie.Need-add-result
-add-result c = let p = line-said _ _ _ (c .before .before .before .before .before .before .before .before .before .before .before .before .before .before .pre) _ _ (search needs) _ _ _ _ (c .before .before .before .before .before .before .line .ensures) in omega (arith, c .before .before .before .before .before .before .before .before .before .before .before .before .before .before .pre, p .1)
+add-result c = let p = line-delivered _ _ _ (c .before .before .before .before .before .before .before .before .before .before .before .before .before .before .pre) _ _ (search needs) _ _ _ _ (c .before .before .before .before .before .before .line .ensures) in omega (arith, c .before .before .before .before .before .before .before .before .before .before .before .before .before .before .pre, p .1)
 
 same-length : tie.Need-same-length
 same-length c = search needs
@@ -33,7 +33,7 @@ same-length-3 : tie.Need-same-length-3
 same-length-3 c = search needs
 
 returns : tie.Need-returns
-returns c = let p = line-said _ _ _ (c .before .before .before .before .before .before .before .before .before .before .before .before .before .before .pre) _ _ (search needs) _ _ _ _ (c .before .before .before .before .before .before .line .ensures) in (p .0, omega (arith, p .1))
+returns c = let p = line-delivered _ _ _ (c .before .before .before .before .before .before .before .before .before .before .before .before .before .before .pre) _ _ (search needs) _ _ _ _ (c .before .before .before .before .before .before .line .ensures) in (p .0, omega (arith, p .1))
 
 pub answer-spec : {M : Type 1} → statement M
 answer-spec =

@@ -1,10 +1,9 @@
 -- What the record says of n decides: it is sealed in its place, it leaves, or it is refused; each is a law of `Cases`.
 use Rattle.outcome.proofs.Told.{gives}
-use Rattle.machine.specs.State.{sessionAt}
+use Rattle.machine.specs.State.{sessionAt, session}
 use Rattle.turns.proofs.Cases.{located, live-is, number-in, number-here, left-is, live-number, live-count, sealed-held, told-seals, told-loses, told-clashes, validate-seals, validate-loses, validate-clashes}
 use mathlib.Core.Path.{sym, ap, _∙_}
 use Rattle.machine.specs.Session.{validationOf}
-use Rattle.machine.specs.State.{session}
 use Rattle.machine.specs.declared.Session.{Session}
 use borrow.Author.Needs.{needs}
 use Rattle.turns.proofs.validate_at.Statement.{statement}
