@@ -2,7 +2,6 @@
 -- stays, its I lease has lapsed or it has none, and it has no value or a row on it goes, since with the row the value is dropped.
 use mathlib.Core.Path.{_≡_, refl, sym, ap, ap₂, _∙_}
 use mathlib.Core.Bool.{Bool, true, false, not, _&&_, _||_, and-false, and-true}
-use mathlib.Core.Logic.{_⊎_, inl, inr}
 use mathlib.Core.List.{List, [], _∷_, map}
 use mathlib.Core.Option.{Option, none, some}
 use Prim.Native.Nat.{ℕ, zero, suc}
@@ -11,19 +10,19 @@ use lib.ListN.{getD, List·getD-map}
 use borrow.Author.Tests.{eq-eqb, ne-eqb}
 use Rattle.lent.specs.Tables.{if_then_else_}
 use Rattle.lent.proofs.Choices.{and-yes, clash}
-use Rattle.machine.specs.Tables.{place, find, any, mem, isNone}
+use Rattle.machine.specs.Tables.{find, any, mem, isNone}
 use Rattle.machine.specs.Decision.{decision, grants}
-use Rattle.machine.specs.State.{Value, Lease, Key, blank, Row, noRow, row, State, freeRow, on, of, ofOn, kindOf, sessionOf, rowPlace, rowOf, cached, leaseOn}
+use Rattle.machine.specs.State.{Value, Lease, Key, blank, Row, noRow, row, State, freeRow, on, of, ofOn, kindOf, sessionOf, rowOf, cached, leaseOn}
 use Rattle.machine.specs.Expiry.{setValue, freeIfOf, settle, lapsedValue, unlapsed, lapsedLease, leave, finish, expire}
 use Rattle.machine.specs.Sound.{sound, tokenIn}
 use Rattle.machine.specs.Refusals.{decide, blocked, cachedSight, sight, wouldLease}
-use Rattle.machine.proofs.Views.{AfterSet, other, here, out, after-set, find-test, find-passes, any-at, any-place, settle-lease}
+use Rattle.machine.proofs.Views.{AfterSet, other, here, out, after-set, find-passes, any-place, settle-lease}
 use Rattle.layout.specs.Fields.{rowSession, rowKey}
 use Rattle.layout.specs.Holds.{LeaseFits, RowFits}
 use Rattle.layout.proofs.Records.{lease-none, row-none}
 use Rattle.deadlines.specs.Deadlines.{lapsed, dueSlot}
 use Rattle.refusals.specs.Left.{goes, staysOn}
-use Rattle.refusals.proofs.Searches.{any-mapped, any-same, any-both}
+use Rattle.refusals.proofs.Searches.{any-mapped, any-same, any-both, find-none}
 use Rattle.refusals.proofs.Expired.{due, rows-expired, due-is}
 
 -- ---- whom LEASE is answered
@@ -72,18 +71,10 @@ module _ (s : State) (n k : ℕ) where
   lease-free h = rw (nobody, none-own, cached-none k (cached s k)) (go (isNone (cached s k)) (isNone (leaseOn s k)))
     where
       nobody : find (on k) noRow (s .rows) ≡ noRow
-      nobody = by (find-test (on k) noRow (s .rows))
-        where
-          by : (find (on k) noRow (s .rows) ≡ noRow) ⊎ (on k (find (on k) noRow (s .rows)) ≡ true) → find (on k) noRow (s .rows) ≡ noRow
-          by (inl e) = e
-          by (inr e) = clash (any (on k) (s .rows)) (any-at (on k) noRow (s .rows) (place (on k) (s .rows)) refl e) h
+      nobody = find-none (on k) (on k) noRow refl (λ r e. e) (s .rows) h
 
       none-own : rowOf s n k ≡ noRow
-      none-own = by (find-test (ofOn n k) noRow (s .rows))
-        where
-          by : (rowOf s n k ≡ noRow) ⊎ (ofOn n k (rowOf s n k) ≡ true) → rowOf s n k ≡ noRow
-          by (inl e) = e
-          by (inr e) = clash (any (on k) (s .rows)) (any-at (on k) noRow (s .rows) (rowPlace s n k) refl (and-yes (of n (rowOf s n k)) (on k (rowOf s n k)) e .1)) h
+      none-own = find-none (ofOn n k) (on k) noRow refl (λ r e. and-yes (of n r) (on k r) e .1) (s .rows) h
 
       go : (c t : Bool) → c && true && not (not (grants (decision (if t then 0 else 1) 0))) ≡ t && c
       go true true = rw nothing-blocks-not

@@ -8,9 +8,11 @@ use native.Mathlib.Omega.{arith}
 use lib.Dec.{leb, leb·suc-suc}
 use lib.ListN.{length}
 use borrow.Author.Tests.{lt-leb, not-true}
+use mathlib.Core.Logic.{inl, inr}
 use Rattle.lent.specs.Tables.{if_then_else_}
 use Rattle.lent.proofs.Choices.{clash, or-no}
-use Rattle.machine.specs.Tables.{place, any, count}
+use Rattle.machine.specs.Tables.{place, any, count, find}
+use Rattle.machine.proofs.Views.{find-test, any-at}
 use Rattle.layout.specs.Search.{found}
 use Rattle.layout.specs.declared.Found.{Found}
 use Rattle.layout.proofs.Search.{found-at, found-passes, found-full, count-most}
@@ -72,3 +74,7 @@ module _ {A : Type 0} (p : A → Bool) where
       go true true e = refl
       go true false e = clash true refl e
       go false u e = refl
+
+-- ---- what is not found: nothing passes q, which each that passes p does
+pub find-none : {A : Type 0} (p q : A → Bool) (d : A) → q d ≡ false → ((x : A) → p x ≡ true → q x ≡ true) → (l : List A) → any q l ≡ false → find p d l ≡ d
+find-none p q d e f l h = elim (find-test p d l) [ inl r ↦ r | inr r ↦ clash (any q l) (any-at q d l (place p l) e (f (find p d l) r)) h ]
