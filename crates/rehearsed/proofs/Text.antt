@@ -15,12 +15,11 @@ use Rattle.lent.specs.Bytes.{Bytes, zeros}
 use Rattle.lent.specs.Tables.{allZero}
 use Rattle.lent.proofs.Choices.{and-yes, if-ind}
 use Rattle.machine.specs.Sizes.{sessionCount}
-use Rattle.machine.specs.Words.{wordOf, LEASE}
+use Rattle.machine.specs.Words.{wordOf}
 use Rattle.machine.specs.State.{Value, sessionPlace}
 use Rattle.machine.specs.World.{Event, command, write, World, begun, next, run, EventBytes}
 use Rattle.machine.specs.declared.Answer.{Answer}
 use Rattle.machine.specs.declared.Command.{Command}
-use Rattle.machine.specs.declared.Command.the-variants.{Begin, Get, Fill, Quar, Stage, Delta, Validate, Done, Undo, Evict, Tick}
 use Rattle.machine.proofs.Orderly.{orderly-fresh}
 use Rattle.machine.proofs.Demand3.{demand-3-whole}
 use Rattle.layout.specs.Layout.{decode}
@@ -42,6 +41,7 @@ use Rattle.rehearsed.specs.TwoValues.{verdictsTwo}
 use Rattle.rehearsed.specs.Column.{actOf, left, NewBook, Readable}
 use Rattle.rehearsed.specs.Text.{Text, textRule, textAfter, textThrough, textColumn, commandTold, lineTold, eventOf, before, eventsIn, Run, beginning, worldAfter, begunBy, runOf, ruleBy, ruleIn, RulesKept, PromisedIn}
 use Rattle.rehearsed.proofs.TwoValues.{allKeptTwo-of, allKeptTwo-unbroken, allKept-two, two-allKept}
+use Rattle.rehearsed.proofs.Recorded.{noted-ind}
 use Rattle.rehearsed.proofs.Column.{Tied, rule-as, tied-next, tied-counted, tied-started, new-zeros, new-counted}
 
 -- What a line does
@@ -123,19 +123,9 @@ abbrev StillBegun : List ℕ → Type 0
 StillBegun b = (length b ≡ bookSize) × (started b ≡ true)
 
 still-noted : (b : List ℕ) → StillBegun b → (c : Command) (w : ℕ) → StillBegun (noted b c w)
-still-noted b h Begin w = h
-still-noted b h (Get n k) w =
-    let s = Laws.registered-short b k in
-    if-ind StillBegun (eqb w LEASE) (λ q. (Laws.length-granted b (h .0) k (registered b k) s, Laws.started-granted b (h .0) k (registered b k) s ∙ h .1)) (λ q. h)
-still-noted b h (Fill t k) w = h
-still-noted b h (Quar n k d) w = h
-still-noted b h (Stage n i k) w = h
-still-noted b h (Delta n i k o) w = h
-still-noted b h (Validate n m) w = h
-still-noted b h (Done n) w = h
-still-noted b h (Undo n) w = h
-still-noted b h (Evict k) w = h
-still-noted b h Tick w = h
+still-noted b h c w = noted-ind StillBegun b c w h
+    (λ k q. let s = Laws.registered-short b k in
+    (Laws.length-granted b (h .0) k (registered b k) s, Laws.started-granted b (h .0) k (registered b k) s ∙ h .1))
 
 still-marked : (x b : List ℕ) → StillBegun b → (n : ℕ) → StillBegun (marked x b n)
 unfolding marked
