@@ -13,7 +13,7 @@ use Rattle.lent.specs.Bytes.{Bytes}
 use Rattle.lent.proofs.Choices.{case-of, clash}
 use Rattle.machine.specs.State.{Value}
 use Rattle.machine.specs.Sizes.{stateSize}
-use Rattle.machine.specs.Words.{wordOf, STATE}
+use Rattle.machine.specs.Words.{wordOf, STATE, ARG}
 use Rattle.machine.specs.Sound.{lifetime, sound}
 use Rattle.machine.specs.Step.{step}
 use Rattle.machine.specs.declared.Answer.{Answer}
@@ -58,15 +58,27 @@ module _ (b : List ℕ) (now : ℕ) (c : Command) (v : Value) where
     pub decode-ran : decode (ran b now c v .bytes) ≡ step (decode b) now c v .after
     decode-ran = ap (λ (r : Reply). decode (r .bytes)) (ran-formed f) ∙ holds-is (holds-encoded (step (decode b) now c v .after) (sound-fits (step (decode b) now c v .after) after-sound))
 
+-- START refuses, and the buffer stands
+pub record StartRefused (b : List ℕ) (readLife writeLife : ℕ) : Type 0 where
+  pub number : ℕ
+  pub is : startOf b readLife writeLife ≡ record { answer = Answer.Refused number; bytes = b }
+
+pub ready-or-refused : (b : List ℕ) (readLife writeLife : ℕ) → (startOf b readLife writeLife .answer ≡ Answer.Ready) ⊎ StartRefused b readLife writeLife
+ready-or-refused b readLife writeLife = sized (case-of (eqb (length b) stateSize))
+  where
+    lives : length b ≡ stateSize → (lifetime readLife ≡ true) ⊎ (lifetime readLife ≡ false) → (lifetime writeLife ≡ true) ⊎ (lifetime writeLife ≡ false)
+        → (startOf b readLife writeLife .answer ≡ Answer.Ready) ⊎ StartRefused b readLife writeLife
+    lives l (inl r) (inl w) = inl (ap (λ (x : Reply). x .answer) (started-ready b readLife writeLife l r w))
+    lives l (inl r) (inr w) = inr (record { number = ARG; is = started-write b readLife writeLife l w })
+    lives l (inr r) w = inr (record { number = ARG; is = started-read b readLife writeLife l r })
+
+    sized : (eqb (length b) stateSize ≡ true) ⊎ (eqb (length b) stateSize ≡ false) → (startOf b readLife writeLife .answer ≡ Answer.Ready) ⊎ StartRefused b readLife writeLife
+    sized (inl l) = lives (eqb-true (length b) stateSize l) (case-of (lifetime readLife)) (case-of (lifetime writeLife))
+    sized (inr l) = inr (record { number = STATE; is = started-size b readLife writeLife (eqb-false (length b) stateSize l) })
+
 -- demand 1 of START
 pub refused-start : (b : List ℕ) (readLife writeLife e : ℕ) → startOf b readLife writeLife .answer ≡ Answer.Refused e → startOf b readLife writeLife .bytes ≡ b
-refused-start b readLife writeLife e p = sized (case-of (eqb (length b) stateSize))
-  where
-    lives : length b ≡ stateSize → (lifetime readLife ≡ true) ⊎ (lifetime readLife ≡ false) → (lifetime writeLife ≡ true) ⊎ (lifetime writeLife ≡ false) → startOf b readLife writeLife .bytes ≡ b
-    lives l (inl r) (inl w) = clash (eqb (wordOf (startOf b readLife writeLife .answer)) 0) (rw p refl) (rw (started-ready b readLife writeLife l r w) refl)
-    lives l (inl r) (inr w) = ap (λ (x : Reply). x .bytes) (started-write b readLife writeLife l w)
-    lives l (inr r) w = ap (λ (x : Reply). x .bytes) (started-read b readLife writeLife l r)
-
-    sized : (eqb (length b) stateSize ≡ true) ⊎ (eqb (length b) stateSize ≡ false) → startOf b readLife writeLife .bytes ≡ b
-    sized (inl l) = lives (eqb-true (length b) stateSize l) (case-of (lifetime readLife)) (case-of (lifetime writeLife))
-    sized (inr l) = ap (λ (x : Reply). x .bytes) (started-size b readLife writeLife (eqb-false (length b) stateSize l))
+refused-start b readLife writeLife e p = elim (ready-or-refused b readLife writeLife) [
+  | inl q ↦ clash (eqb (wordOf (startOf b readLife writeLife .answer)) 0) (rw p refl) (rw q refl)
+  | inr q ↦ ap (λ (x : Reply). x .bytes) (q .is)
+]

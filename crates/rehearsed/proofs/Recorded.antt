@@ -64,18 +64,22 @@ recorded-counted b w rule h = record {
 
 -- A command: what it notes
 
+-- nothing, or a grant
+pub noted-ind : (P : List ℕ → Type 0) (b : List ℕ) (c : Command) (word : ℕ) → P b → ((k : ℕ) → eqb word LEASE ≡ true → P (withGranted b k (registered b k))) → P (noted b c word)
+noted-ind P b Begin word f g = f
+noted-ind P b (Get n k) word f g = if-ind P (eqb word LEASE) (g k) (λ q. f)
+noted-ind P b (Fill t k) word f g = f
+noted-ind P b (Quar n k d) word f g = f
+noted-ind P b (Stage n i k) word f g = f
+noted-ind P b (Delta n i k o) word f g = f
+noted-ind P b (Validate n m) word f g = f
+noted-ind P b (Done n) word f g = f
+noted-ind P b (Undo n) word f g = f
+noted-ind P b (Evict k) word f g = f
+noted-ind P b Tick word f g = f
+
 noted-quiet : (b : List ℕ) (c : Command) (word : ℕ) → eqb word LEASE ≡ false → noted b c word ≡ b
-noted-quiet b Begin word q = refl
-noted-quiet b (Get n k) word q = rw q
-noted-quiet b (Fill t k) word q = refl
-noted-quiet b (Quar n k d) word q = refl
-noted-quiet b (Stage n i k) word q = refl
-noted-quiet b (Delta n i k o) word q = refl
-noted-quiet b (Validate n m) word q = refl
-noted-quiet b (Done n) word q = refl
-noted-quiet b (Undo n) word q = refl
-noted-quiet b (Evict k) word q = refl
-noted-quiet b Tick word q = refl
+noted-quiet b c word q = noted-ind (λ x. x ≡ b) b c word refl (λ k e. clash (eqb word LEASE) e q)
 
 noted-grant : (b : List ℕ) (c : Command) (n k : ℕ) (a : Answer) (t : ℕ) → c ≡ Get n k → a ≡ Answer.Lease t → noted b c (wordOf a) ≡ withGranted b k (registered b k)
 noted-grant b c n k a t p q = rw (p, q)

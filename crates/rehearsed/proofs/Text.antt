@@ -3,25 +3,24 @@
 -- What is read of any line is in range, so nothing is asked of the lines.
 use mathlib.Core.Path.{_≡_, refl, sym, ap, subst, _∙_}
 use mathlib.Core.Bool.{Bool, true, false, _&&_}
-use mathlib.Core.Logic.{_⊎_, inl, inr}
+use mathlib.Core.Logic.{inl, inr}
 use mathlib.Core.List.{List, [], _∷_, _++_}
 use mathlib.Core.Option.{Option, none, some}
 use Prim.Native.Nat.{ℕ}
 use native.Mathlib.Omega.{arith}
 use lib.Dec.{eqb, ltb}
 use lib.ListN.{length}
-use borrow.Author.Tests.{eqb-true, eqb-false, ltb-true}
+use borrow.Author.Tests.{ltb-true}
 use Rattle.lent.specs.Bytes.{Bytes, zeros}
 use Rattle.lent.specs.Tables.{allZero}
-use Rattle.lent.proofs.Choices.{case-of, and-yes, if-ind}
-use Rattle.machine.specs.Sizes.{stateSize, sessionCount}
-use Rattle.machine.specs.Words.{wordOf, LEASE, STATE, ARG}
+use Rattle.lent.proofs.Choices.{and-yes, if-ind}
+use Rattle.machine.specs.Sizes.{sessionCount}
+use Rattle.machine.specs.Words.{wordOf}
 use Rattle.machine.specs.State.{Value, sessionPlace}
 use Rattle.machine.specs.Sound.{lifetime}
 use Rattle.machine.specs.World.{Event, command, write, World, freshWorld, next, run, EventBytes}
 use Rattle.machine.specs.declared.Answer.{Answer}
 use Rattle.machine.specs.declared.Command.{Command}
-use Rattle.machine.specs.declared.Command.the-variants.{Begin, Get, Fill, Quar, Stage, Delta, Validate, Done, Undo, Evict, Tick}
 use Rattle.machine.proofs.Orderly.{orderly-fresh}
 use Rattle.machine.proofs.Demand3.{demand-3-whole}
 use Rattle.layout.specs.Layout.{decode}
@@ -31,6 +30,7 @@ use Rattle.startup.proofs.Started.{started-size, started-read, started-write, s
 use Rattle.cache.specs.Run.{ran}
 use Rattle.numbered.specs.Commands.{commandOf}
 use Rattle.numbered.specs.declared.Numbered.{Numbered}
+use Rattle.promises.proofs.Ran.{StartRefused, ready-or-refused}
 use Rattle.book.specs.Memory.{Memory, memoryOf}
 use Rattle.book.specs.Book.{bookSize, started, withStarted, registered, counted}
 use Rattle.book.proofs.Laws
@@ -44,6 +44,7 @@ use Rattle.rehearsed.specs.TwoValues.{verdictsTwo}
 use Rattle.rehearsed.specs.Column.{actOf, left, NewBook, Readable}
 use Rattle.rehearsed.specs.Text.{Text, textRule, textAfter, textThrough, textColumn, commandTold, lineTold, eventOf, before, eventsIn, Run, beginning, worldAfter, begunBy, runOf, ruleBy, ruleIn, RulesKept, PromisedIn}
 use Rattle.rehearsed.proofs.TwoValues.{allKeptTwo-of, allKeptTwo-unbroken, allKept-two, two-allKept}
+use Rattle.rehearsed.proofs.Recorded.{noted-ind}
 use Rattle.rehearsed.proofs.Column.{Tied, rule-as, tied-next, tied-counted, tied-started, new-zeros, new-counted}
 
 -- What a line does
@@ -125,19 +126,9 @@ abbrev StillBegun : List ℕ → Type 0
 StillBegun b = (length b ≡ bookSize) × (started b ≡ true)
 
 still-noted : (b : List ℕ) → StillBegun b → (c : Command) (w : ℕ) → StillBegun (noted b c w)
-still-noted b h Begin w = h
-still-noted b h (Get n k) w =
-    let s = Laws.registered-short b k in
-    if-ind StillBegun (eqb w LEASE) (λ q. (Laws.length-granted b (h .0) k (registered b k) s, Laws.started-granted b (h .0) k (registered b k) s ∙ h .1)) (λ q. h)
-still-noted b h (Fill t k) w = h
-still-noted b h (Quar n k d) w = h
-still-noted b h (Stage n i k) w = h
-still-noted b h (Delta n i k o) w = h
-still-noted b h (Validate n m) w = h
-still-noted b h (Done n) w = h
-still-noted b h (Undo n) w = h
-still-noted b h (Evict k) w = h
-still-noted b h Tick w = h
+still-noted b h c w = noted-ind StillBegun b c w h
+    (λ k q. let s = Laws.registered-short b k in
+    (Laws.length-granted b (h .0) k (registered b k) s, Laws.started-granted b (h .0) k (registered b k) s ∙ h .1))
 
 still-marked : (x b : List ℕ) → StillBegun b → (n : ℕ) → StillBegun (marked x b n)
 unfolding marked
@@ -210,28 +201,6 @@ zeros-through p w h (t ∷ ts) =
     ∙ ap (λ (z : Bool). eqb (ruleBy w (eventOf t)) 0 && z) (zeros-through (textAfter p t) (nextBy w (eventOf t)) (beside-text p w h t) ts)
     ∙ zeros-before w (eventOf t) (eventsIn ts)
 
--- START is READY, or refused and the buffer stands
-
-abbrev Refuses : List ℕ → ℕ → ℕ → ℕ → Type 0
-Refuses x readLife writeLife e = startOf x readLife writeLife ≡ record { answer = Answer.Refused e; bytes = x }
-
-record Stands (x : List ℕ) (readLife writeLife : ℕ) : Type 0 where
-  number : ℕ
-  refuses : Refuses x readLife writeLife number
-
-start-or : (x : List ℕ) (readLife writeLife : ℕ) → (startOf x readLife writeLife .answer ≡ Answer.Ready) ⊎ Stands x readLife writeLife
-start-or x readLife writeLife = sized (case-of (eqb (length x) stateSize))
-  where
-    lives : length x ≡ stateSize → (lifetime readLife ≡ true) ⊎ (lifetime readLife ≡ false) → (lifetime writeLife ≡ true) ⊎ (lifetime writeLife ≡ false)
-        → (startOf x readLife writeLife .answer ≡ Answer.Ready) ⊎ Stands x readLife writeLife
-    lives l (inl r) (inl w) = inl (ap (λ (a : Reply). a .answer) (started-ready x readLife writeLife l r w))
-    lives l (inl r) (inr w) = inr (record { number = ARG; refuses = started-write x readLife writeLife l w })
-    lives l (inr r) w = inr (record { number = ARG; refuses = started-read x readLife writeLife l r })
-
-    sized : (eqb (length x) stateSize ≡ true) ⊎ (eqb (length x) stateSize ≡ false) → (startOf x readLife writeLife .answer ≡ Answer.Ready) ⊎ Stands x readLife writeLife
-    sized (inl l) = lives (eqb-true (length x) stateSize l) (case-of (lifetime readLife)) (case-of (lifetime writeLife))
-    sized (inr l) = inr (record { number = STATE; refuses = started-size x readLife writeLife (eqb-false (length x) stateSize l) })
-
 -- Every text
 
 -- both buffers and the column after lines, beside the run that they tell
@@ -274,14 +243,14 @@ module _ (x b : List ℕ) (readLife writeLife : ℕ) (new : NewBook b) (ts : Lis
       subst (λ (o : Option Run). FollowsSaid (begins x b readLife writeLife) ts o) (sym (begun-ready later e))
       (follows-zero (textThrough p ts) (textColumn p ts) (some r) (beside-through p (freshWorld readLife writeLife) h ts, zeros-through p (freshWorld readLife writeLife) h ts))
 
-  follows-refused : (later : Option Run) → Stands x readLife writeLife → FollowsSaid (unreadable x b) ts later
+  follows-refused : (later : Option Run) → StartRefused x readLife writeLife → FollowsSaid (unreadable x b) ts later
       → FollowsSaid (begins x b readLife writeLife) ts (begunBy x (Line.Start readLife writeLife) (eventsIn ts) later)
   unfolding begins
-  follows-refused later s h = rw (s .refuses) h
+  follows-refused later s h = rw (s .is) h
 
 follows-line : (x b : List ℕ) → NewBook b → (ts : List Text) (l : Line) (later : Option Run) → FollowsSaid (unreadable x b) ts later → FollowsSaid (saidFirst x b l) ts (begunBy x l (eventsIn ts) later)
 follows-line x b new ts Line.Unreadable later h = h
-follows-line x b new ts (Line.Start readLife writeLife) later h = elim (start-or x readLife writeLife) [
+follows-line x b new ts (Line.Start readLife writeLife) later h = elim (ready-or-refused x readLife writeLife) [
   | inl e ↦ follows-ready x b readLife writeLife new ts later e
   | inr s ↦ follows-refused x b readLife writeLife new ts later s h
 ]

@@ -197,18 +197,26 @@ steady-two w g (command now (Evict k) v) = refl
 steady-two w g (command now Tick v) = refl
 steady-two w g (write n k v) = refl
 
+module _ (w : World) (g : Steady w) (e : Event) where
+  steady-kept : KeptTwo w e → Kept w e
+  steady-kept h = kept-of w e (sym (steady-two w g e) ∙ kept-unbroken (twoValues w) e (g .orderly) h)
+
+  steady-kept-two : Kept w e → KeptTwo w e
+  steady-kept-two h = kept-of (twoValues w) e (steady-two w g e ∙ kept-unbroken w e (g .orderly) h)
+
 module _ (readLife writeLife : ℕ) where
+  steady-run : (es : List Event) → WritesKept (freshWorld readLife writeLife) es → Steady (run (freshWorld readLife writeLife) es)
+  steady-run es = run-steady (freshWorld readLife writeLife) es (begun-steady readLife writeLife)
+
   -- the theorem: after a run from START in which rule 2 was kept, the two-value form is rule 1
   pub two-values-rule-1 : (es : List Event) → WritesKept (freshWorld readLife writeLife) es → (e : Event) → brokenTwo (run (freshWorld readLife writeLife) es) e ≡ broken (run (freshWorld readLife writeLife) es) e
-  two-values-rule-1 es rules = steady-two (run (freshWorld readLife writeLife) es) (run-steady (freshWorld readLife writeLife) es (begun-steady readLife writeLife) rules)
+  two-values-rule-1 es rules = steady-two _ (steady-run es rules)
 
   pub kept-two : (es : List Event) → WritesKept (freshWorld readLife writeLife) es → (e : Event) → KeptTwo (run (freshWorld readLife writeLife) es) e → Kept (run (freshWorld readLife writeLife) es) e
-  kept-two es rules e h = let g = run-steady (freshWorld readLife writeLife) es (begun-steady readLife writeLife) rules in
-      kept-of (run (freshWorld readLife writeLife) es) e (sym (steady-two _ g e) ∙ kept-unbroken (twoValues (run (freshWorld readLife writeLife) es)) e (g .orderly) h)
+  kept-two es rules = steady-kept _ (steady-run es rules)
 
   pub two-kept : (es : List Event) → WritesKept (freshWorld readLife writeLife) es → (e : Event) → Kept (run (freshWorld readLife writeLife) es) e → KeptTwo (run (freshWorld readLife writeLife) es) e
-  two-kept es rules e h = let g = run-steady (freshWorld readLife writeLife) es (begun-steady readLife writeLife) rules in
-      kept-of (twoValues (run (freshWorld readLife writeLife) es)) e (steady-two _ g e ∙ kept-unbroken (run (freshWorld readLife writeLife) es) e (g .orderly) h)
+  two-kept es rules = steady-kept-two _ (steady-run es rules)
 
 -- So a whole run that keeps the two-value form keeps the rules, and the other way round
 
@@ -219,14 +227,14 @@ write-kept w (write n k v) h = h
 all-kept : (w : World) (es : List Event) → Steady w → AllKeptTwo w es → AllKept w es
 all-kept w [] g h = tt
 all-kept w (e ∷ es) g h = (
-  kept-of w e (sym (steady-two w g e) ∙ kept-unbroken (twoValues w) e (g .orderly) (h .0)),
+  steady-kept w g e (h .0),
   all-kept (next w e) es (next-steady w e g (write-kept w e (h .0))) (h .1),
 )
 
 all-two : (w : World) (es : List Event) → Steady w → AllKept w es → AllKeptTwo w es
 all-two w [] g h = tt
 all-two w (e ∷ es) g h =
-    let two : KeptTwo w e = kept-of (twoValues w) e (steady-two w g e ∙ kept-unbroken w e (g .orderly) (h .0)) in
+    let two : KeptTwo w e = steady-kept-two w g e (h .0) in
     (two, all-two (next w e) es (next-steady w e g (write-kept w e two)) (h .1))
 
 pub allKept-two : (readLife writeLife : ℕ) (es : List Event) → AllKeptTwo (freshWorld readLife writeLife) es → AllKept (freshWorld readLife writeLife) es

@@ -32,11 +32,11 @@ module _ (entry : Open Memory) (chunk : List ℕ) (from : ℕ) (out : List ℕ) 
   one-place : (n m : ℕ) (v w : Open Memory) (o p : List ℕ) (r t : ℕ) → Stretched entry chunk from n v out o r → Stretched entry chunk from m w out p t → n ≡ m
   one-place n m v w o p r t h g = let a = not-before n m v w o p r t h g in let b = not-before m n w v p o t r g h in omega arith
 
-pub one-stretch : (cache book line : List ℕ) (held : ℕ) (chunk : List ℕ) (from : ℕ) (out : List ℕ) (n m h k r t : ℕ) (x y b c l j o p : List ℕ)
+pub one-stretched : (cache book line : List ℕ) (held : ℕ) (chunk : List ℕ) (from : ℕ) (out : List ℕ) (n m h k r t : ℕ) (x y b c l j o p : List ℕ)
     → Stretched (opened cache book line held) chunk from n (opened x b l h) out o r → buffer l h ≡ pushedAll (buffer line held) (win chunk from (n - from))
     → Stretched (opened cache book line held) chunk from m (opened y c j k) out p t → buffer j k ≡ pushedAll (buffer line held) (win chunk from (m - from))
     → (n ≡ m) × ((h ≡ k) × ((r ≡ t) × ((x ≡ y) × ((b ≡ c) × ((l ≡ j) × (o ≡ p))))))
-one-stretch cache book line held chunk from out n m h k r t x y b c l j o p s e z f =
+one-stretched cache book line held chunk from out n m h k r t x y b c l j o p s e z f =
     let q = one-place _ chunk from out n m _ _ o p r t s z in
     let d = one-delivered _ out 0 _ _ o p r t (s .reaches .answered) (rw (← q) at (z .reaches .answered)) in
     let a : buffer l h ≡ buffer j k = e ∙ rw q (sym f) in (
@@ -47,10 +47,10 @@ one-stretch cache book line held chunk from out n m h k r t x y b c l j o p s e 
       ),
     )
 
-pub one-finish : (cache book line : List ℕ) (held : ℕ) (out : List ℕ) (r t : ℕ) (x y b c o p : List ℕ)
+pub one-finished : (cache book line : List ℕ) (held : ℕ) (out : List ℕ) (r t : ℕ) (x y b c o p : List ℕ)
     → Delivered (finished (memoryOf cache book) (take held line)) (memoryOf x b) out 0 o r
     → Delivered (finished (memoryOf cache book) (take held line)) (memoryOf y c) out 0 p t
     → (r ≡ t) × ((x ≡ y) × ((b ≡ c) × (o ≡ p)))
-one-finish cache book line held out r t x y b c o p h g =
+one-finished cache book line held out r t x y b c o p h g =
     let d = one-delivered _ out 0 _ _ o p r t h g in
     (d .1 .1, (ap (λ (i : Memory). i .cache) (d .0), (ap (λ (i : Memory). i .book) (d .0), d .1 .0)))

@@ -11,6 +11,7 @@ use Rattle.book.specs.Book.{bookSize, linesIn, brokenIn}
 use Rattle.replies.specs.Replies as replies
 use Rattle.rehearsal.specs.Rehearsal.{Turn, turn}
 
+-- what a line leaves and its text
 abbrev pub asAnswer : Turn → Answered Memory
 asAnswer t = record { world = memoryOf (t .cache) (t .book); text = t .text }
 
