@@ -1,16 +1,17 @@
 -- A line by its cases, and its printing. A line that is not taken changes nothing; a HIT comes only from a cache of 65,536 bytes, so its value can be
 -- printed from them; and the text depends on a value only where the word is HIT.
-use Prim.Native.Nat.{ℕ, _+_, _-_, _≤_, _<_}
+use Prim.Native.Nat.{ℕ, _+_, _-_, _≤_}
 use mathlib.Core.Path.{_≡_, refl, sym, _∙_}
 use mathlib.Core.Bool.{Bool, true, false}
 use mathlib.Core.Logic.{_⊎_, inl, inr}
 use mathlib.Core.List.{List, []}
 use native.Mathlib.Omega.{arith}
-use lib.Dec.{eqb}
+use lib.Dec.{eqb, leb}
 use lib.ListN.{length, take, drop}
-use borrow.Author.Tests.{eqb-true, eq-eqb, ne-eqb, le-leb, lt-leb}
+use borrow.Author.Tests.{eqb-true, leb-true, eq-eqb}
 use Rattle.lent.specs.Bytes.{win, splice}
 use Rattle.lent.specs.Tables.{if_then_else_}
+use Rattle.lent.proofs.Choices.{and-yes}
 use Rattle.lent.proofs.Splice.{win-splice}
 use Rattle.lent.proofs.Choices.{case-of, clash}
 use Rattle.machine.specs.Sizes.{stateSize, valueMax}
@@ -205,49 +206,32 @@ prints r x b o n m b′ o′ v h f k e =
 -- ---- the public functions
 
 module _ (b out : List ℕ) where
-  lent-right : length b ≡ bookSize → lineRoom ≤ length out → lentRight b out ≡ true
-  lent-right e l = rw (eq-eqb (length b) bookSize e, le-leb lineRoom (length out) l) refl
+  pub lent-sizes : lentRight b out ≡ true → (length b ≡ bookSize) × (lineRoom ≤ length out)
+  lent-sizes e = let p = and-yes (eqb (length b) bookSize) (leb lineRoom (length out)) e in (eqb-true (length b) bookSize (p .0), leb-true lineRoom (length out) (p .1))
 
-  lent-wrong : (length b ≡ bookSize → ⊥) → lentRight b out ≡ false
-  lent-wrong e = rw (ne-eqb (length b) bookSize e) refl
+  pub end-idle : lentRight b out ≡ false → (0 ≡ endOf b out .length) × (out ≡ endOf b out .out)
+  unfolding endOf
+  end-idle e = rw e (refl, refl)
 
-  lent-roomless : length b ≡ bookSize → length out < lineRoom → lentRight b out ≡ false
-  lent-roomless e l = rw (eq-eqb (length b) bookSize e, lt-leb lineRoom (length out) l) refl
+  pub end-printed : lentRight b out ≡ true → (n m k : ℕ) (out′ : List ℕ) → n ≡ linesIn b → m ≡ book.brokenIn b → (k ≡ length (ended n m)) × (out′ ≡ splice out 0 (ended n m))
+      → (k ≡ endOf b out .length) × (out′ ≡ endOf b out .out)
+  unfolding endOf
+  end-printed e n m k out′ p q h = rw (e, ← p, ← q) h
 
 module _ (x b t out : List ℕ) where
-  line-idle : lentRight b out ≡ false → Leaves (lineOf x b t out) 0 x b out
+  pub line-idle : lentRight b out ≡ false → Leaves (lineOf x b t out) 0 x b out
   unfolding lineOf
-  line-idle q = rw q (record { length = refl; cache = refl; book = refl; out = refl })
+  line-idle e = rw e (record { length = refl; cache = refl; book = refl; out = refl })
 
-  pub line-wrong : (length b ≡ bookSize → ⊥) → Leaves (lineOf x b t out) 0 x b out
-  line-wrong e = line-idle (lent-wrong b out e)
-
-  pub line-roomless : length b ≡ bookSize → length out < lineRoom → Leaves (lineOf x b t out) 0 x b out
-  line-roomless e l = line-idle (lent-roomless b out e l)
-
-  pub line-printed : length b ≡ bookSize → lineRoom ≤ length out → (r : Said) (x′ b′ b″ out′ : List ℕ) (n : ℕ) → Says (saidOf x b t) (r .at) r x′ b′ → Prints r x′ b′ out n b″ out′
+  pub line-printed : lentRight b out ≡ true → (r : Said) (x′ b′ b″ out′ : List ℕ) (n : ℕ) → Says (saidOf x b t) (r .at) r x′ b′ → Prints r x′ b′ out n b″ out′
       → Leaves (lineOf x b t out) n x′ b″ out′
   unfolding lineOf turn
-  line-printed e l r x′ b′ b″ out′ n h p =
+  line-printed e r x′ b′ b″ out′ n h p =
       let k : b″ ≡ counted (saidOf x b t .book) (saidOf x b t .rule) = p .book ∙ rw (h .book, h .rule) refl in
       let y = text-is (saidOf x b t) (r .at) r x′ b′ b″ h in
-      rw (lent-right b out e l) (record {
+      rw e (record {
         length = p .size ∙ rw (y, k) refl;
         cache = h .cache;
         book = k;
         out = p .out ∙ rw (y, k) refl;
       })
-
-module _ (b out : List ℕ) where
-  pub end-wrong : (length b ≡ bookSize → ⊥) → (0 ≡ endOf b out .length) × (out ≡ endOf b out .out)
-  unfolding endOf
-  end-wrong e = rw (lent-wrong b out e) (refl, refl)
-
-  pub end-roomless : length b ≡ bookSize → length out < lineRoom → (0 ≡ endOf b out .length) × (out ≡ endOf b out .out)
-  unfolding endOf
-  end-roomless e l = rw (lent-roomless b out e l) (refl, refl)
-
-  pub end-printed : length b ≡ bookSize → lineRoom ≤ length out → (n m k : ℕ) (out′ : List ℕ) → n ≡ linesIn b → m ≡ book.brokenIn b → (k ≡ length (ended n m)) × (out′ ≡ splice out 0 (ended n m))
-      → (k ≡ endOf b out .length) × (out′ ≡ endOf b out .out)
-  unfolding endOf
-  end-printed e l n m k out′ p q h = rw (lent-right b out e l, ← p, ← q) h

@@ -12,17 +12,15 @@ ghost use Rattle.rules.specs.Says.{Says};
 ghost use Rattle.lines.specs.Fields.{lineMax};
 ghost use Rattle.lines.specs.declared.Line.{Line};
 ghost use Rattle.replies.specs.Replies.{lineRoom};
-ghost use Rattle.rehearsal.specs.Rehearsal.{commanded, acted, saidOf, lineOf, endOf, Leaves};
+ghost use Rattle.rehearsal.specs.Rehearsal.{lentRight, commanded, acted, saidOf, lineOf, endOf, Leaves};
 ghost use Rattle.rehearsal.specs.Saying.{notRead, Within, Prints};
 use lines::Line;
 use machine::Command;
 use numbered::Numbered;
 use rules::Said;
 
-// Room for the value of any line, and for any output line.
+// Room for the value of any line.
 const VALUE_ROOM: usize = 200;
-
-const LINE_ROOM: usize = 256;
 
 // "Any other line is UNREADABLE and changes nothing".
 fn unreadable() -> Said
@@ -130,15 +128,22 @@ fn say(cache: &[u8], book: &mut [u8], said: Said, out: &mut [u8]) -> usize
     replies::reply(out, n, word, said.detail, &cache[at..end], said.rule)
 }
 
+// A book of its size, and room for an output line.
+fn lent_right(book: &[u8], out: &[u8]) -> bool
+    ensures { λ r. ⌜ r ≡ lentRight (now (book .entry)) (now (out .entry)) ⌝ }
+{
+    if book.len() != book::BOOK_SIZE {
+        return false;
+    }
+    replies::LINE_ROOM <= out.len()
+}
+
 // One line of input: the output line at the front of `out`, with its newline, and its length. A book of zeros is a new one. Where the book has not its size, or
 // `out` no room for a line, nothing is done and the length is 0.
 pub fn line(cache: &mut [u8], book: &mut [u8], line: &[u8], out: &mut [u8]) -> usize
     ensures { λ r. ⌜ Leaves (lineOf (now (cache .entry)) (now (book .entry)) (now (line .entry)) (now (out .entry))) r (now (cache .exit)) (now (book .exit)) (now (out .exit)) ⌝ }
 {
-    if book.len() != book::BOOK_SIZE {
-        return 0;
-    }
-    if out.len() < LINE_ROOM {
+    if !lent_right(book, out) {
         return 0;
     }
     let mut value: [u8; VALUE_ROOM] = [0; VALUE_ROOM];
@@ -150,10 +155,7 @@ pub fn line(cache: &mut [u8], book: &mut [u8], line: &[u8], out: &mut [u8]) -> u
 pub fn end(book: &[u8], out: &mut [u8]) -> usize
     ensures { λ r. ⌜ (r ≡ endOf (now (book .entry)) (now (out .entry)) .length) × (now (out .exit) ≡ endOf (now (book .entry)) (now (out .entry)) .out) ⌝ }
 {
-    if book.len() != book::BOOK_SIZE {
-        return 0;
-    }
-    if out.len() < LINE_ROOM {
+    if !lent_right(book, out) {
         return 0;
     }
     replies::end(out, book::lines(book), book::broken(book))

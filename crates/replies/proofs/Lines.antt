@@ -16,6 +16,8 @@ use Rattle.counts.specs.Count.{digitsMax, written}
 use Rattle.counts.proofs.Decimal.{decimal-most}
 use Rattle.counts.proofs.Laws.{written-room}
 use Rattle.machine.specs.Sizes.{valueMax}
+use Rattle.machine.specs.Words.{SESSION, BACKOFF, LEASE}
+use Rattle.words.specs.Numbers.{REFUSED}
 use Rattle.hex.proofs.Printing.{hex-most}
 use Rattle.replies.specs.Text.{ascii, space, newline}
 use Rattle.replies.specs.Replies.{lineRoom, detailMax, nameOf, printed, numbered, valued, detailed, field, replied, ended, Put}
@@ -85,17 +87,17 @@ detail-most word detail value h =
     (λ e. if-ind (λ (x : List ℕ). length x ≤ detailMax) (valued word) (λ f. omega (arith, hex-most value valueMax (omega arith) h)) (λ f. omega arith))
 
 module _ (word : ℕ) where
-  pub numbered-first : (word ≡ 0) ⊎ (word ≡ 2) → numbered word ≡ true
+  pub numbered-first : (word ≡ REFUSED) ⊎ (word ≡ SESSION) → numbered word ≡ true
   numbered-first h = ⊎-elim (λ e. rw e) (λ e. rw e) h
 
-  pub numbered-last : 5 ≤ word → word < 7 → numbered word ≡ true
-  numbered-last h l = ⊎-elim (λ e. rw (← e)) (λ m. let e : word ≡ 6 = omega arith in rw e) (eq-or-lt-of-le h)
+  pub numbered-last : BACKOFF ≤ word → word ≤ LEASE → numbered word ≡ true
+  numbered-last h l = ⊎-elim (λ e. rw (← e)) (λ m. let e : word ≡ LEASE = omega arith in rw e) (eq-or-lt-of-le h)
 
-  pub numbered-none : ((word ≡ 0) ⊎ (word ≡ 2) → ⊥) → (word < 5) ⊎ (7 ≤ word) → numbered word ≡ false
+  pub numbered-none : ((word ≡ REFUSED) ⊎ (word ≡ SESSION) → ⊥) → (word < BACKOFF) ⊎ (LEASE < word) → numbered word ≡ false
   numbered-none f h =
-      let c : word ≡ 5 → ⊥ = λ e. ⊎-elim (λ l. omega arith) (λ l. omega arith) h in
-      let d : word ≡ 6 → ⊥ = λ e. ⊎-elim (λ l. omega arith) (λ l. omega arith) h in
-      rw (ne-eqb word 0 (λ e. f (inl e)), ne-eqb word 2 (λ e. f (inr e)), ne-eqb word 5 c, ne-eqb word 6 d)
+      let c : word ≡ BACKOFF → ⊥ = λ e. ⊎-elim (λ l. omega arith) (λ l. omega arith) h in
+      let d : word ≡ LEASE → ⊥ = λ e. ⊎-elim (λ l. omega arith) (λ l. omega arith) h in
+      rw (ne-eqb word REFUSED (λ e. f (inl e)), ne-eqb word SESSION (λ e. f (inr e)), ne-eqb word BACKOFF c, ne-eqb word LEASE d)
 
 -- ---- whole lines
 

@@ -21,6 +21,9 @@ pub const WRITTEN: u64 = 24;
 
 pub const UNREADABLE: u64 = 25;
 
+// The room that an output line is given; none takes more.
+pub const LINE_ROOM: usize = 256;
+
 // How many words there are.
 const WORDS: usize = 26;
 
