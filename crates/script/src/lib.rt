@@ -11,9 +11,6 @@ ghost use Rattle.script.specs.Input.{answerLine, endLine, finished};
 ghost use Rattle.script.specs.Buffers.{opened, HeldFits, Printed, Delivered, Stretched};
 use feed::Taken;
 
-// Room that an output line or the end line asks for.
-const LINE_ROOM: usize = 256;
-
 // How many bytes of a line are held, and how many of the output are put.
 struct Place {
     held: usize,
@@ -33,7 +30,7 @@ fn answer(cache: &mut [u8], book: &mut [u8], line: &[u8], out: &mut [u8], put: u
     ensures { λ r. ⌜ Delivered (answerLine (memoryOf (now (cache .entry)) (now (book .entry))) (now (line .entry))) (memoryOf (now (cache .exit)) (now (book .exit))) (now (out .entry)) put (now (out .exit)) r ⌝ }
     ensures { λ r. ⌜ r ≤ put + lineRoom ⌝ }
 {
-    let until = put + LINE_ROOM;
+    let until = put + replies::LINE_ROOM;
     let n = rehearsal::line(cache, book, line, &mut out[put..until]);
     put + n
 }
@@ -43,7 +40,7 @@ fn end(book: &[u8], out: &mut [u8], put: usize) -> usize
     requires { ⌜ put + lineRoom ≤ length (now out) ⌝ }
     ensures { λ r. ⌜ Printed (endLine (now (book .entry))) (now (out .entry)) put (now (out .exit)) r ⌝ }
 {
-    let until = put + LINE_ROOM;
+    let until = put + replies::LINE_ROOM;
     let n = rehearsal::end(book, &mut out[put..until]);
     put + n
 }
@@ -92,7 +89,7 @@ pub fn stretch(
     let mut i = from;
     while i < chunk.len() {
         let put = at.put;
-        if out.len() - put < LINE_ROOM {
+        if out.len() - put < replies::LINE_ROOM {
             return Reached {
                 from: i,
                 held: at.held,
