@@ -70,6 +70,15 @@ Alone nums n = (j k : ℕ) → j < sessionCount → k < sessionCount → item nu
 abbrev pub firstPlace : List ℕ → ℕ → ℕ
 firstPlace nums n = first (λ j. eqb (item nums j) n) (λ j. j + 1) 0 0 sessionCount
 
+-- r is a place of n, plus 1, or 0
+pub record Stood (nums : List ℕ) (n r : ℕ) : Type 0 where
+  pub low : r ≤ sessionCount
+  pub here : (r ≡ 0 → ⊥) → item nums (r - 1) ≡ n
+
+-- if n stands at one place only of those below m, r is that place, plus 1
+abbrev pub OnlyPlace : List ℕ → ℕ → ℕ → ℕ → Type 0
+OnlyPlace nums m n r = (j : ℕ) → j < m → item nums j ≡ n → ((k : ℕ) → k < m → item nums k ≡ n → k ≡ j) → r ≡ j + 1
+
 -- Seats: each has a place, plus 1, or 0 if it is free
 
 abbrev pub seatCount : ℕ

@@ -305,6 +305,7 @@ fn rows_fit(
     requires { ⌜ (length (now s) ≡ stateSize) × (Masks (now masks) × Entered (numbers (now s) sessionsFrom sessionWidth) sessionCount (now nums) (now seats)) ⌝ }
     ensures { λ r. ⌜ r ≡ rowsFit (now (s .entry)) ⌝ }
 {
+    let mut crowd: [u64; layout::SESSION_COUNT] = [0; layout::SESSION_COUNT];
     let mut seen: [u32; layout::KEY_COUNT] = [0; layout::KEY_COUNT];
     let mut near: [u64; layout::KEY_COUNT] = [0; layout::KEY_COUNT];
     let mut far: [u64; layout::KEY_COUNT] = [0; layout::KEY_COUNT];
@@ -313,7 +314,7 @@ fn rows_fit(
         if !row_formed(&s[at..at + layout::ROW_WIDTH], masks) {
             return false;
         }
-        if !joins::join(s, i, nums, seats, &mut seen, &mut near, &mut far) {
+        if !joins::join(s, i, nums, seats, &mut crowd, &mut seen, &mut near, &mut far) {
             return false;
         }
     }

@@ -19,7 +19,7 @@ places-requires : tie.Need-places-requires
 places-requires c κs = search needs
 
 returns : tie.Need-returns
-returns c = turn-full (c .before .before .before .before .before .args .nums .now) (c .before .before .before .before .before .args .i) (c .before .before .before .before .before .args .seats .now) (c .before .before .before .before .before .pre .1 .1 .0) _ refl (c .before .before .before .before .before .pre .1 .0) (full-passed _ _ _ (c .before .before .seek .ensures) (c .before .if1 .taken)) _ (c .places .ensures)
+returns c = turn-full (c .before .before .before .before .before .args .nums .now) (c .before .before .before .before .before .args .i) (c .before .before .before .before .before .args .seats .now) (c .before .before .before .before .before .pre .1 .1 .0) _ refl (c .before .before .before .before .before .pre .1 .0) (full-passed _ _ _ (c .before .before .seek .ensures) (c .before .if1 .taken)) _ (c .places .ensures .0)
 
 mul-if2 : tie.Need-mul-if2
 mul-if2 c = omega (arith, stop-low _ _ _ (c .before .seek .ensures) (c .if1 .left))
