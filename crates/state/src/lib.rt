@@ -304,7 +304,16 @@ fn rows_fit(
         if !row_formed(&s[at..at + layout::ROW_WIDTH], masks) {
             return false;
         }
-        if !joins::join(s, i, nums, seats, &mut crowd, &mut seen, &mut near, &mut far) {
+        if !joins::join(
+            s,
+            i,
+            nums,
+            seats,
+            &mut crowd,
+            &mut seen,
+            &mut near,
+            &mut far,
+        ) {
             return false;
         }
     }

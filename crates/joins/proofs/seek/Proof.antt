@@ -1,3 +1,4 @@
+-- The invariant: others than n have the seats of the turns passed, x is n spun as often, and h is the seat of this turn.
 use Prim.Native.Nat.{ℕ, _-_, _≤_, _<_}
 use mathlib.Core.Path.{_≡_, refl, sym, ap, _∙_}
 use native.Mathlib.Omega.{arith}
@@ -6,12 +7,6 @@ use Rattle.joins.specs.Joins.{item, tries, seatCount, spread, seatOf, Pa
 use Rattle.joins.proofs.Seats.{spread-more, seat-more, passed-more}
 use Rattle.joins.proofs.seek.Statement.{statement}
 use Rattle.joins.proofs.seek.Tie as tie
-use Rattle.joins.proofs.seek.Reads as reads
-use Rattle.joins.proofs.seek.Lts as lts
-use Rattle.joins.proofs.first_seat.Reads as first-seat-reads
-use Rattle.joins.proofs.seat.Reads as seat-reads
-use Rattle.joins.proofs.spin.Reads as spin-reads
-use Rattle.joins.proofs.widen.Reads as widen-reads
 
 abbrev Inv-loop : tie.InvT-loop
 Inv-loop nums seats n x₀ h₀ t₀ x h t = (t ≤ tries) × ((x ≡ spread n t) × ((h ≡ seatOf n t) × ((h < seatCount) × Passed nums seats n t)))
@@ -19,68 +14,52 @@ Inv-loop nums seats n x₀ h₀ t₀ x h t = (t ≤ tries) × ((x ≡ spread n t
 abbrev μ-loop : tie.MeasureT-loop
 μ-loop nums seats n x₀ h₀ t₀ x h t = tries - t
 
--- src/lib.rt:112:9
 first-seat-requires : tie.Need-first-seat-requires Inv-loop μ-loop
 first-seat-requires c κs = search needs
 
--- src/lib.rt:113:5
 loop-holds : tie.Need-loop-holds Inv-loop μ-loop
 unfolding spread
 loop-holds c = (search needs, (refl, (c .first-seat .ensures .0, (c .first-seat .ensures .1, λ u l. absurd (omega arith)))))
 
--- src/lib.rt:114:23
 mul-widen : tie.Need-mul-widen Inv-loop μ-loop
 mul-widen c = search needs
 
--- src/lib.rt:114:23
 element-copy-out-widen : tie.Need-element-copy-out-widen Inv-loop μ-loop
 element-copy-out-widen c = search needs
 
--- src/lib.rt:114:13
 widen-requires : tie.Need-widen-requires Inv-loop μ-loop
 widen-requires c κs = search needs
 
--- src/lib.rt:116:13
 returns : tie.Need-returns Inv-loop μ-loop
 returns c = stop {t = c .before .before .before .before .loop .t} (search needs) (c .before .before .before .before .loop .inv .1 .1 .0) (c .before .before .before .before .loop .inv .1 .1 .1 .0) (c .before .before .before .before .loop .inv .1 .1 .1 .1) (λ z. absurd (z (sym (c .before .widen .ensures) ∙ c .if1 .taken)))
 
--- src/lib.rt:118:17
 sub-if2 : tie.Need-sub-if2 Inv-loop μ-loop
 sub-if2 c = search needs
 
--- src/lib.rt:118:12
 mul-if2 : tie.Need-mul-if2 Inv-loop μ-loop
 mul-if2 c = omega (arith, c .before .before .before .before .before .before .pre .low (c .before .before .before .before .loop .h))
 
--- src/lib.rt:118:12
 element-copy-out-if2 : tie.Need-element-copy-out-if2 Inv-loop μ-loop
 element-copy-out-if2 c = omega (arith, c .before .before .before .before .before .before .pre .low (c .before .before .before .before .loop .h))
 
--- src/lib.rt:119:13
 returns-2 : tie.Need-returns-2 Inv-loop μ-loop
 returns-2 c = stop {t = c .before .before .before .before .before .before .loop .t} (search needs) (c .before .before .before .before .before .before .loop .inv .1 .1 .0) (c .before .before .before .before .before .before .loop .inv .1 .1 .1 .0) (c .before .before .before .before .before .before .loop .inv .1 .1 .1 .1) (λ z. ap (λ (v : ℕ). item (c .before .before .before .before .before .before .before .before .args .nums .now) (v - 1)) (sym (c .before .before .before .widen .ensures)) ∙ c .if2 .taken)
 
--- src/lib.rt:121:9
 spin-requires : tie.Need-spin-requires Inv-loop μ-loop
 spin-requires c κs = search needs
 
--- src/lib.rt:122:9
 seat-requires : tie.Need-seat-requires Inv-loop μ-loop
 seat-requires c κs = search needs
 
--- src/lib.rt:113:9
 add-t : tie.Need-add-t Inv-loop μ-loop
 add-t c = search needs
 
--- src/lib.rt:113:5
 loop-less : tie.Need-loop-less Inv-loop μ-loop
 loop-less c = search needs
 
--- src/lib.rt:113:5
 loop-again : tie.Need-loop-again Inv-loop μ-loop
 loop-again c = let e = c .before .spin .ensures ∙ spread-more (c .before .before .before .before .before .before .before .before .before .before .args .n) (c .before .before .before .before .before .before .before .before .loop .t) (c .before .before .before .before .before .before .before .before .loop .x) (c .before .before .before .before .before .before .before .before .loop .inv .1 .0) in (search needs, (e, (seat-more (c .before .before .before .before .before .before .before .before .before .before .args .n) (c .before .before .before .before .before .before .before .before .loop .t) (c .before .spin .result) _ e (c .seat .ensures .0), (c .seat .ensures .1, passed-more (c .before .before .before .before .before .before .before .before .before .before .args .nums .now) (c .before .before .before .before .before .before .before .before .before .before .args .seats .now) (c .before .before .before .before .before .before .before .before .before .before .args .n) (c .before .before .before .before .before .before .before .before .loop .t) (c .before .before .before .before .before .widen .result) (c .before .before .before .before .before .before .before .before .loop .inv .1 .1 .1 .1) (c .before .before .before .before .before .widen .ensures ∙ ap (item (c .before .before .before .before .before .before .before .before .before .before .args .seats .now)) (c .before .before .before .before .before .before .before .before .loop .inv .1 .1 .0)) (c .before .before .before .before .if1 .left) (c .before .before .if2 .left)))))
 
--- src/lib.rt:107:1
 returns-3 : tie.Need-returns-3 Inv-loop μ-loop
 returns-3 c = let e : c .before .loop .t ≡ tries = omega arith in full (rw e at (c .before .loop .inv .1 .1 .1 .1))
 

@@ -1,58 +1,44 @@
+-- By the three returns: 0, a first seat that is taken, and one that is free.
 use mathlib.Core.Path.{refl}
 use native.Mathlib.Omega.{arith}
 use Rattle.joins.proofs.Seats.{turn-none, turn-free, tried-took, tried-left}
 use borrow.Author.Needs.{needs}
 use Rattle.joins.proofs.takes_first.Statement.{statement}
 use Rattle.joins.proofs.takes_first.Tie as tie
-use Rattle.joins.proofs.takes_first.Reads as reads
-use Rattle.joins.proofs.takes_first.Lts as lts
-use Rattle.joins.proofs.first_seat.Reads as first-seat-reads
 
--- src/lib.rt:134:13
 mul-n : tie.Need-mul-n
 mul-n c = search needs
 
--- src/lib.rt:134:13
 element-copy-out-n : tie.Need-element-copy-out-n
 element-copy-out-n c = search needs
 
--- src/lib.rt:136:9
 returns : tie.Need-returns
 returns c = tried-took (turn-none (c .before .before .args .nums .now) (c .before .before .args .i) (c .before .before .args .seats .now) (c .before .before .pre .1) _ refl (c .if1 .taken))
 
--- src/lib.rt:138:9
 first-seat-requires : tie.Need-first-seat-requires
 first-seat-requires c κs = search needs
 
--- src/lib.rt:139:8
 mul-if2 : tie.Need-mul-if2
 mul-if2 c = search needs
 
--- src/lib.rt:139:8
 element-copy-out-if2 : tie.Need-element-copy-out-if2
 element-copy-out-if2 c = search needs
 
--- src/lib.rt:140:9
 returns-2 : tie.Need-returns-2
 returns-2 c = tried-left (c .before .before .before .if1 .left) (c .before .before .before .before .before .pre .1)
 
--- src/lib.rt:142:17
 add-seats : tie.Need-add-seats
 add-seats c = search needs
 
--- src/lib.rt:142:16
 cast-seats : tie.Need-cast-seats
 cast-seats c = search needs
 
--- src/lib.rt:142:5
 mul-seats : tie.Need-mul-seats
 mul-seats c = search needs
 
--- src/lib.rt:142:5
 element-write-seats : tie.Need-element-write-seats
 element-write-seats c = search needs
 
--- src/lib.rt:130:1
 returns-3 : tie.Need-returns-3
 returns-3 c = tried-took (turn-free (c .before .before .before .before .before .args .nums .now) (c .before .before .before .before .before .args .i) (c .before .before .before .before .before .args .seats .now) (c .before .before .before .before .before .pre .1) _ refl (c .before .before .before .if1 .left) {t = 0} (search needs) (c .before .before .first-seat .ensures .0) (c .before .before .first-seat .ensures .1) (λ u h. absurd (omega arith)) (c .if2 .left))
 
