@@ -16,7 +16,7 @@ const USAGE: &str = "usage:
   bench times                         ns of the check
   bench commands                      commands a second
   bench call WHO STATE TIMES          the check alone; WHO is plain, proved or second, STATE fresh, light, full, colliding, one-slot,
-                                      crowded or falling
+                                      crowded, falling, pair, packed, chained or worst
   bench work PART STATE WORK TIMES    PART is proved, second, proved-check, second-check or nothing, STATE light or full,
                                       WORK get-hit, get-miss, session or sweep";
 

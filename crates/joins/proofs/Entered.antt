@@ -10,7 +10,7 @@ use lib.Seq.{getD-set-other}
 use Rattle.lent.proofs.Walks.{every-none, every-more}
 use Rattle.machine.specs.Sizes.{keyCount, sessionCount, sessionsFrom, sessionWidth}
 use Rattle.machine.specs.Sound.{newAt, distinct}
-use Rattle.joins.specs.Joins.{numbers, side, item, seatCount, Seated, Entered, Ready}
+use Rattle.joins.specs.Joins.{numbers, side, item, seatCount, Seated, FirstTried, Entered, Ready}
 use Rattle.joins.proofs.Joins.{seen-none}
 use Rattle.joins.proofs.Numbers.{gathered-none, gathered-more, new-cong, distinct-gathered}
 use Rattle.joins.proofs.Pairs.{sized-none, no-pairs}
@@ -35,6 +35,11 @@ entered-more {f} {i} {n} {nums} {seats} {seats′} {r} h y e t =
     let g = gathered-more f i nums n h (y .gathered) e in
     let new : r ≡ newAt f i = t .0 ∙ new-cong (item (set nums i n)) f i (λ j l. g .is j (omega arith)) in
     (new, λ o. record { gathered = g; once = every-more _ _ (y .once) (sym new ∙ o); seated = t .1 o })
+
+pub entered-first : {f : ℕ → ℕ} {i n : ℕ} {nums seats seats′ : List ℕ} {r : Bool}
+    → i < side → Entered f i nums seats → n ≡ f i → FirstTried (set nums i n) i r seats′ → r ≡ true
+    → (true ≡ newAt f i) × (true ≡ true → Entered f (i + 1) (set nums i n) seats′)
+entered-first h y e t o = let u = t .took o in entered-more h y e (sym (u .0), λ q. u .1)
 
 pub ready-none : {s nums seats : List ℕ} → Entered (numbers s sessionsFrom sessionWidth) sessionCount nums seats → Ready s 0 nums (replicate keyCount 0) (replicate keyCount 0) (replicate keyCount 0)
 ready-none y = record {

@@ -2,19 +2,20 @@
 use mathlib.Core.Path.{_≡_, refl, sym, ap, _∙_}
 use mathlib.Core.Bool.{Bool, true, false, not}
 use mathlib.Core.List.{List}
-use Prim.Native.Nat.{ℕ, _+_, _-_, _<_}
+use mathlib.Core.Logic.{⊎-elim}
+use Prim.Native.Nat.{ℕ, _+_, _-_, _≤_, _<_}
 use native.Mathlib.Numerals.{add-one}
 use native.Mathlib.Omega.{arith}
-use lib.Bits.{bitOr}
+use lib.Bits.{bitOr, or-zero-r}
 use lib.Dec.{eqb, ltb, eqb·suc-zero}
 use borrow.Author.Tests.{eq-eqb, ne-eqb, eqb-true, eqb-false, ltb-true, ltb-false, not-true}
 use Rattle.lent.specs.Tables.{if_then_else_, every}
-use Rattle.lent.proofs.Walks.{every-all, some-at, none-some, Search, found, nowhere, first-search}
+use Rattle.lent.proofs.Walks.{all-every, every-all, some-at, none-some, Search, found, nowhere, first-search}
 use Rattle.lent.proofs.Zeros.{eqb-or}
 use Rattle.machine.specs.Sizes.{sessionCount, sessionsFrom, sessionWidth}
 use Rattle.machine.specs.Sound.{newAt, distinct}
-use Rattle.joins.specs.Joins.{numbers, isLive, item, Gathered, Alone, firstPlace}
-use Rattle.joins.proofs.Numbers.{new-used}
+use Rattle.joins.specs.Joins.{numbers, isLive, item, Gathered, Alone, firstPlace, Stood, OnlyPlace}
+use Rattle.joins.proofs.Numbers.{last-or, new-used}
 
 -- 0 if the test fails
 zero-choice : (t : Bool) (m : ℕ) → eqb (if t then m + 1 else 0) 0 ≡ not t
@@ -25,6 +26,18 @@ zero-choice false m = refl
 pub places-more : (nums : List ℕ) (n j f : ℕ) → eqb f 0 ≡ every (λ k. not (eqb (item nums k) n)) j → eqb (bitOr f (if eqb (item nums j) n then j + 1 else 0)) 0 ≡ every (λ k. not (eqb (item nums k) n)) (j + 1)
 unfolding every
 places-more nums n j f e = rw (add-one j, eqb-or, e) (rw (← add-one j, zero-choice (eqb (item nums j) n) j))
+
+-- where n stands at one place only, all that is joined to it is 0
+pub places-only : (nums : List ℕ) (n j f : ℕ) → eqb f 0 ≡ every (λ k. not (eqb (item nums k) n)) j → OnlyPlace nums j n f → OnlyPlace nums (j + 1) n (bitOr f (if eqb (item nums j) n then j + 1 else 0))
+places-only nums n j f e o p l q u = ⊎-elim here before (last-or p j l)
+  where
+    here : p ≡ j → bitOr f (if eqb (item nums j) n then j + 1 else 0) ≡ p + 1
+    here w =
+        let none-before : eqb f 0 ≡ true = e ∙ all-every (λ k. not (eqb (item nums k) n)) j (λ k h. ap not (ne-eqb (item nums k) n (λ g. omega (arith, u k (omega arith) g)))) in
+        rw (eqb-true f 0 none-before, eq-eqb (item nums j) n (ap (item nums) (sym w) ∙ q), w)
+
+    before : p < j → bitOr f (if eqb (item nums j) n then j + 1 else 0) ≡ p + 1
+    before a = rw (ne-eqb (item nums j) n (λ g. omega (arith, u j (omega arith) g)), or-zero-r f) (o p a q (λ k h g. u k (omega arith) g))
 
 -- ---- a number that stands once
 
@@ -63,12 +76,27 @@ module _ (nums : List ℕ) (n : ℕ) where
       go _ (at-place {m = k} h o) = ap (λ (x : ℕ). x + 1) (a m k l h e o)
       go _ (no-place f) = absurd (f m l e)
 
-  pub first-none : every (λ j. not (eqb (item nums j) n)) sessionCount ≡ true → 0 ≡ firstPlace nums n
-  first-none d = go (firstPlace nums n) first-is
+  pub first-low : firstPlace nums n ≤ sessionCount
+  first-low = go (firstPlace nums n) first-is
     where
-      go : (p : ℕ) → Place p → 0 ≡ p
-      go _ (at-place {m = k} h o) = absurd (eqb-false (item nums k) n (not-true _ (every-all (λ j. not (eqb (item nums j) n)) sessionCount k d h)) o)
-      go _ (no-place f) = refl
+      go : (p : ℕ) → Place p → p ≤ sessionCount
+      go _ (at-place {m = k} h o) = omega arith
+      go _ (no-place f) = omega arith
+
+  -- a place that was tested
+  pub stood-at : {m : ℕ} → m < sessionCount → item nums m ≡ n → Stood nums n (m + 1)
+  stood-at {m} l e = let o : m + 1 - 1 ≡ m = omega arith in record { low = omega arith; here = λ z. rw o e }
+
+  pub first-stood : Alone nums n → {r : ℕ} → Stood nums n r → (r ≡ 0 → ⊥) → r ≡ firstPlace nums n
+  first-stood a {r} y z = let o : r ≡ r - 1 + 1 = omega arith in o ∙ first-at a (omega (arith, y .low)) (y .here z)
+
+  -- its places joined
+  pub first-joined : Alone nums n → {r : ℕ} → eqb r 0 ≡ every (λ j. not (eqb (item nums j) n)) sessionCount → OnlyPlace nums sessionCount n r → r ≡ firstPlace nums n
+  first-joined a {r} e o = go (firstPlace nums n) first-is
+    where
+      go : (p : ℕ) → Place p → r ≡ p
+      go _ (at-place {m = k} h w) = o k h w (λ j l g. a j k l h g w)
+      go _ (no-place f) = eqb-true r 0 (e ∙ all-every (λ j. not (eqb (item nums j) n)) sessionCount (λ j l. ap not (ne-eqb (item nums j) n (f j l))))
 
 -- ---- what a place says of the session
 

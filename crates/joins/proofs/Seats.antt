@@ -16,7 +16,7 @@ use Rattle.lent.specs.Tables.{every}
 use Rattle.lent.proofs.Choices.{clash}
 use Rattle.lent.proofs.Walks.{all-every, every-fails}
 use Rattle.machine.specs.Sound.{newAt}
-use Rattle.joins.specs.Joins.{item, seatCount, tries, spun, spread, seatBy, seatOf, Small, Passed, Sought, stop, full, Seated}
+use Rattle.joins.specs.Joins.{item, seatCount, tries, spun, spread, seatBy, seatOf, Small, Passed, Sought, stop, full, Seated, FirstTried}
 use Rattle.joins.proofs.Numbers.{last-or, same-or, item-zeros, new-zero, new-used}
 
 pub seated-none : (nums : List ℕ) → Seated nums 0 (replicate seatCount 0)
@@ -34,11 +34,9 @@ pub spread-more : (n t x : ℕ) → x ≡ spread n t → spun x ≡ spread n (t 
 unfolding spread
 spread-more n t x e = rw (add-one t) (ap spun e)
 
--- a seat from the second on
-pub seat-later : (n t x h : ℕ) → 1 ≤ t → x ≡ spread n t → h ≡ seatBy x → h ≡ seatOf n t
+pub seat-more : (n t x h : ℕ) → x ≡ spread n (t + 1) → h ≡ seatBy x → h ≡ seatOf n (t + 1)
 unfolding seatOf
-seat-later n zero x h l e q = absurd (omega arith)
-seat-later n (suc t) x h l e q = q ∙ ap seatBy e
+seat-more n t x h e q = let o : seatBy (spread n (t + 1)) ≡ seatOf n (t + 1) = rw (add-one t) in q ∙ (ap seatBy e ∙ o)
 
 module _ (nums seats : List ℕ) (n : ℕ) where
   pub passed-more : (t q : ℕ) → Passed nums seats n t → q ≡ item seats (seatOf n t) → (q ≡ 0 → ⊥) → (item nums (q - 1) ≡ n → ⊥) → Passed nums seats n (t + 1)
@@ -147,3 +145,11 @@ module _ (nums : List ℕ) (i : ℕ) (seats : List ℕ) (y : Seated nums i seats
     pub turn-seated : {h : ℕ} → Sought nums seats n h → (h ≡ seatCount → ⊥) → item seats h ≡ 0 → Turn true (set seats h (i + 1))
     turn-seated (full p) w z = absurd (w refl)
     turn-seated (stop {t} {h} b e l p o) w z = turn-free b e l p z
+
+-- ---- the first seat alone
+
+pub tried-took : {nums seats : List ℕ} {i : ℕ} → (true ≡ newAt (item nums) i) × (true ≡ true → Seated nums (i + 1) seats) → FirstTried nums i true seats
+tried-took t = record { took = λ r. (sym (t .0), t .1 refl); left = λ r. clash true refl r }
+
+pub tried-left : {nums seats : List ℕ} {i : ℕ} → (item nums i ≡ 0 → ⊥) → Seated nums i seats → FirstTried nums i false seats
+tried-left z y = record { took = λ r. clash false r refl; left = λ r. (z, y) }

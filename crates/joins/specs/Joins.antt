@@ -8,12 +8,19 @@ use lib.Dec.{eqb, ltb}
 use Rattle.joins.specs.Bits.{hasBit}
 use Rattle.lent.specs.Bytes.{le32}
 use Rattle.lent.specs.Tables.{if_then_else_, every, some, first}
-use Rattle.machine.specs.Sound.{distinct}
+use Rattle.machine.specs.Sound.{newAt, distinct}
 use Rattle.machine.specs.Sizes.{keyCount, keysFrom, keyWidth, rowsFrom, rowWidth, sessionCount, sessionsFrom, sessionWidth}
 
 -- the number at +0 of record i of a table of records of w bytes from off
 abbrev pub numbers : List ℕ → ℕ → ℕ → ℕ → ℕ
 numbers s off w i = le32 s (off + i * w)
+
+-- the tokens of the keys' leases, and the numbers of the sessions
+abbrev pub tokens : List ℕ → ℕ → ℕ
+tokens s = numbers s (keysFrom + 4) keyWidth
+
+abbrev pub sessionNumbers : List ℕ → ℕ → ℕ
+sessionNumbers s = numbers s sessionsFrom sessionWidth
 
 -- Rows
 
@@ -29,7 +36,7 @@ rowKind s i = getD s (rowsFrom + i * rowWidth + 5) 0
 
 -- n is the number of a session
 unfoldable pub isLive : List ℕ → ℕ → Bool
-isLive s n = some (λ j. eqb (numbers s sessionsFrom sessionWidth j) n) sessionCount
+isLive s n = some (λ j. eqb (sessionNumbers s j) n) sessionCount
 
 -- row j, if it is used and on key k, is of another session than n, and both rows are of kind 1
 unfoldable pub pairOk : List ℕ → ℕ → ℕ → ℕ → ℕ → Bool
@@ -69,6 +76,15 @@ Alone nums n = (j k : ℕ) → j < sessionCount → k < sessionCount → item nu
 -- its first place, plus 1; 0 where there is none
 abbrev pub firstPlace : List ℕ → ℕ → ℕ
 firstPlace nums n = first (λ j. eqb (item nums j) n) (λ j. j + 1) 0 0 sessionCount
+
+-- r is a place of n, plus 1, or 0
+pub record Stood (nums : List ℕ) (n r : ℕ) : Type 0 where
+  pub low : r ≤ sessionCount
+  pub here : (r ≡ 0 → ⊥) → item nums (r - 1) ≡ n
+
+-- if n stands at one place only of those below m, r is that place, plus 1
+abbrev pub OnlyPlace : List ℕ → ℕ → ℕ → ℕ → Type 0
+OnlyPlace nums m n r = (j : ℕ) → j < m → item nums j ≡ n → ((k : ℕ) → k < m → item nums k ≡ n → k ≡ j) → r ≡ j + 1
 
 -- Seats: each has a place, plus 1, or 0 if it is free
 
@@ -115,6 +131,11 @@ pub data Sought (nums seats : List ℕ) (n : ℕ) : ℕ → Type 0 where
 pub record Seated (nums : List ℕ) (i : ℕ) (seats : List ℕ) : Type 0 where
   pub small : Small i seats
   pub held : (j : ℕ) → j < i → (item nums j ≡ 0 → ⊥) → (u : ℕ) → u < tries → item seats (seatOf (item nums j) u) ≡ 0 → (t : ℕ) × (t < u) × (item seats (seatOf (item nums j) t) ≡ j + 1)
+
+-- the number at place i is 0 or took its first seat, and is new; or it is left to take another
+pub record FirstTried (nums : List ℕ) (i : ℕ) (r : Bool) (seats : List ℕ) : Type 0 where
+  pub took : r ≡ true → (newAt (item nums) i ≡ true) × Seated nums (i + 1) seats
+  pub left : r ≡ false → (item nums i ≡ 0 → ⊥) × Seated nums i seats
 
 -- the first i of the numbers f stand side by side, each that is not 0 once and with its seat
 pub record Entered (f : ℕ → ℕ) (i : ℕ) (nums seats : List ℕ) : Type 0 where
@@ -163,7 +184,7 @@ pub record Seen (s : List ℕ) (P : ℕ → ℕ) (i : ℕ) (seen : List ℕ) (bi
 
 -- the sessions' numbers side by side, each that is not 0 once
 pub record Sessions (s nums : List ℕ) : Type 0 where
-  pub gathered : Gathered (numbers s sessionsFrom sessionWidth) sessionCount nums
+  pub gathered : Gathered (sessionNumbers s) sessionCount nums
   pub once : distinct (item nums) sessionCount ≡ true
 
 -- all that the pass knows at row i

@@ -22,9 +22,6 @@ const REST_FROM: usize = layout::SESSIONS_FROM + layout::SESSION_COUNT * layout:
 
 const REST_SIZE: usize = layout::STATE_SIZE - REST_FROM;
 
-// The tokens of the keys' leases.
-const TOKENS_FROM: usize = layout::KEYS_FROM + layout::KEY_TOKEN;
-
 // Twice the length of a value.
 const MASKS: usize = layout::VALUE_MAX + layout::VALUE_MAX;
 
@@ -262,7 +259,7 @@ fn keys_fit(s: &[u8], masks: &[u8; MASKS]) -> bool
         if !key_formed(&s[at..at + layout::KEY_WIDTH], until, next, masks) {
             return false;
         }
-        if !joins::enters(s, TOKENS_FROM, layout::KEY_WIDTH, k, &mut nums, &mut seats) {
+        if !joins::token_enters(s, k, &mut nums, &mut seats) {
             return false;
         }
     }
@@ -281,14 +278,7 @@ fn sessions_fit(s: &[u8], nums: &mut [u32; joins::SIDE], seats: &mut [u16; joins
         if !session_formed(&s[at..at + layout::SESSION_WIDTH], until, next) {
             return false;
         }
-        if !joins::enters(
-            s,
-            layout::SESSIONS_FROM,
-            layout::SESSION_WIDTH,
-            j,
-            nums,
-            seats,
-        ) {
+        if !joins::session_enters(s, j, nums, seats) {
             return false;
         }
     }
@@ -305,6 +295,7 @@ fn rows_fit(
     requires { ⌜ (length (now s) ≡ stateSize) × (Masks (now masks) × Entered (numbers (now s) sessionsFrom sessionWidth) sessionCount (now nums) (now seats)) ⌝ }
     ensures { λ r. ⌜ r ≡ rowsFit (now (s .entry)) ⌝ }
 {
+    let mut crowd: [u64; layout::SESSION_COUNT] = [0; layout::SESSION_COUNT];
     let mut seen: [u32; layout::KEY_COUNT] = [0; layout::KEY_COUNT];
     let mut near: [u64; layout::KEY_COUNT] = [0; layout::KEY_COUNT];
     let mut far: [u64; layout::KEY_COUNT] = [0; layout::KEY_COUNT];
@@ -313,7 +304,16 @@ fn rows_fit(
         if !row_formed(&s[at..at + layout::ROW_WIDTH], masks) {
             return false;
         }
-        if !joins::join(s, i, nums, seats, &mut seen, &mut near, &mut far) {
+        if !joins::join(
+            s,
+            i,
+            nums,
+            seats,
+            &mut crowd,
+            &mut seen,
+            &mut near,
+            &mut far,
+        ) {
             return false;
         }
     }

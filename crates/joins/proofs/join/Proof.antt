@@ -44,10 +44,10 @@ returns-2 : tie.Need-returns-2
 returns-2 c = join-leased (c .before .before .before .before .before .before .before .pre .1 .1 .1) (c .before .before .before .before .before .load-u32 .ensures) (c .before .before .index .ensures .0) (c .before .before .before .before .if1 .left) (λ e. c .if2 .taken (c .before .load-u322 .ensures ∙ e))
 
 place-requires : tie.Need-place-requires
-place-requires c κs = (once-alone (c .before .before .before .before .before .before .before .args .nums .now) (c .before .before .before .before .before .load-u32 .result) (c .before .before .before .before .before .before .before .pre .1 .1 .1 .sessions .once) (c .before .before .before .before .if1 .left), c .before .before .before .before .before .before .before .pre .1 .1 .0)
+place-requires c κs = (once-alone (c .before .before .before .before .before .before .before .before .args .nums .now) (c .before .before .before .before .before .before .load-u32 .result) (c .before .before .before .before .before .before .before .before .pre .1 .1 .1 .sessions .once) (c .before .before .before .before .before .if1 .left), c .before .before .before .before .before .before .before .before .pre .1 .1 .0)
 
 returns-3 : tie.Need-returns-3
-returns-3 c = join-dead (c .before .before .before .before .before .before .before .before .before .pre .1 .1 .1) (c .before .before .before .before .before .before .before .load-u32 .ensures) (c .before .before .before .before .index .ensures .0) (c .before .before .before .before .before .before .if1 .left) (c .before .place .ensures .0) (sym (c .before .before .before .load-u322 .ensures) ∙ c .before .before .if2 .left) (c .if3 .taken)
+returns-3 c = join-dead (c .before .before .before .before .before .before .before .before .before .before .pre .1 .1 .1) (c .before .before .before .before .before .before .before .before .load-u32 .ensures) (c .before .before .before .before .before .index .ensures .0) (c .before .before .before .before .before .before .before .if1 .left) (c .before .place .ensures .0) (sym (c .before .before .before .before .load-u322 .ensures) ∙ c .before .before .before .if2 .left) (c .if3 .taken)
 
 add-wide : tie.Need-add-wide
 add-wide c = search needs
@@ -77,13 +77,13 @@ sub-note-pair : tie.Need-sub-note-pair
 sub-note-pair c = search needs
 
 note-pair-requires : tie.Need-note-pair-requires
-note-pair-requires c κs = (c .before .before .before .before .before .before .before .before .before .index .ensures .1, (place-low (c .before .before .before .before .before .before .before .before .before .before .before .before .before .before .pre .1 .1 .1) (c .before .before .before .before .before .before .before .before .before .before .before .before .load-u32 .ensures) (c .before .before .before .before .before .before .before .before .before .index .ensures .0) (c .before .before .before .before .before .before .before .before .before .before .before .if1 .left) (c .before .before .before .before .before .before .place .ensures .0) (sym (c .before .before .before .before .before .before .before .before .load-u322 .ensures) ∙ c .before .before .before .before .before .before .before .if2 .left) (c .before .before .before .before .before .if3 .left), c .before .before .before .before .before .before .before .before .before .before .before .before .before .before .pre .1 .1 .1 .sized))
+note-pair-requires c κs = (c .before .before .before .before .before .before .before .before .before .before .index .ensures .1, (place-low (c .before .before .before .before .before .before .before .before .before .before .before .before .before .before .before .pre .1 .1 .1) (c .before .before .before .before .before .before .before .before .before .before .before .before .before .load-u32 .ensures) (c .before .before .before .before .before .before .before .before .before .before .index .ensures .0) (c .before .before .before .before .before .before .before .before .before .before .before .before .if1 .left) (c .before .before .before .before .before .before .place .ensures .0) (sym (c .before .before .before .before .before .before .before .before .before .load-u322 .ensures) ∙ c .before .before .before .before .before .before .before .before .if2 .left) (c .before .before .before .before .before .if3 .left), c .before .before .before .before .before .before .before .before .before .before .before .before .before .before .before .pre .1 .1 .1 .sized))
 
 may-share-requires : tie.Need-may-share-requires
 may-share-requires c κs = search needs
 
 returns-4 : tie.Need-returns-4
-returns-4 c = join-shared (c .before .before .before .before .before .before .before .before .before .before .before .before .before .before .before .before .pre .1 .1 .1) (c .before .before .before .before .before .before .before .before .before .before .before .before .before .before .load-u32 .ensures) (c .before .before .before .before .before .before .before .before .before .before .before .index .ensures .0) (c .before .before .before .before .before .before .before .before .before .before .before .before .before .if1 .left) (c .before .before .before .before .before .before .before .before .place .ensures .0) (sym (c .before .before .before .before .before .before .before .before .before .before .load-u322 .ensures) ∙ c .before .before .before .before .before .before .before .before .before .if2 .left) (c .before .before .before .before .before .before .before .if3 .left) (ap (λ (v : ℕ). v + 1) (c .before .before .before .before .before .wide .ensures .0)) (c .before .before .before .before .before .before .before .before .before .before .before .index .ensures .1) (c .before .note-pair .ensures) (c .may-share .ensures)
+returns-4 c = join-shared (c .before .before .before .before .before .before .before .before .before .before .before .before .before .before .before .before .before .pre .1 .1 .1) (c .before .before .before .before .before .before .before .before .before .before .before .before .before .before .before .load-u32 .ensures) (c .before .before .before .before .before .before .before .before .before .before .before .before .index .ensures .0) (c .before .before .before .before .before .before .before .before .before .before .before .before .before .before .if1 .left) (c .before .before .before .before .before .before .before .before .place .ensures .0) (sym (c .before .before .before .before .before .before .before .before .before .before .before .load-u322 .ensures) ∙ c .before .before .before .before .before .before .before .before .before .before .if2 .left) (c .before .before .before .before .before .before .before .if3 .left) (ap (λ (v : ℕ). v + 1) (c .before .before .before .before .before .wide .ensures .0)) (c .before .before .before .before .before .before .before .before .before .before .before .before .index .ensures .1) (c .before .note-pair .ensures) (c .may-share .ensures)
 
 pub join-spec : {M : Type 1} → statement M
 join-spec =

@@ -58,12 +58,12 @@ returns : tie.Need-returns Inv-loop μ-loop
 unfolding keysFit keysFormed decHead
 returns c = let f : every (λ a. keyFormed (c .before .before .before .before .before .before .limit .result) (c .before .before .before .before .before .load-u32 .result) (win (c .before .before .before .before .before .before .before .before .args .s .now) (keysFrom + a * keyWidth) keyWidth)) keyCount ≡ false = every-fails _ keyCount (c .before .before .before .before .loop .k) (search needs) (record-failed (keyFormed (c .before .before .before .before .before .before .limit .result) (c .before .before .before .before .before .load-u32 .result)) (c .before .before .before .before .before .before .before .before .args .s .now) _ keyWidth (c .before .key-formed .ensures) (c .if1 .taken)) in rw (← c .before .before .before .before .before .before .limit .ensures, ← c .before .before .before .before .before .load-u32 .ensures, f)
 
-enters-requires : tie.Need-enters-requires Inv-loop μ-loop
-enters-requires c κs = (search needs, (search needs, c .before .before .before .before .before .before .loop .inv .1 .1))
+token-enters-requires : tie.Need-token-enters-requires Inv-loop μ-loop
+token-enters-requires c κs = (search needs, (search needs, c .before .before .before .before .before .before .loop .inv .1 .1))
 
 returns-2 : tie.Need-returns-2 Inv-loop μ-loop
 unfolding keysFit distinct
-returns-2 c = let f : distinct (numbers (c .before .before .before .before .before .before .before .before .before .before .before .before .args .s .now) (keysFrom + 4) keyWidth) keyCount ≡ false = every-fails _ keyCount (c .before .before .before .before .before .before .before .before .loop .k) (search needs) (sym (c .before .enters .ensures .0) ∙ not-true _ (c .if2 .taken)) in rw (f, and-false)
+returns-2 c = let f : distinct (numbers (c .before .before .before .before .before .before .before .before .before .before .before .before .args .s .now) (keysFrom + 4) keyWidth) keyCount ≡ false = every-fails _ keyCount (c .before .before .before .before .before .before .before .before .loop .k) (search needs) (sym (c .before .token-enters .ensures .0) ∙ not-true _ (c .if2 .taken)) in rw (f, and-false)
 
 add-k : tie.Need-add-k Inv-loop μ-loop
 add-k c = search needs
@@ -72,7 +72,7 @@ loop-less : tie.Need-loop-less Inv-loop μ-loop
 loop-less c = search needs
 
 loop-again : tie.Need-loop-again Inv-loop μ-loop
-loop-again c = (search needs, (every-more _ _ (c .before .before .before .before .before .before .before .before .loop .inv .1 .0) (record-passed (keyFormed (c .before .before .before .before .before .before .before .before .before .before .limit .result) (c .before .before .before .before .before .before .before .before .before .load-u32 .result)) (c .before .before .before .before .before .before .before .before .before .before .before .before .args .s .now) _ keyWidth (c .before .before .before .before .before .key-formed .ensures) (c .before .before .before .before .if1 .left)), c .before .enters .ensures .1 (not-false _ (c .if2 .left))))
+loop-again c = (search needs, (every-more _ _ (c .before .before .before .before .before .before .before .before .loop .inv .1 .0) (record-passed (keyFormed (c .before .before .before .before .before .before .before .before .before .before .limit .result) (c .before .before .before .before .before .before .before .before .before .load-u32 .result)) (c .before .before .before .before .before .before .before .before .before .before .before .before .args .s .now) _ keyWidth (c .before .before .before .before .before .key-formed .ensures) (c .before .before .before .before .if1 .left)), c .before .token-enters .ensures .1 (not-false _ (c .if2 .left))))
 
 returns-3 : tie.Need-returns-3 Inv-loop μ-loop
 unfolding keysFit keysFormed decHead
@@ -95,7 +95,7 @@ keys-fit-spec =
     part-key-formed-end
     key-formed-requires
     returns
-    enters-requires
+    token-enters-requires
     returns-2
     add-k
     loop-less

@@ -17,10 +17,10 @@ use Rattle.state.proofs.rows_fit.Statement.{statement}
 use Rattle.state.proofs.rows_fit.Tie as tie
 
 abbrev Inv-loop : tie.InvT-loop
-Inv-loop s masks nums seats seen₀ near₀ far₀ i₀ seen near far i = (i ≤ rowCount) × ((every (λ j. rowFormed (win s (rowsFrom + j * rowWidth) rowWidth)) i ≡ true) × ((every (joinOk s) i ≡ true) × Ready s i nums seen near far))
+Inv-loop s masks nums seats crowd₀ seen₀ near₀ far₀ i₀ crowd seen near far i = (i ≤ rowCount) × ((every (λ j. rowFormed (win s (rowsFrom + j * rowWidth) rowWidth)) i ≡ true) × ((every (joinOk s) i ≡ true) × Ready s i nums seen near far))
 
 abbrev μ-loop : tie.MeasureT-loop
-μ-loop s masks nums seats seen₀ near₀ far₀ i₀ seen near far i = rowCount - i
+μ-loop s masks nums seats crowd₀ seen₀ near₀ far₀ i₀ crowd seen near far i = rowCount - i
 
 loop-holds : tie.Need-loop-holds Inv-loop μ-loop
 loop-holds c = (search needs, (every-none _, (every-none _, ready-none (c .before .pre .1 .1))))
@@ -51,11 +51,11 @@ unfolding rowsFit rowsFormed
 returns c = let f : every (λ a. rowFormed (win (c .before .before .before .before .before .before .args .s .now) (rowsFrom + a * rowWidth) rowWidth)) rowCount ≡ false = every-fails _ rowCount (c .before .before .before .before .loop .i) (search needs) (record-failed rowFormed (c .before .before .before .before .before .before .args .s .now) _ rowWidth (c .before .row-formed .ensures) (c .if1 .taken)) in rw f
 
 join-requires : tie.Need-join-requires Inv-loop μ-loop
-join-requires c κs = (search needs, (search needs, (c .before .before .before .before .before .before .before .before .before .pre .1 .1 .seated .small, c .before .before .before .before .before .before .before .loop .inv .1 .1 .1)))
+join-requires c κs = (search needs, (search needs, (c .before .before .before .before .before .before .before .before .before .before .pre .1 .1 .seated .small, c .before .before .before .before .before .before .before .before .loop .inv .1 .1 .1)))
 
 returns-2 : tie.Need-returns-2 Inv-loop μ-loop
 unfolding rowsFit
-returns-2 c = let f : every (joinOk (c .before .before .before .before .before .before .before .before .before .before .before .args .s .now)) rowCount ≡ false = every-fails _ rowCount (c .before .before .before .before .before .before .before .before .before .loop .i) (search needs) (sym (c .before .join .ensures .is) ∙ not-true _ (c .if2 .taken)) in rw (f, and-false)
+returns-2 c = let f : every (joinOk (c .before .before .before .before .before .before .before .before .before .before .before .before .args .s .now)) rowCount ≡ false = every-fails _ rowCount (c .before .before .before .before .before .before .before .before .before .before .loop .i) (search needs) (sym (c .before .join .ensures .is) ∙ not-true _ (c .if2 .taken)) in rw (f, and-false)
 
 add-i : tie.Need-add-i Inv-loop μ-loop
 add-i c = search needs
@@ -64,7 +64,7 @@ loop-less : tie.Need-loop-less Inv-loop μ-loop
 loop-less c = search needs
 
 loop-again : tie.Need-loop-again Inv-loop μ-loop
-loop-again c = (search needs, (every-more _ _ (c .before .before .before .before .before .before .before .before .before .loop .inv .1 .0) (record-passed rowFormed (c .before .before .before .before .before .before .before .before .before .before .before .args .s .now) _ rowWidth (c .before .before .before .before .before .before .row-formed .ensures) (c .before .before .before .before .before .if1 .left)), (every-more _ _ (c .before .before .before .before .before .before .before .before .before .loop .inv .1 .1 .0) (sym (c .before .join .ensures .is) ∙ not-false _ (c .if2 .left)), c .before .join .ensures .next (not-false _ (c .if2 .left)))))
+loop-again c = (search needs, (every-more _ _ (c .before .before .before .before .before .before .before .before .before .before .loop .inv .1 .0) (record-passed rowFormed (c .before .before .before .before .before .before .before .before .before .before .before .before .args .s .now) _ rowWidth (c .before .before .before .before .before .before .before .row-formed .ensures) (c .before .before .before .before .before .before .if1 .left)), (every-more _ _ (c .before .before .before .before .before .before .before .before .before .before .loop .inv .1 .1 .0) (sym (c .before .join .ensures .is) ∙ not-false _ (c .if2 .left)), c .before .join .ensures .next (not-false _ (c .if2 .left)))))
 
 returns-3 : tie.Need-returns-3 Inv-loop μ-loop
 unfolding rowsFit rowsFormed

@@ -58,12 +58,12 @@ returns : tie.Need-returns Inv-loop μ-loop
 unfolding sessionsFit sessionsFormed decHead
 returns c = let f : every (λ a. sessionFormed (c .before .before .before .before .before .before .limit .result) (c .before .before .before .before .before .load-u32 .result) (win (c .before .before .before .before .before .before .before .before .args .s .now) (sessionsFrom + a * sessionWidth) sessionWidth)) sessionCount ≡ false = every-fails _ sessionCount (c .before .before .before .before .loop .j) (search needs) (record-failed (sessionFormed (c .before .before .before .before .before .before .limit .result) (c .before .before .before .before .before .load-u32 .result)) (c .before .before .before .before .before .before .before .before .args .s .now) _ sessionWidth (c .before .session-formed .ensures) (c .if1 .taken)) in (rw (← c .before .before .before .before .before .before .limit .ensures, ← c .before .before .before .before .before .load-u32 .ensures, f), λ o. clash false o refl)
 
-enters-requires : tie.Need-enters-requires Inv-loop μ-loop
-enters-requires c κs = (search needs, (search needs, c .before .before .before .before .before .before .loop .inv .1 .1))
+session-enters-requires : tie.Need-session-enters-requires Inv-loop μ-loop
+session-enters-requires c κs = (search needs, (search needs, c .before .before .before .before .before .before .loop .inv .1 .1))
 
 returns-2 : tie.Need-returns-2 Inv-loop μ-loop
 unfolding sessionsFit distinct
-returns-2 c = let f : distinct (numbers (c .before .before .before .before .before .before .before .before .before .before .before .before .args .s .now) sessionsFrom sessionWidth) sessionCount ≡ false = every-fails _ sessionCount (c .before .before .before .before .before .before .before .before .loop .j) (search needs) (sym (c .before .enters .ensures .0) ∙ not-true _ (c .if2 .taken)) in (rw (f, and-false), λ o. clash false o refl)
+returns-2 c = let f : distinct (numbers (c .before .before .before .before .before .before .before .before .before .before .before .before .args .s .now) sessionsFrom sessionWidth) sessionCount ≡ false = every-fails _ sessionCount (c .before .before .before .before .before .before .before .before .loop .j) (search needs) (sym (c .before .session-enters .ensures .0) ∙ not-true _ (c .if2 .taken)) in (rw (f, and-false), λ o. clash false o refl)
 
 add-j : tie.Need-add-j Inv-loop μ-loop
 add-j c = search needs
@@ -72,7 +72,7 @@ loop-less : tie.Need-loop-less Inv-loop μ-loop
 loop-less c = search needs
 
 loop-again : tie.Need-loop-again Inv-loop μ-loop
-loop-again c = (search needs, (every-more _ _ (c .before .before .before .before .before .before .before .before .loop .inv .1 .0) (record-passed (sessionFormed (c .before .before .before .before .before .before .before .before .before .before .limit .result) (c .before .before .before .before .before .before .before .before .before .load-u32 .result)) (c .before .before .before .before .before .before .before .before .before .before .before .before .args .s .now) _ sessionWidth (c .before .before .before .before .before .session-formed .ensures) (c .before .before .before .before .if1 .left)), c .before .enters .ensures .1 (not-false _ (c .if2 .left))))
+loop-again c = (search needs, (every-more _ _ (c .before .before .before .before .before .before .before .before .loop .inv .1 .0) (record-passed (sessionFormed (c .before .before .before .before .before .before .before .before .before .before .limit .result) (c .before .before .before .before .before .before .before .before .before .load-u32 .result)) (c .before .before .before .before .before .before .before .before .before .before .before .before .args .s .now) _ sessionWidth (c .before .before .before .before .before .session-formed .ensures) (c .before .before .before .before .if1 .left)), c .before .session-enters .ensures .1 (not-false _ (c .if2 .left))))
 
 returns-3 : tie.Need-returns-3 Inv-loop μ-loop
 unfolding sessionsFit sessionsFormed decHead
@@ -95,7 +95,7 @@ sessions-fit-spec =
     part-session-formed-end
     session-formed-requires
     returns
-    enters-requires
+    session-enters-requires
     returns-2
     add-j
     loop-less
