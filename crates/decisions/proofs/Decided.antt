@@ -1,12 +1,11 @@
 -- The code's table of numbers is the definition's table of words, entry by entry: the second is the first put through `verdictOf`.
-use mathlib.Core.Path.{_≡_, refl, sym, ap, _∙_}
+use mathlib.Core.Path.{_≡_, sym, ap, _∙_}
 use mathlib.Core.List.{List, [], _∷_, map}
-use Prim.Native.Nat.{ℕ, zero, suc, _<_}
-use native.Mathlib.Omega.{arith}
+use Prim.Native.Nat.{ℕ, _<_}
 use lib.Dec.{eqb}
 use lib.ListN.{length, getD, getD-replicate, List·getD-map}
 use Rattle.lent.specs.Tables.{if_then_else_}
-use Rattle.machine.specs.Decision.{decisions, decision}
+use Rattle.machine.specs.Decision.{decision}
 use Rattle.machine.specs.declared.Verdict.{Verdict}
 use Rattle.machine.specs.declared.Verdict.the-variants.{Grant, Void, BackOff, Abort}
 use Rattle.machine.proofs.Table.{getD-any}

@@ -1,15 +1,14 @@
 -- A step in the parts in which the code takes it: the clock's test, the command on a state on which nothing lapses, the clock.
 -- Where nothing lapses that is the whole step.
 use Prim.Native.Nat.{ℕ}
-use native.Mathlib.Omega.{arith}
-use mathlib.Core.Path.{_≡_, refl, sym, ap, _∙_}
+use mathlib.Core.Path.{_≡_, refl}
 use mathlib.Core.Bool.{Bool, true, false, _||_}
 use mathlib.Core.Option.{Option, none, some}
-use lib.Dec.{eqb, ltb}
+use lib.Dec.{ltb}
 use Rattle.lent.proofs.Choices.{clash}
 use Rattle.machine.specs.Sizes.{timeMax}
 use Rattle.machine.specs.Tables.{first}
-use Rattle.machine.specs.Words.{wordOf, wordsOf, CLOCK}
+use Rattle.machine.specs.Words.{CLOCK}
 use Rattle.machine.specs.State.{Value, State}
 use Rattle.machine.specs.Expiry.{withClock, expire}
 use Rattle.machine.specs.Refusals.{refusals, refusal}

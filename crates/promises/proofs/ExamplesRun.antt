@@ -7,9 +7,9 @@ use Prim.Native.Nat.{ℕ}
 use Rattle.lent.specs.Bytes.{Bytes}
 use Rattle.lent.specs.Tables.{every}
 use Rattle.lent.proofs.Choices.{and-yes}
-use Rattle.machine.specs.State.{State, fresh}
+use Rattle.machine.specs.State.{State}
 use Rattle.machine.specs.Sound.{valueSound}
-use Rattle.machine.specs.Examples.{Line, Told, after, answers, Example, answered, examples, told}
+use Rattle.machine.specs.Examples.{Line, after, answers, Example, answered, examples}
 use Rattle.machine.specs.declared.Answer.{Answer}
 use Rattle.machine.proofs.SoundMeans.{value-means}
 use Rattle.machine.proofs.Examples.{examples-hold}

@@ -8,7 +8,7 @@ use Rattle.machine.specs.declared.Answer.{Answer}
 use Rattle.startup.specs.Start.{Reply, startOf}
 use Rattle.show.specs.Show.{showOf}
 use Rattle.numbered.specs.Commands.{commandOf, ranBy}
-use Rattle.exported.specs.Told.{version, Said, Replied, stretchTold}
+use Rattle.exported.specs.Told.{version, Said, stretchTold}
 use Rattle.promises.specs.OneAnswer.{OneReply}
 use Rattle.promises.proofs.OneAnswer.{one-answer}
 

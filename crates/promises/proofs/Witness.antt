@@ -12,7 +12,7 @@ use Rattle.lent.specs.Bytes.{Bytes}
 use Rattle.lent.proofs.Choices.{and-yes}
 use Rattle.machine.specs.Sizes.{stateSize}
 use Rattle.machine.specs.State.{Value, State}
-use Rattle.machine.specs.World.{Event, command, write, World, freshWorld, AllKept, Consistent, AllBytes}
+use Rattle.machine.specs.World.{Event, command, write, freshWorld, AllKept, Consistent, AllBytes}
 use Rattle.machine.specs.Witness.{events}
 use Rattle.machine.specs.declared.Answer.{Answer}
 use Rattle.machine.proofs.Witness.{witness-kept}

@@ -1,2 +1,1 @@
 // The demands over the lent bytes: theorems alone, of the contracts of the cache and of START.
-ghost use mathlib.Core.Path.{_≡_};

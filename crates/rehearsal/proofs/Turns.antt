@@ -1,19 +1,18 @@
 -- A line by its cases, and its printing. A line that is not taken changes nothing; a HIT comes only from a cache of 65,536 bytes, so its value can be
 -- printed from them; and the text depends on a value only where the word is HIT.
-use Prim.Native.Nat.{ℕ, _+_, _-_, _≤_}
+use Prim.Native.Nat.{ℕ, _≤_}
 use mathlib.Core.Path.{_≡_, refl, sym, _∙_}
 use mathlib.Core.Bool.{Bool, true, false}
 use mathlib.Core.Logic.{_⊎_, inl, inr}
 use mathlib.Core.List.{List, []}
 use native.Mathlib.Omega.{arith}
 use lib.Dec.{eqb, leb}
-use lib.ListN.{length, take, drop}
+use lib.ListN.{length, take}
 use borrow.Author.Tests.{eqb-true, leb-true, eq-eqb}
 use Rattle.lent.specs.Bytes.{win, splice}
 use Rattle.lent.specs.Tables.{if_then_else_}
-use Rattle.lent.proofs.Choices.{and-yes}
+use Rattle.lent.proofs.Choices.{and-yes, case-of}
 use Rattle.lent.proofs.Splice.{win-splice}
-use Rattle.lent.proofs.Choices.{case-of, clash}
 use Rattle.machine.specs.Sizes.{stateSize, valueMax}
 use Rattle.machine.specs.Words.{wordOf, HIT}
 use Rattle.machine.specs.State.{Value}
@@ -189,11 +188,6 @@ text-is : (s : rules.Said) (at : ℕ) (r : Said) (x b b′ : List ℕ) → Says 
 text-is s at r x b b′ h =
     text-only (linesIn b′) (r .word) (r .detail) (handed r x) (s .value) (r .rule) (λ w. handed-hit r x w ∙ h .value w)
     ∙ rw (h .word, h .detail, h .rule) refl
-
--- a part of the cache's bytes, by its ends
-pub part-win : (x : List ℕ) (at d : ℕ) → take (at + d - at) (drop at x) ≡ win x at d
-unfolding win
-part-win x at d = let e : at + d - at ≡ d = omega arith in rw e refl
 
 -- the text stands at the front of what was lent
 pub prints : (r : Said) (x b o : List ℕ) (n m : ℕ) (b′ o′ v : List ℕ)

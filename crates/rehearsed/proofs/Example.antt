@@ -21,7 +21,7 @@ use Rattle.machine.specs.Refusals.{decide, blocked, sight, wouldLease, wouldGra
 use Rattle.machine.specs.Effects.{begins, wait, leased, missed, looked, fills, asks, operate, changed, stages, effect}
 use Rattle.machine.specs.Step.{settled, step}
 use Rattle.machine.specs.Examples.{says}
-use Rattle.machine.specs.World.{Event, command, write, freshWorld, commanded, written, run, AllKept}
+use Rattle.machine.specs.World.{Event, command, freshWorld, commanded, written, run, AllKept}
 use Rattle.machine.specs.Witness.{heard}
 use Rattle.machine.specs.declared.Answer.{Answer}
 use Rattle.machine.specs.declared.Command.the-variants.{Get, Done}

@@ -17,7 +17,6 @@ use Rattle.lent.proofs.Choices.{and-yes, if-ind}
 use Rattle.machine.specs.Sizes.{sessionCount}
 use Rattle.machine.specs.Words.{wordOf}
 use Rattle.machine.specs.State.{Value, sessionPlace}
-use Rattle.machine.specs.Sound.{lifetime}
 use Rattle.machine.specs.World.{Event, command, write, World, freshWorld, next, run, EventBytes}
 use Rattle.machine.specs.declared.Answer.{Answer}
 use Rattle.machine.specs.declared.Command.{Command}
@@ -25,8 +24,7 @@ use Rattle.machine.proofs.Orderly.{orderly-fresh}
 use Rattle.machine.proofs.Demand3.{demand-3-whole}
 use Rattle.layout.specs.Layout.{decode}
 use Rattle.layout.specs.WellFormed.{wellFormed}
-use Rattle.startup.specs.Start.{Reply, startOf}
-use Rattle.startup.proofs.Started.{started-size, started-read, started-write, started-ready}
+use Rattle.startup.specs.Start.{startOf}
 use Rattle.cache.specs.Run.{ran}
 use Rattle.numbered.specs.Commands.{commandOf}
 use Rattle.numbered.specs.declared.Numbered.{Numbered}

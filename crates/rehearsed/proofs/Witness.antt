@@ -22,8 +22,6 @@ use Rattle.machine.specs.World.{Event, command, write, freshWorld, commanded, w
 use Rattle.machine.specs.Test.{verdicts}
 use Rattle.machine.specs.Witness.{events}
 use Rattle.machine.specs.declared.Answer.{Answer}
-use Rattle.machine.specs.declared.Command.the-variants.{Begin, Get, Fill, Quar, Stage, Validate, Done, Undo}
-use Rattle.machine.proofs.Views.{and-true₁, and-true₂}
 use Rattle.machine.proofs.Witness.{events}
 use Rattle.startup.specs.Start.{Reply, startOf}
 use Rattle.startup.proofs.Started.{started-ready}

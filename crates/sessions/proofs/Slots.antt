@@ -1,18 +1,18 @@
 -- A place of the session table in the bytes: its fields where they stand, and its number, which tells a free place and a session apart since no
 -- session has the number 0. So a search of the bytes by a number is a search of the table.
-use mathlib.Core.Path.{_≡_, refl, sym, ap, _∙_}
-use mathlib.Core.Bool.{Bool, true, false}
+use mathlib.Core.Path.{_≡_, refl, sym, _∙_}
+use mathlib.Core.Bool.{Bool, false}
 use mathlib.Core.List.{List, [], _∷_, _++_}
 use Prim.Native.Nat.{ℕ, _+_, _*_, _≤_, _<_}
 use native.Mathlib.Omega.{arith}
-use lib.Dec.{eqb, ltb}
+use lib.Dec.{eqb}
 use lib.ListN.{length, getD, set}
-use borrow.Author.Tests.{le-ltb, ne-eqb}
+use borrow.Author.Tests.{ne-eqb}
 use Rattle.lent.specs.Bytes.{le16, bytes16, le32, bytes32, le64, bytes64, splice, win}
-use Rattle.lent.specs.Tables.{if_then_else_, first}
-use Rattle.lent.proofs.Splice.{length-splice, splice-next}
+use Rattle.lent.specs.Tables.{first}
+use Rattle.lent.proofs.Splice.{splice-next}
 use Rattle.lent.proofs.Walks.{first-cong}
-use Rattle.machine.specs.Sizes.{sessionCount, sessionsFrom, sessionWidth, stateSize}
+use Rattle.machine.specs.Sizes.{sessionCount, sessionsFrom, sessionWidth}
 use Rattle.machine.specs.Tables.{place}
 use Rattle.machine.specs.State.{Slot, noSession, session, State, free, numbered, sessionAt, sessionPlace}
 use Rattle.machine.specs.Sound.{numberIn}

@@ -6,7 +6,7 @@ ghost use lib.ListN.{length, set};
 ghost use Rattle.lent.specs.Bytes.{win};
 ghost use Rattle.machine.specs.Sizes.{stateSize, sessionCount, sessionWidth};
 ghost use Rattle.machine.specs.Tables.{place};
-ghost use Rattle.machine.specs.State.{State, noSession, session, free, numbered, sessionAt, sessionPlace};
+ghost use Rattle.machine.specs.State.{State, noSession, session, free, sessionAt, sessionPlace};
 ghost use Rattle.machine.specs.Expiry.{withSessions};
 ghost use Rattle.machine.specs.Sound.{numberIn};
 ghost use Rattle.layout.specs.Layout.{lifeMark, lifeTime, decLife};

@@ -7,7 +7,6 @@ use mathlib.Core.List.{List}
 use mathlib.Core.Option.{none, some}
 use native.Mathlib.Nat.{add-zero}
 use native.Mathlib.Omega.{arith}
-use lib.ListN.{getD}
 use lib.Dec.{eqb}
 use borrow.Author.Tests.{eqb-true}
 use Rattle.lent.specs.Bytes.{le32, le64, win}
@@ -16,7 +15,7 @@ use Rattle.lent.proofs.Numbers.{le32-win}
 use Rattle.lent.proofs.Splice.{getD-win}
 use Rattle.lent.proofs.Tables.{read-tab-at}
 use Rattle.machine.specs.Sizes.{keyCount, keysFrom, keyWidth, rowCount, rowsFrom, rowWidth, sessionCount, sessionsFrom, sessionWidth}
-use Rattle.machine.specs.State.{Key, Row, noRow, row, State, noSession, session, blank, keyOf, rowAt, sessionAt}
+use Rattle.machine.specs.State.{Key, Row, noRow, row, noSession, session, blank, keyOf, rowAt, sessionAt}
 use Rattle.machine.specs.Sound.{tokenIn, numberIn, numberAt, tokenAt}
 use Rattle.layout.specs.Layout.{decKey, decRow, decStaged, sessionFrom, decSession, decode}
 use Rattle.joins.specs.Joins.{numbers, rowSession, rowKey, rowKind}

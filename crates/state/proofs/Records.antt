@@ -1,28 +1,29 @@
 -- A record is formed exactly where its bytes are the encoding of what they decode to and that is sound. Each law goes field by field: the bytes
 -- of a number are those of the number that they say, so that only marks, lengths and zeros are left to be the same.
-use Prim.Native.Nat.{ℕ, _+_, _-_, _*_, _≤_, _<_, min}
-use mathlib.Core.Path.{_≡_, refl, sym, ap, ap₂, _∙_}
+use Prim.Native.Nat.{ℕ, _+_, _-_, _≤_, _<_}
+use mathlib.Core.Path.{_≡_, refl, sym, ap, _∙_}
 use mathlib.Core.Bool.{Bool, true, false, _&&_, and-true, and-false, and-assoc, and-comm}
 use mathlib.Core.List.{List, [], _∷_, _++_}
 use mathlib.Core.Option.{Option, none, some}
 use native.Mathlib.Omega.{arith}
 use lib.ListN.{length, getD, length-take, length-drop}
 use lib.Dec.{eqb, leb, ltb}
-use borrow.Author.Tests.{eq-eqb, ne-eqb, eqb-true, eqb-false, lt-ltb, le-leb, lt-leb, leb-true, leb-false}
+use borrow.Author.Tests.{eq-eqb, ne-eqb, eqb-true, eqb-false, lt-ltb, le-leb, leb-true, leb-false}
 use Rattle.lent.specs.Bytes.{Bytes, le16, bytes16, le32, bytes32, le64, bytes64, win, zeros}
 use Rattle.lent.specs.Tables.{if_then_else_, every, allZero, same}
 use Rattle.lent.proofs.Choices.{and-yes}
 use Rattle.lent.proofs.Equal.{same-refl, same-zeros, same-win, same-one, same-padded}
 use Rattle.lent.proofs.Numbers.{bytes-le16, bytes-le32, bytes-le64, zero-le16, zero-le32, zero-le64}
-use Rattle.lent.proofs.Splice.{length-win, getD-win, win-add, win-one, win-whole}
+use Rattle.lent.proofs.Splice.{length-win, getD-win, win-add, win-whole}
 use Rattle.lent.proofs.Walks.{all-every}
 use Rattle.lent.proofs.Zeros.{zero-append}
 use Rattle.machine.specs.Sizes.{stateSize, headSize, keyCount, keyWidth, rowWidth, sessionWidth, valueMax, stepMax, timeMax}
 use Rattle.machine.specs.Words.{isKind}
-use Rattle.machine.specs.State.{Value, Head, Lease, Slot, noSession, session, Staged, nothing, staged, DROP, Row, noRow, row}
+use Rattle.machine.specs.State.{Value, Head, Lease, noSession, session, nothing, staged, DROP, noRow, row}
 use Rattle.machine.specs.Sound.{headSound, valueSound, cachedSound, given, leaseSound, keySound, lifeSound, sessionSound, stagedSound, rowSound}
 use Rattle.machine.specs.declared.Life.{Life}
-use Rattle.layout.specs.Layout.{padded, encHead, decHead, valueMark, valueBytes, leaseBytes, encKey, decValue, decLease, decKey, stagedBytes, encRow, decStaged, decRow, lifeMark, lifeTime, sessionBytes, encSession, decLife, sessionFrom, decSession}
+use Rattle.layout.proofs.Widths.{length-mark, length-lease}
+use Rattle.layout.specs.Layout.{padded, encHead, decHead, valueMark, valueBytes, leaseBytes, encKey, decValue, decLease, decKey, stagedBytes, encRow, decStaged, decRow, lifeMark, lifeTime, encSession, decLife, sessionFrom, decSession}
 use Rattle.state.specs.Forms.{headFormed, fitted, valueFormed, leaseFormed, keyFormed, stagedFormed, rowFormed, lifeFormed, sessionFormed, readLimit, writeLimit}
 
 -- the clock of a header that is formed leaves room for a lifetime
@@ -157,14 +158,6 @@ module _ (x : List ℕ) (f : Bytes x) where
     unfolding encKey decKey keySound keyFormed
     key-law hd = go (decValue x) (decLease x) value-law (lease-law hd)
       where
-        mark-long : (o : Option Value) → length (valueMark o) ≡ 4
-        mark-long none = refl
-        mark-long (some v) = refl
-
-        lease-long : (o : Option Lease) → length (leaseBytes o) ≡ 12
-        lease-long none = refl
-        lease-long (some l) = refl
-
         mix : (m l v p q : Bool) → (m && (l && v)) && (p && q) ≡ ((m && v) && p) && (l && q)
         mix m true v p q = sym (and-assoc (m && v) p q)
         mix m false v p q = rw (and-false m, and-false ((m && v) && p))
@@ -173,7 +166,7 @@ module _ (x : List ℕ) (f : Bytes x) where
             → same (win x 4 12) (leaseBytes l) && leaseSound hd l ≡ leaseFormed (readLimit hd) (hd .nextToken) x
             → same x (valueMark o ++ (leaseBytes l ++ valueBytes o)) && (cachedSound o && leaseSound hd l) ≡ valueFormed x && leaseFormed (readLimit hd) (hd .nextToken) x
         go o l p q =
-            rw (whole keyWidth (valueMark o ++ (leaseBytes l ++ valueBytes o)) h, same-win x 0 4 76 (valueMark o) (leaseBytes l ++ valueBytes o) (mark-long o) (omega arith), same-win x 4 12 64 (leaseBytes l) (valueBytes o) (lease-long l) (omega arith), ← p, ← q)
+            rw (whole keyWidth (valueMark o ++ (leaseBytes l ++ valueBytes o)) h, same-win x 0 4 76 (valueMark o) (leaseBytes l ++ valueBytes o) (length-mark o) (omega arith), same-win x 4 12 64 (leaseBytes l) (valueBytes o) (length-lease l) (omega arith), ← p, ← q)
             (mix (same (win x 0 4) (valueMark o)) (same (win x 4 12) (leaseBytes l)) (same (win x 16 valueMax) (valueBytes o)) (cachedSound o) (leaseSound hd l))
 
   -- ---- a session

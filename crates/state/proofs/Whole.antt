@@ -1,13 +1,12 @@
 -- The tests of the bytes, all together, are the definition of well formed: the encoding is compared table by table and record by record, `sound`
 -- goes by the same records, and each record's two conditions are its form.
-use Prim.Native.Nat.{ℕ, _+_, _*_, _≤_, _<_}
+use Prim.Native.Nat.{ℕ, _+_, _*_}
 use mathlib.Core.Path.{_≡_, refl, sym, ap, _∙_}
 use mathlib.Core.Bool.{Bool, true, false, _&&_, and-assoc}
 use mathlib.Core.List.{List, _++_}
 use native.Mathlib.Omega.{arith}
 use lib.ListN.{length, take, drop, length-drop}
 use lib.Seq.{take-all}
-use lib.Dec.{eqb}
 use borrow.Author.Tests.{eq-eqb, ne-eqb}
 use Rattle.lent.specs.Bytes.{Bytes, win, zeros}
 use Rattle.lent.specs.Tables.{every, allZero, same, tabOf, readTab}

@@ -1,5 +1,5 @@
 -- A record that is read from w bytes is written in w bytes: a value that is read has no more bytes than are left of the record behind its place.
-use Prim.Native.Nat.{ℕ, _-_, _≤_, min}
+use Prim.Native.Nat.{ℕ, _-_, _≤_}
 use mathlib.Core.Path.{_≡_, refl}
 use mathlib.Core.Bool.{Bool, true, false}
 use mathlib.Core.List.{List, _++_}

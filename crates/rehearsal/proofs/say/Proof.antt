@@ -1,5 +1,6 @@
 -- The line is counted, and its text printed; only a HIT needs the bytes of the cache.
-use Rattle.rehearsal.proofs.Turns.{part-win, prints}
+use Rattle.lent.proofs.Splice.{part-win}
+use Rattle.rehearsal.proofs.Turns.{prints}
 use lib.ListN.{length-take}
 use native.Mathlib.Omega.{arith}
 use borrow.Author.Needs.{needs}

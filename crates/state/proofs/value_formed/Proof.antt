@@ -1,6 +1,5 @@
 -- By the three returns, each a law of `Values`.
 use mathlib.Core.Path.{sym, _∙_}
-use Prim.Native.Nat.{_-_}
 use native.Mathlib.Omega.{arith}
 use borrow.Author.Needs.{needs}
 use Rattle.state.proofs.Values.{value-mark, value-long, value-fits}
