@@ -158,5 +158,7 @@ pub fn end(book: &[u8], out: &mut [u8]) -> usize
     if !lent_right(book, out) {
         return 0;
     }
-    replies::end(out, book::lines(book), book::broken(book))
+    let lines = book::lines(book);
+    let broken = book::broken(book);
+    replies::end(out, lines, broken)
 }
