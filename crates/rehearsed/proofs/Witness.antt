@@ -22,7 +22,6 @@ use Rattle.machine.specs.World.{Event, command, write, freshWorld, commanded, w
 use Rattle.machine.specs.Test.{verdicts}
 use Rattle.machine.specs.Witness.{events}
 use Rattle.machine.specs.declared.Answer.{Answer}
-use Rattle.machine.proofs.Witness.{events}
 use Rattle.startup.specs.Start.{Reply, startOf}
 use Rattle.startup.proofs.Started.{started-ready}
 use Rattle.book.specs.Book.{bookSize}

@@ -2,6 +2,7 @@
 use mathlib.Core.Path.{sym, _∙_}
 use Prim.Native.Nat.{_+_, _*_}
 use native.Mathlib.Omega.{arith}
+use Rattle.machine.specs.Sizes.{sessionsFrom, sessionWidth}
 use Rattle.layout.proofs.Held.{session-is}
 use Rattle.sessions.proofs.Slots.{session-loaded}
 use borrow.Author.Needs.{needs}
@@ -27,7 +28,7 @@ load-u16-requires : tie.Need-load-u16-requires
 load-u16-requires c κs = search needs
 
 returns : tie.Need-returns
-returns c = λ σ h. rw (c .before .before .load-u32 .ensures, c .before .load-life .ensures, c .load-u16 .ensures .0) (sym (session-loaded (c .before .before .before .before .args .s .now) (48192 + c .before .before .before .before .args .i * 16)) ∙ session-is h (c .before .before .before .before .args .i) (omega arith))
+returns c = λ σ h. rw (c .before .before .load-u32 .ensures, c .before .load-life .ensures, c .load-u16 .ensures .0) (sym (session-loaded (c .before .before .before .before .args .s .now) (sessionsFrom + c .before .before .before .before .args .i * sessionWidth)) ∙ session-is h (c .before .before .before .before .args .i) (omega arith))
 
 pub load-spec : {M : Type 1} → statement M
 load-spec =
