@@ -74,6 +74,14 @@ pub const SESSION_COUNT: usize = 128;
 
 pub const SESSION_LIFE: usize = 4;
 
+// The marks of a session's life.
+pub const OPEN: u8 = 1;
+
+pub const SEALED: u8 = 2;
+
+// The byte behind the mark of a session's life, which is 0.
+pub const SESSION_UNUSED: usize = 5;
+
 pub const SESSION_STEPS: usize = 6;
 
 pub const SESSION_UNTIL: usize = 8;

@@ -21,8 +21,8 @@ fn mark_of(l: Life) -> u8
     ensures { λ r. ⌜ r ≡ lifeMark l ⌝ }
 {
     match l {
-        Life::Open(_) => 1,
-        Life::Sealed => 2,
+        Life::Open(_) => layout::OPEN,
+        Life::Sealed => layout::SEALED,
     }
 }
 
@@ -39,7 +39,7 @@ fn load_life(s: &[u8], at: usize) -> Life
     requires { ⌜ at + sessionWidth ≤ length (now s) ⌝ }
     ensures { λ r. ⌜ r ≡ decLife (win (now (s .entry)) at sessionWidth) ⌝ }
 {
-    if s[at + layout::SESSION_LIFE] == 2 {
+    if s[at + layout::SESSION_LIFE] == layout::SEALED {
         return Life::Sealed;
     }
     Life::Open(lent::load_u64(s, at + layout::SESSION_UNTIL))

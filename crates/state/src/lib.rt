@@ -25,11 +25,9 @@ const REST_SIZE: usize = layout::STATE_SIZE - REST_FROM;
 // Twice the length of a value.
 const MASKS: usize = layout::VALUE_MAX + layout::VALUE_MAX;
 
-const TIME_MAX: u64 = 281474976710655;
+const LIFE_MAX: u32 = machine::LIFE_MAX as u32;
 
-const LIFE_MAX: u32 = 600000;
-
-const STEP_MAX: u32 = 1000;
+const STEP_MAX: u32 = machine::STEP_MAX as u32;
 
 fn lifetime_at(s: &[u8], at: usize) -> bool
     requires { ⌜ at + 4 ≤ length (now s) ⌝ }
@@ -46,7 +44,7 @@ fn head_formed(s: &[u8]) -> bool
     requires { ⌜ length (now s) ≡ stateSize ⌝ }
     ensures { λ r. ⌜ r ≡ headFormed (now (s .entry)) ⌝ }
 {
-    if TIME_MAX < lent::load_u64(s, layout::CLOCK) {
+    if machine::TIME_MAX < lent::load_u64(s, layout::CLOCK) {
         return false;
     }
     if !lifetime_at(s, layout::READ_LIFE) {
@@ -155,8 +153,8 @@ fn is_plain(r: &[u8]) -> bool
 fn is_marked(mark: u8, kind: u8) -> bool
     ensures { λ b. ⌜ b ≡ (if eqb mark 2 then eqb kind 3 else eqb mark 0) ⌝ }
 {
-    if mark == 2 {
-        return kind == 3;
+    if mark == layout::DROPPED {
+        return kind == machine::INCREMENTAL;
     }
     mark == 0
 }
@@ -166,8 +164,8 @@ fn staged_formed(r: &[u8], kind: u8, masks: &[u8; MASKS]) -> bool
     ensures { λ b. ⌜ b ≡ stagedFormed kind (now (r .entry)) ⌝ }
 {
     let mark = r[layout::ROW_STAGED];
-    if mark == 1 {
-        if kind < 2 {
+    if mark == layout::VALUED {
+        if kind < machine::REFRESH {
             return false;
         }
         return is_fitted(
@@ -191,10 +189,10 @@ fn row_formed(r: &[u8], masks: &[u8; MASKS]) -> bool
         return blocks::is_zero(r, 0, layout::ROW_WIDTH);
     }
     let kind = r[layout::ROW_KIND];
-    if kind < 1 {
+    if kind < machine::INVALIDATE {
         return false;
     }
-    if 3 < kind {
+    if machine::INCREMENTAL < kind {
         return false;
     }
     staged_formed(r, kind, masks)
@@ -205,10 +203,10 @@ fn life_formed(r: &[u8], limit: u64) -> bool
     ensures { λ b. ⌜ b ≡ lifeFormed limit (now (r .entry)) ⌝ }
 {
     let until = lent::load_u64(r, layout::SESSION_UNTIL);
-    if r[layout::SESSION_LIFE] == 2 {
+    if r[layout::SESSION_LIFE] == layout::SEALED {
         return until == 0;
     }
-    if r[layout::SESSION_LIFE] != 1 {
+    if r[layout::SESSION_LIFE] != layout::OPEN {
         return false;
     }
     until <= limit
@@ -228,7 +226,7 @@ fn session_formed(r: &[u8], limit: u64, next: u32) -> bool
     if next <= number {
         return false;
     }
-    if r[5] != 0 {
+    if r[layout::SESSION_UNUSED] != 0 {
         return false;
     }
     if STEP_MAX < lent::load_u16(r, layout::SESSION_STEPS) {
