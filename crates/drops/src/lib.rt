@@ -46,7 +46,7 @@ pub fn cache_staged(s: &mut [u8], k: usize, i: usize)
     requires { ⌜ (length (now s) ≡ stateSize) × ((k < keyCount) × (i < rowCount)) ⌝ }
     ensures { λ _. ⌜ ((σ : State) → Holds (now (s .entry)) σ → Holds (now (s .exit)) (withKeys σ (setValue (σ .keys) k (toCache (stagedIn (rowAt σ i)))))) ⌝ }
 {
-    if rows::mark(s, i) != 1 {
+    if rows::mark(s, i) != layout::VALUED {
         drop_value(s, k);
         return;
     }

@@ -16,7 +16,7 @@ pub fn has_value(s: &[u8], k: usize) -> bool
     requires { ⌜ (length (now s) ≡ stateSize) × (k < keyCount) ⌝ }
     ensures { λ r. ⌜ ((σ : State) → Holds (now (s .entry)) σ → r ≡ not (isNone (cached σ k))) ⌝ }
 {
-    s[layout::KEYS_FROM + k * layout::KEY_WIDTH] == 1
+    s[layout::KEYS_FROM + k * layout::KEY_WIDTH] == layout::VALUED
 }
 
 // The length of a key's value, 0 where it is absent.

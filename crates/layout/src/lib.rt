@@ -60,7 +60,7 @@ pub const ROW_LENGTH: usize = 7;
 
 pub const ROW_VALUE: usize = 8;
 
-// The marks of a row: a value is staged, or DROP.
+// The marks of a value that is there, cached or staged, and of DROP.
 pub const VALUED: u8 = 1;
 
 pub const DROPPED: u8 = 2;

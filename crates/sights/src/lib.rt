@@ -37,16 +37,16 @@ pub fn row_sight(s: &[u8], i: usize, k: usize) -> Sight
     ensures { λ r. ⌜ ((σ : State) → Holds (now (s .entry)) σ → r ≡ placed (rowSight i k (rowAt σ i) (cached σ k))) × Inside r ⌝ }
 {
     let mark = rows::mark(s, i);
-    if mark == 1 {
+    if mark == layout::VALUED {
         return Sight::At {
             at: layout::ROWS_FROM + i * layout::ROW_WIDTH + layout::ROW_VALUE,
             length: rows::staged_length(s, i),
         };
     }
-    if mark == 2 {
+    if mark == layout::DROPPED {
         return Sight::Nothing;
     }
-    if rows::kind(s, i) == 1 {
+    if rows::kind(s, i) == machine::INVALIDATE {
         return Sight::Nothing;
     }
     cached_sight(s, k)
