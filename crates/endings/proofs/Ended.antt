@@ -1,5 +1,5 @@
--- The loop over the rows is a pass that hands the keys along. The rows and keys after the last are those of `finish` and of `leave`, which
--- settle the keys along the rows in the same order.
+-- The loop over the rows is a pass that hands the keys along. The rows and keys after the last are those of `endRows`, which
+-- settles the keys along the rows in the same order.
 use mathlib.Core.Path.{_≡_, refl, sym, _∙_}
 use mathlib.Core.List.{List, [], _∷_}
 use Prim.Native.Nat.{ℕ}

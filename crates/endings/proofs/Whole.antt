@@ -1,5 +1,5 @@
--- The rows of a session end with their keys and its place is freed: that is the machine's own change, since its number is one place of a sound
--- state.
+-- The rows of a session end with their keys and its place is freed: that is the machine's own change, since only one place of a sound
+-- state has its number.
 use mathlib.Core.Path.{_≡_}
 use mathlib.Core.Bool.{true}
 use mathlib.Core.List.{[], _∷_}

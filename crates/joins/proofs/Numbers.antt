@@ -1,4 +1,5 @@
--- Numbers side by side, and which of them are new.
+-- Numbers side by side, and which of them are new: a number is new if it is 0 or none before it is the same, and all are distinct if each
+-- is new in its turn.
 use mathlib.Core.Path.{_≡_, refl, sym, ap, _∙_}
 use mathlib.Core.Bool.{Bool, true, false, not}
 use mathlib.Core.Logic.{_⊎_, ⊎-elim, inl, inr}

@@ -1,4 +1,4 @@
--- Loops and runs of stores that write a stretch: each store writes the next byte behind those that are written.
+-- Loops and runs of stores that write a stretch: each store writes the next byte behind those that are written, or, going down, before them.
 use mathlib.Core.Path.{_≡_, refl, _∙_}
 use mathlib.Core.List.{List, [], _∷_, _++_}
 use Prim.Native.Nat.{ℕ, suc, _+_, _-_, _≤_, _<_}

@@ -1,5 +1,6 @@
 -- The shape of the tables that every command keeps, under no rule of the clients: tokens and session numbers were given,
--- session numbers differ, no row is on a leased key, and only invalidations share a key.
+-- session numbers differ, no row is on a leased key, only invalidations share a key, a row has one of the three kinds, and one that
+-- invalidates stages nothing.
 -- Each law reads every entry of the new tables back to the one that stood at its place before.
 use mathlib.Core.Path.{_≡_, refl, sym, ap, _∙_}
 use mathlib.Core.Bool.{true, false}

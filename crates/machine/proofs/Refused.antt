@@ -1,4 +1,4 @@
--- Refusals: a refused command keeps nothing, a number is given exactly when its test is the first that holds, and the numbers
+-- Refusals: a refused command changes nothing, not even the clock, a number is given exactly when its test is the first that holds, and the numbers
 -- stand in the order of the document's table. An accepted command is answered with one of its own words, so no effect looks like a refusal.
 use mathlib.Core.Path.{_≡_, refl, ap, _∙_}
 use mathlib.Core.Bool.{Bool, true, false}

@@ -1,5 +1,5 @@
 -- Each command keeps the shape of the tables, under no rule of the clients: an accepted one by the law of its change and what
--- its tests say, a refused one since it changes nothing. So do a register write and a run.
+-- its tests say, a refused one since it changes nothing. So does a register write.
 use mathlib.Core.Path.{_≡_, refl, sym, _∙_}
 use mathlib.Core.Bool.{false, not}
 use mathlib.Core.List.{[], _∷_}

@@ -20,7 +20,7 @@ use Rattle.startup.proofs.Sound.{ready-formed, ready-decodes}
 use Rattle.promises.specs.Told.{afterBytes, answersBytes, toldBytes}
 use Rattle.promises.proofs.Ran.{ran-formed, formed-kept, decode-ran}
 
--- each value is one: at most 64 bytes
+-- each value is sound: at most 64 bytes
 valued : List Line → Bool
 valued [] = true
 valued (x ∷ l) = valueSound (x .value) && valued l

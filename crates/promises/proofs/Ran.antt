@@ -1,6 +1,6 @@
 -- Demands 1 and 2 over the lent bytes: on a buffer that is not well formed nothing happens, and a well-formed one is the encoding of a sound
 -- state. A refused command keeps that state, so its encoding is the same bytes; every command leaves a sound state, so its encoding is well formed
--- and says that state.
+-- and says that state. START is READY, or refuses and leaves the bytes.
 use mathlib.Core.Path.{_≡_, refl, sym, ap, _∙_}
 use mathlib.Core.Bool.{true, false}
 use mathlib.Core.Logic.{_⊎_, inl, inr}

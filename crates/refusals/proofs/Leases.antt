@@ -1,5 +1,6 @@
 -- LEASE is answered, whoever asks, where no row and no I lease is on the key and it has no value. After expiry that is: no row on the key
 -- stays, its I lease has lapsed or it has none, and it has no value or a row on it goes, since with the row the value is dropped.
+-- At the end, what the code reads of a lease and of a row.
 use mathlib.Core.Path.{_≡_, refl, sym, ap, ap₂, _∙_}
 use mathlib.Core.Bool.{Bool, true, false, not, _&&_, _||_, and-false, and-true}
 use mathlib.Core.List.{List, [], _∷_, map}

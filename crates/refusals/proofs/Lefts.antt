@@ -1,5 +1,6 @@
 -- Who is left of a number after expiry, told by what the search for the number finds before it; and what that one finds who stages:
--- whoever is left has the record and the rows that he had, so his refusals are those on the state as it is.
+-- whoever is left has the record and the rows that he had, so his refusals are those on the state as it is,
+-- those of VALIDATE too.
 use mathlib.Core.Path.{_≡_, refl, sym, ap, _∙_}
 use mathlib.Core.Bool.{Bool, true, false, not, _&&_}
 use mathlib.Core.Logic.{_⊎_, inl, inr}

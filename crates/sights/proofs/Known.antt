@@ -1,4 +1,4 @@
--- A session other than 0 is live where a place has its number, and nobody has the number 0.
+-- A number other than 0 is live where a place has it; 0 is asked by anyone, and known.
 use mathlib.Core.Path.{_≡_}
 use mathlib.Core.Bool.{true, false, not, _&&_}
 use Prim.Native.Nat.{ℕ}

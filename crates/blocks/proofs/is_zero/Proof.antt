@@ -1,4 +1,4 @@
--- `is_zero` joins the bytes by `|`: after i turns that is 0 if the first i bytes are.
+-- `is_zero` joins the bytes by `|`: after i turns that is 0 exactly if the first i bytes are.
 use Prim.Native.Nat.{_-_, _≤_}
 use mathlib.Core.Path.{_≡_, refl}
 use native.Mathlib.Omega.{arith}

@@ -1,4 +1,4 @@
--- `same` joins the differences of the bytes by `|`: after i turns that is 0 if the first i bytes agree.
+-- `same` joins the differences of the bytes by `|`: after i turns that is 0 exactly if the first i bytes agree.
 use Prim.Native.Nat.{_-_, _≤_}
 use mathlib.Core.Path.{_≡_, refl, sym, _∙_}
 use native.Mathlib.Omega.{arith}

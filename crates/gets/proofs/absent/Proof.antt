@@ -1,4 +1,4 @@
--- The token of a sound state is not 0, so one that is outside the range is the last.
+-- A blocked key is BACKOFF. The next token of a sound state is not 0, so outside the range there is none left to give (NUMBERS); else it is given.
 use mathlib.Core.Path.{refl, sym, ap, _∙_}
 use native.Mathlib.Omega.{arith}
 use Rattle.machine.specs.declared.Answer.{Answer}

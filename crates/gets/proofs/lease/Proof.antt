@@ -1,4 +1,4 @@
--- The lease is written first, then the number behind it.
+-- The lease with the token, and the next token after it, are what `leased` sets.
 use Rattle.gets.proofs.Got.{lease-gives}
 use borrow.Author.Needs.{needs}
 use Rattle.gets.proofs.lease.Statement.{statement}

@@ -1,4 +1,4 @@
--- What the lookup sees decides.
+-- A cached value is the HIT; without one the key is absent.
 use mathlib.Core.Path.{sym, _∙_}
 use Rattle.gets.proofs.Got.{others-hit, others-absent}
 use borrow.Author.Needs.{needs}

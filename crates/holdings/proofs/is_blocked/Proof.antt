@@ -1,4 +1,4 @@
--- The table's entry for what is held, against I.
+-- The key is blocked unless the decision table grants I against what is held on it.
 use mathlib.Core.Path.{_∙_}
 use Rattle.machine.specs.Refusals.{decide, blocked}
 use borrow.Author.Needs.{needs}

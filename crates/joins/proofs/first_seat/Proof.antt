@@ -1,4 +1,4 @@
--- As it is defined.
+-- A remainder by the number of seats is below it.
 use mathlib.Core.Path.{refl}
 use native.Mathlib.Omega.{arith}
 use borrow.Author.Needs.{needs}

@@ -1,4 +1,4 @@
--- By the five returns, each a law of `Joins`.
+-- A free row passes; a leased key and a session that is not there fail; else the kinds seen and the marks decide. Each return is a law of `Joins`.
 use Prim.Native.Nat.{ℕ, _+_}
 use mathlib.Core.Path.{sym, ap, _∙_}
 use Rattle.joins.proofs.Joins.{join-free, join-leased, join-dead, place-low, join-shared}

@@ -1,4 +1,4 @@
--- As it is defined.
+-- The ten high bits are a remainder by the number of seats, which is below it.
 use mathlib.Core.Path.{refl}
 use native.Mathlib.Omega.{arith}
 use borrow.Author.Needs.{needs}

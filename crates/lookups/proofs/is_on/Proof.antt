@@ -1,4 +1,4 @@
--- Each test of the code is one of the definition.
+-- A row is on a key exactly if its session is not 0 and its key is that one, which is what the code tests.
 use Rattle.lookups.specs.Test.{rowTest}
 use borrow.Author.Tests.{eq-eqb, ne-eqb}
 use borrow.Author.Needs.{needs}

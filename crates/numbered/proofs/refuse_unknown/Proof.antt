@@ -1,4 +1,4 @@
--- The tests stand in the order of the definition.
+-- STATE, CLOCK twice, then ARG, on the state that well-formed bytes hold.
 use mathlib.Core.Path.{sym, _∙_}
 use borrow.Author.Tests.{not-true, not-false, lt-ltb, le-ltb}
 use Rattle.layout.specs.Layout.{decode}

@@ -1,4 +1,4 @@
--- A full table is refused (`begin-full`); else the session opens in the place that the search found.
+-- A full table is refused (`begin-full`); else `open` answers, in the place that the search found.
 use mathlib.Core.Path.{sym, _∙_}
 use Rattle.outcome.proofs.Told.{gives}
 use Rattle.machine.specs.Sizes.{sessionCount}

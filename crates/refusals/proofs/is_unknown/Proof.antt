@@ -1,4 +1,4 @@
--- 0 is nobody's number; any other is unknown where nobody is left.
+-- 0 asks for no session and is never unknown; any other number is unknown where nobody is left of it.
 use mathlib.Core.Path.{sym, _∙_}
 use borrow.Author.Tests.{eq-eqb, ne-eqb}
 use Rattle.machine.specs.State.{sessionOf}

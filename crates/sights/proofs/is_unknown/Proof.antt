@@ -1,4 +1,4 @@
--- 0 is nobody's number; any other is live where a place has it.
+-- 0 asks for no session and is never unknown; any other number is live where a place has it.
 use mathlib.Core.Path.{sym, _∙_}
 use Rattle.sights.proofs.Known.{known-zero, known-live, unknown-missing}
 use borrow.Author.Needs.{needs}

@@ -1,4 +1,4 @@
--- The two pieces make up what is staged.
+-- Mark with length, and the value with zeros behind it, make up a staged value.
 use Rattle.stagings.proofs.Written.{value-staged}
 use borrow.Author.Needs.{needs}
 use Rattle.stagings.proofs.stage.Statement.{statement}

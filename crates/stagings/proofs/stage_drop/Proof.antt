@@ -1,4 +1,4 @@
--- The two pieces make up what is staged.
+-- The mark of DROP and 64 zeros make up a staged DROP.
 use Rattle.stagings.proofs.Written.{drop-staged}
 use borrow.Author.Needs.{needs}
 use Rattle.stagings.proofs.stage_drop.Statement.{statement}

@@ -1,4 +1,4 @@
--- By the mark.
+-- DROP has its own mark and asks for kind 3; any other mark has to be 0.
 use native.Mathlib.Omega.{arith}
 use borrow.Author.Tests.{eq-eqb, ne-eqb}
 use Rattle.state.proofs.is_marked.Statement.{statement}

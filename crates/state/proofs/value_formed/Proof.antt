@@ -1,4 +1,4 @@
--- By the three returns, each a law of `Values`.
+-- A mark over 1 (`value-mark`) and a length over what the mark allows (`value-long`) fail; else only the bytes behind count (`value-fits`).
 use mathlib.Core.Path.{sym, _∙_}
 use native.Mathlib.Omega.{arith}
 use borrow.Author.Needs.{needs}

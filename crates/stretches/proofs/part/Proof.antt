@@ -1,4 +1,4 @@
--- As in SHOW's answer; what is not a value is the empty stretch at the first byte.
+-- Each refusal, and nothing seen, is the empty stretch at the first byte; else the place and the length of what is seen.
 use mathlib.Core.Path.{sym, _∙_}
 use native.Mathlib.Omega.{arith}
 use Rattle.stretches.proofs.Shown.{shown-key, shown-unknown, shown-none, shown-at}

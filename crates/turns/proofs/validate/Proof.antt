@@ -1,4 +1,4 @@
--- An n over 1,000 is refused (`validate-far`); then the search finds the session or nothing (`validate-none`).
+-- An n over `stepMax` is refused (`validate-far`); then the search finds the session or nothing (`validate-none`).
 use mathlib.Core.Path.{sym, _∙_}
 use Rattle.outcome.proofs.Told.{gives}
 use Rattle.machine.specs.Sizes.{sessionCount}

@@ -1,4 +1,4 @@
--- Both open: the larger of the two deadlines.
+-- Sealed if one of the two is; both open: the larger of the two deadlines.
 use mathlib.Core.Path.{_≡_, sym, ap}
 use native.Mathlib.Omega.{arith}
 use mathlib.Core.Option.{some}

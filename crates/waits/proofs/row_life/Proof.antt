@@ -1,4 +1,4 @@
--- Each return is one case of what a row adds.
+-- A free row and one on another key add nothing; one on the key adds the life of its session, if the search finds it.
 use mathlib.Core.Path.{sym, ap, _∙_}
 use native.Mathlib.Omega.{arith}
 use Prim.Native.Nat.{_<_}

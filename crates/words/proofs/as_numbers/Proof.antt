@@ -1,4 +1,4 @@
--- The three numbers under their names.
+-- `listed` has the three numbers in their order; each is taken by its place.
 use borrow.Author.Needs.{needs}
 use Rattle.words.proofs.as_numbers.Statement.{statement}
 use Rattle.words.proofs.as_numbers.Tie as tie
