@@ -6,11 +6,10 @@ use mathlib.Core.List.{List, _∷_}
 use mathlib.Core.Logic.{_⊎_, inl, inr}
 use mathlib.Core.Option.{Option, some}
 use Prim.Native.Nat.{ℕ}
-use native.Mathlib.Omega.{arith}
 use lib.ListN.{length}
 use borrow.Author.Tests.{eqb-true}
 use Rattle.lent.specs.Tables.{if_then_else_}
-use Rattle.lent.proofs.Choices.{clash}
+use Rattle.lent.proofs.Choices.{clash, zero-one}
 use Rattle.machine.specs.Sizes.{sessionCount}
 use Rattle.machine.specs.Tables.{first}
 use Rattle.machine.specs.Session.{isSealed}
@@ -76,12 +75,12 @@ module _ (s : State) (n : ℕ) where
   asks i x e = go (sessionOf s n) refl (find-test (numbered n) noSession (s .sessions)) e
     where
       go : (y : Slot) → sessionOf s n ≡ y → (y ≡ noSession) ⊎ (numbered n y ≡ true) → askerAt (sessionPlace s n) y ≡ Asker.Open i x → Asks s n i x
-      go noSession f p q = absurd (let z : _≡_ {A = ℕ} 0 1 = cc in omega arith)
-      go (session y) f (inl p) q = absurd (let z : _≡_ {A = ℕ} 0 1 = cc in omega arith)
+      go noSession f p q = zero-one cc
+      go (session y) f (inl p) q = zero-one cc
       go (session y) f (inr p) q = go′ (isSealed y) refl q
         where
           go′ : (t : Bool) → isSealed y ≡ t → (if t then Asker.Refused SEALED else Asker.Open (sessionPlace s n) y) ≡ Asker.Open i x → Asks s n i x
-          go′ true g r = absurd (let z : _≡_ {A = ℕ} 0 1 = cc in omega arith)
+          go′ true g r = zero-one cc
           go′ false g r =
               let a : sessionPlace s n ≡ i = cc in
               let b : y ≡ x = cc in

@@ -5,9 +5,9 @@ use mathlib.Core.Bool.{true, false, or-true}
 use mathlib.Core.List.{List}
 use mathlib.Core.Option.{Option, none, some}
 use Prim.Native.Nat.{ℕ, _≤_, _<_}
-use native.Mathlib.Omega.{arith}
 use lib.Dec.{ltb}
 use borrow.Author.Tests.{lt-ltb, le-ltb}
+use Rattle.lent.proofs.Choices.{zero-one}
 use Rattle.machine.specs.Sizes.{timeMax}
 use Rattle.machine.specs.Words.{STATE, CLOCK}
 use Rattle.machine.specs.State.{Value, State}
@@ -28,12 +28,12 @@ use Rattle.refusals.specs.declared.Refusal.{Refusal}
 use Rattle.cache.specs.Run.{ran}
 
 is-refused : {e : ℕ} (o : Option ℕ) → refusalOf o ≡ Refusal.Is e → o ≡ some e
-is-refused none q = absurd (let z : _≡_ {A = ℕ} 0 1 = cc in omega arith)
+is-refused none q = zero-one cc
 is-refused (some d) q = cc
 
 is-accepted : (o : Option ℕ) → refusalOf o ≡ Refusal.Nothing → o ≡ none
 is-accepted none q = refl
-is-accepted (some d) q = absurd (let z : _≡_ {A = ℕ} 0 1 = cc in omega arith)
+is-accepted (some d) q = zero-one cc
 
 module _ (s : State) (now : ℕ) (c : Command) (v : Value) where
   -- CLOCK

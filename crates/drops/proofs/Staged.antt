@@ -9,6 +9,7 @@ use lib.ListN.{length}
 use lib.Seq.{take-all}
 use Rattle.lent.specs.Bytes.{splice, win}
 use Rattle.lent.proofs.Splice.{win-splice-after}
+use Rattle.lent.proofs.Choices.{zero-one}
 use Rattle.machine.specs.Sizes.{keyCount, rowCount, keysFrom, keyWidth, rowsFrom, rowWidth, valueMax}
 use Rattle.machine.specs.State.{Value, Staged, nothing, staged, DROP, Row, noRow, row, State, rowAt, stagedIn}
 use Rattle.machine.specs.Expiry.{withKeys, setValue}
@@ -37,12 +38,12 @@ staged-not DROP f = refl
 module _ (v : Value) where
   staged-mark : (r : Row) → stagedIn r ≡ staged v → win (encRow r) 6 2 ≡ 1 ∷ length v ∷ []
   unfolding encRow win
-  staged-mark noRow e = absurd (let z : _≡_ {A = ℕ} 0 1 = cc in omega arith)
+  staged-mark noRow e = zero-one cc
   staged-mark (row n k d u) e = rw e
 
   staged-value : (r : Row) → stagedIn r ≡ staged v → length v ≤ valueMax → win (encRow r) 8 valueMax ≡ padded v
   unfolding encRow win
-  staged-value noRow e h = absurd (let z : _≡_ {A = ℕ} 0 1 = cc in omega arith)
+  staged-value noRow e h = zero-one cc
   staged-value (row n k d u) e h = rw e (take-all valueMax (padded v) (rw (length-padded v h) (omega arith)))
 
 module _ {b : List ℕ} {s : State} (h : Holds b s) (k i : ℕ) (l : k < keyCount) (m : i < rowCount) where

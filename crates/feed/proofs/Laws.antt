@@ -11,6 +11,7 @@ use mathlib.Core.Bool.{Bool, true, false, _||_}
 use lib.Dec.{eqb, leb}
 use borrow.Author.Tests.{leb-true, leb-false}
 use Rattle.lent.specs.Tables.{if_then_else_}
+use Rattle.lent.proofs.Choices.{zero-one}
 use Rattle.feed.specs.Lines.{newline, heldMax}
 use Rattle.feed.specs.Held.{Buffer, taken, lineAfter, pushed, pushedAll}
 use Rattle.feed.specs.declared.Taken.{Taken}
@@ -58,7 +59,7 @@ taken-held line held b n l m q = go (eqb b newline) (leb heldMax held) (leb (len
     go : (t u v : Bool) → eqb b newline ≡ t → leb heldMax held ≡ u → leb (length line) held ≡ v
         → (if t then Taken.Line held else if u || v then Taken.Held held else Taken.Held (held + 1)) ≡ Taken.Held n
         → ByteHeld line held b n (if t then line else if u || v then line else set line held b)
-    go true u v e f g q = absurd (let z : _≡_ {A = ℕ} 0 1 = cc in omega arith)
+    go true u v e f g q = zero-one cc
     go false true v e f g q = full (cc) (leb-true heldMax held f) e
     go false false true e f g q = let k = leb-true (length line) held g in full (cc) (omega arith) e
     go false false false e f g q =
@@ -80,8 +81,8 @@ taken-line line held b n q = go (eqb b newline) (leb heldMax held || leb (length
     go : (t u : Bool) → eqb b newline ≡ t → (if t then Taken.Line held else if u then Taken.Held held else Taken.Held (held + 1)) ≡ Taken.Line n
         → LineWhole line held b n (if t then line else if u then line else set line held b)
     go true u e q = record { ends = e; number = cc; same = refl }
-    go false true e q = absurd (let z : _≡_ {A = ℕ} 0 1 = cc in omega arith)
-    go false false e q = absurd (let z : _≡_ {A = ℕ} 0 1 = cc in omega arith)
+    go false true e q = zero-one cc
+    go false false e q = zero-one cc
 
 pub pushed-none : (k : Buffer) → pushedAll k [] ≡ k
 unfolding pushedAll

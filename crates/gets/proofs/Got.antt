@@ -6,11 +6,11 @@ use mathlib.Core.List.{List, [], _∷_}
 use mathlib.Core.Option.{Option, none, some}
 use Prim.Native.Nat.{ℕ, _+_, _≤_, _<_}
 use native.Mathlib.Numerals.{add-one}
-use native.Mathlib.Omega.{arith}
 use lib.Dec.{eqb, leb}
 use lib.ListN.{length}
 use borrow.Author.Tests.{le-leb, lt-leb}
 use Rattle.lent.specs.Tables.{if_then_else_}
+use Rattle.lent.proofs.Choices.{zero-one}
 use Rattle.machine.specs.Sizes.{keyCount, numberMax}
 use Rattle.machine.specs.Tables.{first}
 use Rattle.machine.specs.State.{noRow, State, freeRow, rowOf, cached}
@@ -52,7 +52,7 @@ module _ (s : State) (now k : ℕ) where
   others-hit at n {b} h e = go (cachedSight k (cached s k)) e
     where
       go : (o : Option Seen) → placed o ≡ Sight.At at n → Gives (looked s now k o) (Answer.Hit at n) b
-      go none p = absurd (let z : _≡_ {A = ℕ} 0 1 = cc in omega arith)
+      go none p = zero-one cc
       go (some x) p = record { answer = cc; holds = h }
 
   pub others-absent : placed (cachedSight k (cached s k)) ≡ Sight.Nothing → others s now k ≡ absent s now k
@@ -61,7 +61,7 @@ module _ (s : State) (now k : ℕ) where
     where
       go : (o : Option Seen) → placed o ≡ Sight.Nothing → looked s now k o ≡ absent s now k
       go none p = refl
-      go (some x) p = absurd (let z : _≡_ {A = ℕ} 0 1 = cc in omega arith)
+      go (some x) p = zero-one cc
 
 -- ---- GET
 

@@ -13,6 +13,7 @@ use Rattle.lent.specs.Bytes.{le16, le32, le64, splice, win}
 use Rattle.lent.proofs.Numbers.{le16-win, le32-win, le64-win}
 use Rattle.lent.proofs.Splice.{getD-win, length-splice, splice-over, splice-self, splice-win, win-splice, win-win}
 use Rattle.lent.proofs.Tables.{each-at, each-set}
+use Rattle.lent.proofs.Choices.{zero-one}
 use Rattle.machine.specs.Sizes.{keyCount, sessionCount, rowCount, headSize, keysFrom, keyWidth, rowsFrom, rowWidth, sessionsFrom, sessionWidth, valueMax, valueAt, stagedAt}
 use Rattle.machine.specs.Tables.{isNone}
 use Rattle.machine.specs.State.{Value, Head, Key, Slot, noSession, staged, Row, noRow, row, State, blank, keyOf, cached, leaseOn, sessionAt, rowAt, kindOf, stagedIn}
@@ -51,7 +52,7 @@ module _ (b : List ℕ) (a w : ℕ) (x : List ℕ) (e : win b a w ≡ x) where
   le32-first h = rw add-zero at (le32-at b a w x e 0 h)
 
 staged-short : (r : Row) (v : Value) → RowFits r → stagedIn r ≡ staged v → length v ≤ valueMax
-staged-short noRow v f e = absurd (let z : _≡_ {A = ℕ} 0 1 = cc in omega arith)
+staged-short noRow v f e = zero-one cc
 staged-short (row n k d u) v f e = rw e at (f .staged)
 
 -- ---- a record that is written part by part

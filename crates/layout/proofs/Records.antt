@@ -13,6 +13,7 @@ use borrow.Author.Tests.{ne-eqb}
 use Rattle.lent.specs.Bytes.{le32, le64, win}
 use Rattle.lent.specs.Tables.{if_then_else_}
 use Rattle.lent.proofs.Numbers.{le16-bytes, le32-bytes, le64-bytes}
+use Rattle.lent.proofs.Choices.{zero-one}
 use Rattle.machine.specs.Tables.{isNone}
 use Rattle.machine.specs.State.{Value, Head, Lease, Key, Slot, noSession, session, Staged, nothing, staged, DROP, Row, noRow, row, kindOf, stagedIn}
 use Rattle.machine.specs.Sound.{tokenIn, numberIn}
@@ -147,7 +148,7 @@ unfolding encRow win
 staged-bytes n k d v = take-at v _ (length v) refl
 
 pub row-value : (r : Row) (v : Value) → stagedIn r ≡ staged v → win (encRow r) 8 (length v) ≡ v
-row-value noRow v e = absurd (let z : _≡_ {A = ℕ} 0 1 = cc in omega arith)
+row-value noRow v e = zero-one cc
 row-value (row n k d u) v e = rw e (staged-bytes n k d v)
 
 staged-read : (n k d : ℕ) (u : Staged) → decStaged (encRow (row n k d u)) ≡ u

@@ -10,6 +10,7 @@ use lib.ListN.{length, getD, List·getD-eq-default}
 use borrow.Author.Tests.{le-leb, le-ltb, lt-leb, lt-ltb, ltb-false, ltb-true}
 use Rattle.lent.specs.Tables.{if_then_else_, first}
 use Rattle.lent.proofs.Walks.{Search, found, nowhere, first-search}
+use Rattle.lent.proofs.Choices.{zero-one}
 use Rattle.machine.specs.Tables.{place, find, count}
 use Rattle.layout.specs.Search.{found as foundAt}
 use Rattle.layout.specs.declared.Found.{Found}
@@ -24,13 +25,13 @@ found-at n i j e = go (ltb i n) refl (sym (found-cases n i (ltb i n) refl) ∙ e
   where
     go : (t : Bool) → ltb i n ≡ t → (if t then Found.At i else Found.Nothing) ≡ Found.At j → (i ≡ j) × (j < n)
     go true q f = let g : i ≡ j = cc in (g, rw (← g) (ltb-true i n q))
-    go false q f = absurd (let z : _≡_ {A = ℕ} 0 1 = cc in omega arith)
+    go false q f = zero-one cc
 
 pub found-nothing : (n i : ℕ) → foundAt n i ≡ Found.Nothing → n ≤ i
 found-nothing n i e = go (ltb i n) refl (sym (found-cases n i (ltb i n) refl) ∙ e)
   where
     go : (t : Bool) → ltb i n ≡ t → (if t then Found.At i else Found.Nothing) ≡ Found.Nothing → n ≤ i
-    go true q f = absurd (let z : _≡_ {A = ℕ} 0 1 = cc in omega arith)
+    go true q f = zero-one cc
     go false q f = ltb-false i n q
 
 -- ---- how many pass

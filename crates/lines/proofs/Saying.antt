@@ -9,6 +9,7 @@ use lib.ListN.{length, take, drop}
 use borrow.Author.Tests.{lt-ltb, le-ltb}
 use Rattle.lent.specs.Bytes.{splice, win}
 use Rattle.lent.proofs.Splice.{splice-none}
+use Rattle.lent.proofs.Choices.{zero-one}
 use Rattle.counts.specs.declared.Count.{Count}
 use Rattle.hex.specs.Hex.{readHex, lengthRead, valueRead}
 use Rattle.hex.specs.declared.Hex.{Hex}
@@ -56,10 +57,10 @@ module _ (most : ℕ) (t : List ℕ) (at : ℕ) where
 
 length-read-not : (o : Option (List ℕ)) → lengthRead o ≡ Hex.Not → o ≡ none
 length-read-not none e = refl
-length-read-not (some v) e = absurd (let z : _≡_ {A = ℕ} 0 1 = cc in omega arith)
+length-read-not (some v) e = zero-one cc
 
 length-read-is : (o : Option (List ℕ)) (n : ℕ) → lengthRead o ≡ Hex.Is n → (o ≡ some (valueRead o)) × (length (valueRead o) ≡ n)
-length-read-is none n e = absurd (let z : _≡_ {A = ℕ} 0 1 = cc in omega arith)
+length-read-is none n e = zero-one cc
 length-read-is (some v) n e = (refl, cc)
 
 module _ (most : ℕ) (o : Option (List ℕ)) (r : Hex) (a : r ≡ lengthRead o) where

@@ -7,9 +7,8 @@ use mathlib.Core.Logic.{_⊎_, inl, inr}
 use mathlib.Core.List.{List, [], _∷_, _++_}
 use mathlib.Core.Option.{Option, none, some}
 use Prim.Native.Nat.{ℕ}
-use native.Mathlib.Omega.{arith}
 use lib.Dec.{eqb}
-use Rattle.lent.proofs.Choices.{clash, if-ind}
+use Rattle.lent.proofs.Choices.{clash, if-ind, zero-one}
 use Rattle.machine.specs.Tables.{first}
 use Rattle.machine.specs.Words.{wordOf, HIT}
 use Rattle.machine.specs.State.{Value, Row, noRow, State, freeRow, rowOf, rowPlace, cached}
@@ -64,8 +63,8 @@ get-hit s now n k at size v = settled-hit s (expire now s) now n k at size v (re
 
 showing-value : (s : State) (n k size : ℕ) (r : Option ℕ) (o : Option Sight) → sight s n k ≡ o → showing r o .answer ≡ Answer.Value size → rowOf s n k ≡ noRow → cached s k ≡ some (showing r o .value)
 showing-value s n k size none (some x) p e f = sight-cached s n k x f p
-showing-value s n k size none none p e f = absurd (let z : _≡_ {A = ℕ} 0 1 = cc in omega arith)
-showing-value s n k size (some c) o p e f = absurd (let z : _≡_ {A = ℕ} 0 1 = cc in omega arith)
+showing-value s n k size none none p e f = zero-one cc
+showing-value s n k size (some c) o p e f = zero-one cc
 
 show-value : (s : State) (n k size : ℕ) → show s n k .answer ≡ Answer.Value size → rowOf s n k ≡ noRow → cached s k ≡ some (show s n k .value)
 unfolding show

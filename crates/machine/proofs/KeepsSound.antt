@@ -10,7 +10,7 @@ use lib.Dec.{eqb, leb, ltb}
 use lib.ListN.{length, length-replicate}
 use borrow.Author.Tests.{eqb-true, eqb-false, eq-eqb, leb-false, ltb-false, not-false}
 use Rattle.lent.specs.Bytes.{Bytes}
-use Rattle.lent.proofs.Choices.{if-ind, or-no}
+use Rattle.lent.proofs.Choices.{if-ind, or-no, zero-one}
 use Rattle.machine.specs.Sizes.{keyCount, sessionCount, rowCount, valueMax, stepMax, lifeMax, timeMax, numberMax}
 use Rattle.machine.specs.Tables.{first, isNone}
 use Rattle.machine.specs.Words.{isKind, isOperation, INVALIDATE, INCREMENTAL, REFRESH}
@@ -161,7 +161,7 @@ fresh-sound readLife writeLife r w = means-sound (fresh readLife writeLife) (rec
 
 -- whatever the buffer held, READY leaves a sound state
 started-sound : (s : State) (readLife writeLife : ℕ) (o : Option ℕ) → first (startRefusals readLife writeLife) ≡ o → started readLife writeLife o s .answer ≡ Answer.Ready → sound (started readLife writeLife o s .after) ≡ true
-started-sound s readLife writeLife (some e) p a = absurd (let z : _≡_ {A = ℕ} 0 1 = cc in omega arith)
+started-sound s readLife writeLife (some e) p a = zero-one cc
 started-sound s readLife writeLife none p a =
     let x : (not (lifetime readLife) || not (lifetime writeLife)) ≡ false = Views.first-none (startRefusals readLife writeLife) p 0 in
     fresh-sound readLife writeLife (not-false _ (or-no (not (lifetime readLife)) (not (lifetime writeLife)) x .0)) (not-false _ (or-no (not (lifetime readLife)) (not (lifetime writeLife)) x .1))

@@ -12,7 +12,7 @@ use native.Mathlib.Omega.{arith}
 use borrow.Author.Tests.{eqb-true}
 use lib.Dec.{eqb}
 use lib.ListN.{getD, set, List·getD-map}
-use Rattle.lent.proofs.Choices.{and-yes}
+use Rattle.lent.proofs.Choices.{and-yes, zero-one}
 use Rattle.machine.specs.Sizes.{keyCount, sessionCount, rowCount}
 use Rattle.machine.specs.Tables.{place, mem, putAt}
 use Rattle.machine.specs.Session.{opened, advanced, sealed, isDue}
@@ -297,7 +297,7 @@ orderly-granted s n k kind range sharing h = record {
   unique = h .unique;
   kinds = λ i m j d v e. elim (seen i m j d v e) [ inl p ↦ h .kinds i m j d v p | inr p ↦ rw (p .2) range ];
   alone = λ i i′ m m′ j d c u v e f. two i i′ m m′ j d c u v (seen i m j d u e) (seen i′ m′ j c v f);
-  plain = λ i m j v e. elim (seen i m j 1 (staged v) e) [ inl p ↦ h .plain i m j v p | inr p ↦ (let q = p .3 in let z : _≡_ {A = ℕ} 0 1 = cc in omega arith) ];
+  plain = λ i m j v e. elim (seen i m j 1 (staged v) e) [ inl p ↦ h .plain i m j v p | inr p ↦ (let q = p .3 in zero-one cc) ];
 }
   where
     at : ℕ

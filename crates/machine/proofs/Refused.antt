@@ -10,7 +10,7 @@ use native.Mathlib.Omega.{arith}
 use lib.Dec.{eqb, ltb}
 use lib.ListN.{getD}
 use borrow.Author.Tests.{eqb-true}
-use Rattle.lent.proofs.Choices.{case-of, clash, if-ind}
+use Rattle.lent.proofs.Choices.{case-of, clash, if-ind, zero-one}
 use Rattle.machine.specs.Tables.{mem, first, isNone}
 use Rattle.machine.specs.Words.{wordOf, wordsOf}
 use Rattle.machine.specs.Decision.{grants}
@@ -28,7 +28,7 @@ use Rattle.machine.proofs.Views.{some-eq}
 -- The first test that holds
 
 pub first-is : (l : List (Bool × ℕ)) (e : ℕ) → first l ≡ some e → First l e
-first-is [] e p = absurd (let z : _≡_ {A = ℕ} 0 1 = cc in omega arith)
+first-is [] e p = zero-one cc
 first-is (x ∷ l) e p = go (case-of (x .0)) (first-is l e)
   where
     up : (j : ℕ) (f : First l e) → x .0 ≡ false → j < suc (f .place) → getD (x ∷ l) j (false, 0) .0 ≡ false
@@ -153,7 +153,7 @@ unfolding start
 start-refused s r w e p = go (first (startRefusals r w)) refl p
   where
     go : (o : Option ℕ) → first (startRefusals r w) ≡ o → started r w o s .answer ≡ Answer.Refused e → First (startRefusals r w) e × (started r w o s .after ≡ s)
-    go none q h = absurd (let z : _≡_ {A = ℕ} 0 1 = cc in omega arith)
+    go none q h = zero-one cc
     go (some d) q h = let x : d ≡ e = cc in (first-is (startRefusals r w) e (q ∙ ap (λ (y : ℕ). some y) x), refl)
 
 pub show-refused : (s : State) (n k e : ℕ) → show s n k .answer ≡ Answer.Refused e → First (showRefusals s n k) e
@@ -161,8 +161,8 @@ unfolding show
 show-refused s n k e p = go (first (showRefusals s n k)) (sight s n k) refl p
   where
     go : (o : Option ℕ) (x : Option Sight) → first (showRefusals s n k) ≡ o → showing o x .answer ≡ Answer.Refused e → First (showRefusals s n k) e
-    go none none q h = absurd (let z : _≡_ {A = ℕ} 0 1 = cc in omega arith)
-    go none (some x) q h = absurd (let z : _≡_ {A = ℕ} 0 1 = cc in omega arith)
+    go none none q h = zero-one cc
+    go none (some x) q h = zero-one cc
     go (some d) x q h = let y : d ≡ e = cc in first-is (showRefusals s n k) e (q ∙ ap (λ (z : ℕ). some z) y)
 
 -- and the first that holds is given

@@ -11,7 +11,7 @@ use lib.Dec.{eqb, leb}
 use borrow.Author.Tests.{eqb-true, eqb-false, eq-eqb, leb-false}
 use lib.ListN.{getD, set, replicate}
 use Rattle.lent.specs.Tables.{if_then_else_}
-use Rattle.lent.proofs.Choices.{case-of, clash}
+use Rattle.lent.proofs.Choices.{case-of, clash, zero-one}
 use Rattle.machine.specs.Tables.{place, find, any, first, mem}
 use Rattle.machine.specs.Session.{dueLife}
 use Rattle.machine.specs.State.{Value, Lease, Key, blank, Slot, noSession, session, Staged, nothing, staged, DROP, Row, noRow, row, on, free, freeRow, ofOn, numbered}
@@ -23,13 +23,13 @@ use Rattle.machine.specs.declared.Session.{Session}
 -- Constructors that differ
 
 pub no-some : {A B : Type 0} (b : B) → none ≡ some b → A
-no-some b e = absurd (let z : _≡_ {A = ℕ} 0 1 = cc in omega arith)
+no-some b e = zero-one cc
 
 pub no-row : {A : Type 0} (n k d : ℕ) (v : Staged) → noRow ≡ row n k d v → A
-no-row n k d v e = absurd (let z : _≡_ {A = ℕ} 0 1 = cc in omega arith)
+no-row n k d v e = zero-one cc
 
 pub no-session : {A : Type 0} (l : Session) → noSession ≡ session l → A
-no-session l e = absurd (let z : _≡_ {A = ℕ} 0 1 = cc in omega arith)
+no-session l e = zero-one cc
 
 pub some-eq : {A : Type 0} (a b : A) → some a ≡ some b → a ≡ b
 some-eq a b e = cc
@@ -186,7 +186,7 @@ those-has p (session x ∷ l) (suc i) m e h = go (case-of (p x)) (those-has p l 
 
 pub due-open : (now : ℕ) (p : Life) → dueLife now p ≡ true → p ≡ Life.Sealed → ⊥
 due-open now Life.Sealed e q = clash false e refl
-due-open now (Life.Open t) e q = let z : _≡_ {A = ℕ} 0 1 = cc in omega arith
+due-open now (Life.Open t) e q = zero-one cc
 
 -- a lease that is left was there, and ends after now
 pub unlapsed-was : (now : ℕ) (o : Option Lease) (l : Lease) → unlapsed now o ≡ some l → (o ≡ some l) × (now < l .until)

@@ -10,7 +10,7 @@ use native.Mathlib.Omega.{arith}
 use lib.Dec.{eqb, leb}
 use lib.ListN.{getD, List·getD-map}
 use borrow.Author.Tests.{eqb-true, eqb-false, eq-eqb, leb-true, leb-false}
-use Rattle.lent.proofs.Choices.{case-of, clash}
+use Rattle.lent.proofs.Choices.{case-of, clash, zero-one}
 use Rattle.machine.specs.Tables.{place, find, mem}
 use Rattle.machine.specs.Session.{isDue}
 use Rattle.machine.specs.Decision.{decision}
@@ -172,18 +172,18 @@ module _ (t : State) (now k : ℕ) (h : WellFormed t now) where
 -- a GET is answered BACKOFF only on a key that is blocked, with the wait
 looked-backoff : (t : State) (now n k w : ℕ) (o : Option Sight) → looked t now n k o .answer ≡ Answer.Backoff w → (blocked t k ≡ true) × (wait t k now ≡ w)
 unfolding looked missed leased
-looked-backoff t now n k w (some x) e = absurd (let z : _≡_ {A = ℕ} 0 1 = cc in omega arith)
+looked-backoff t now n k w (some x) e = zero-one cc
 looked-backoff t now n k w none e = go (case-of (freeRow (rowOf t n k))) (case-of (blocked t k))
   where
     go : (freeRow (rowOf t n k) ≡ true) ⊎ (freeRow (rowOf t n k) ≡ false) → (blocked t k ≡ true) ⊎ (blocked t k ≡ false) → (blocked t k ≡ true) × (wait t k now ≡ w)
     go (inl p) (inl q) = let z : Answer.Backoff (wait t k now) ≡ Answer.Backoff w = rw (p, q) at e in (q, cc)
-    go (inl p) (inr q) = absurd (let x : Answer.Lease (t .head .nextToken) ≡ Answer.Backoff w = rw (p, q) at e in let z : _≡_ {A = ℕ} 0 1 = cc in omega arith)
-    go (inr p) q = absurd (let x : Answer.Ask ≡ Answer.Backoff w = rw p at e in let z : _≡_ {A = ℕ} 0 1 = cc in omega arith)
+    go (inl p) (inr q) = let x : Answer.Lease (t .head .nextToken) ≡ Answer.Backoff w = rw (p, q) at e in zero-one cc
+    go (inr p) q = let x : Answer.Ask ≡ Answer.Backoff w = rw p at e in zero-one cc
 
 settled-backoff : (s : State) (now n k w : ℕ) (v : Value) → sound s ≡ true → (o : Option ℕ) → refusal (expire now s) now (Get n k) v ≡ o
     → settled s now o (effect (expire now s) now (Get n k) v) .answer ≡ Answer.Backoff w → Waits (expire now s) now k w
 unfolding settled effect
-settled-backoff s now n k w v h (some c) p e = absurd (let z : _≡_ {A = ℕ} 0 1 = cc in omega arith)
+settled-backoff s now n k w v h (some c) p e = zero-one cc
 settled-backoff s now n k w v h none p e =
     let r = looked-backoff (expire now s) now n k w (sight (expire now s) n k) e in
     subst (Waits (expire now s) now k) (r .1) (waits (expire now s) now k (well-expired s now (Get n k) v h p) (expired-leases now s k) (expired-sessions now s) (r .0))

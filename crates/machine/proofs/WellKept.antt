@@ -9,6 +9,7 @@ use Prim.Native.Nat.{ℕ, _+_, _≤_, _<_}
 use native.Mathlib.Omega.{arith}
 use lib.ListN.{length, getD, set, length-set, length-map, List·getD-map}
 use Rattle.lent.specs.Tables.{if_then_else_}
+use Rattle.lent.proofs.Choices.{zero-one}
 use Rattle.machine.specs.Sizes.{keyCount, stepMax, timeMax, numberMax}
 use Rattle.machine.specs.Tables.{place, mem, putAt}
 use Rattle.machine.specs.Session.{opened, advanced, sealed, isDue}
@@ -223,7 +224,7 @@ module _ (s : State) (now : ℕ) (h : WellFormed s now) where
   -- VALIDATE
   pub well-seal : (n : ℕ) → WellFormed (withSession s n sealed) now
   well-seal n = well-session n sealed (λ x. refl) (λ i x e q. let y = h .sessions .each i e in
-      record { positive = y .positive; steps = y .steps; deadline = λ t p. absurd (let z : _≡_ {A = ℕ} 0 1 = cc in omega arith) })
+      record { positive = y .positive; steps = y .steps; deadline = λ t p. zero-one cc })
 
   -- QUAR granted: to a live session with no row on the key
   pub well-granted : (n k kind : ℕ) → k < keyCount → Within INVALIDATE INCREMENTAL kind → LiveAs (s .sessions) n → ((i d : ℕ) (v : Staged) → rowAt s i ≡ row n k d v → ⊥)

@@ -5,11 +5,10 @@ use mathlib.Core.Bool.{Bool, true, false}
 use mathlib.Core.Logic.{_⊎_, inl, inr}
 use mathlib.Core.List.{List, [], _∷_, map}
 use Prim.Native.Nat.{ℕ}
-use native.Mathlib.Omega.{arith}
 use lib.Dec.{eqb}
 use lib.ListN.{getD, List·getD-map}
 use borrow.Author.Tests.{eqb-true, eq-eqb}
-use Rattle.lent.proofs.Choices.{case-of, clash}
+use Rattle.lent.proofs.Choices.{case-of, clash, zero-one}
 use Rattle.machine.specs.Tables.{place, find, mem}
 use Rattle.machine.specs.Session.{isDue}
 use Rattle.machine.specs.State.{Slot, noSession, session, Row, noRow, row, State, numbered, ofOn, sessionPlace, sessionOf, rowOf, sessionAt}
@@ -121,7 +120,7 @@ module _ (s : State) (ok : sound s ≡ true) (now : ℕ) where
 
         kept : (r : Row) → (r ≡ noRow) ⊎ (ofOn n k r ≡ true) → freeIfOf due r ≡ r
         kept noRow t = refl
-        kept (row m j d u) (inl t) = absurd (let z : _≡_ {A = ℕ} 0 1 = cc in omega arith)
+        kept (row m j d u) (inl t) = zero-one cc
         kept (row m j d u) (inr t) = go (case-of (eqb m n))
           where
             go : (eqb m n ≡ true) ⊎ (eqb m n ≡ false) → freeIfOf due (row m j d u) ≡ row m j d u

@@ -7,11 +7,10 @@ use mathlib.Core.Logic.{_⊎_, inl, inr}
 use mathlib.Core.List.{[]}
 use mathlib.Core.Option.{Option, none, some}
 use Prim.Native.Nat.{ℕ, _≤_}
-use native.Mathlib.Omega.{arith}
 use lib.Dec.{eqb, ltb}
 use borrow.Author.Tests.{eqb-true, le-ltb}
 use Rattle.lent.specs.Tables.{if_then_else_}
-use Rattle.lent.proofs.Choices.{clash}
+use Rattle.lent.proofs.Choices.{clash, zero-one}
 use Rattle.machine.specs.Sizes.{sessionCount, stepMax}
 use Rattle.machine.specs.Tables.{first}
 use Rattle.machine.specs.Session.{isDue, advanced, sealed, isSealed, validationOf}
@@ -42,12 +41,12 @@ use Rattle.refusals.proofs.Expired.{stays, session-expired, row-expired
 -- ---- what the code is told
 
 pub left-is : (e : Slot) (x : Session) → leftOf e ≡ Left.Is x → e ≡ session x
-left-is noSession x q = absurd (let z : _≡_ {A = ℕ} 0 1 = cc in omega arith)
+left-is noSession x q = zero-one cc
 left-is (session y) x q = let f : y ≡ x = cc in ap session f
 
 pub left-nobody : (e : Slot) → leftOf e ≡ Left.Nobody → e ≡ noSession
 left-nobody noSession q = refl
-left-nobody (session y) q = absurd (let z : _≡_ {A = ℕ} 0 1 = cc in omega arith)
+left-nobody (session y) q = zero-one cc
 
 -- the refusal in what a session that stages has found, and in what VALIDATE has
 abbrev pub refusalIn : Staging → Refusal

@@ -10,6 +10,7 @@ use lib.Dec.{ltb}
 use lib.ListN.{set}
 use borrow.Author.Tests.{eqb-true, not-false}
 use Rattle.lent.specs.Tables.{if_then_else_}
+use Rattle.lent.proofs.Choices.{zero-one}
 use Rattle.machine.specs.Sizes.{stepMax}
 use Rattle.machine.specs.Tables.{first}
 use Rattle.machine.specs.Session.{advanced}
@@ -76,8 +77,8 @@ module _ (s : State) (n step k kind : ℕ) where
       y = sessionIn (sessionOf s n)
 
       go : (o : Option ℕ) → first tests ≡ o → (t : Bool) → orElse o (if t then Staging.Repeated else Staging.At (sessionPlace s n) (rowPlace s n k) (advanced y)) ≡ Staging.At i j x → Stages s n k kind j x
-      go (some d) q t p = absurd (let z : _≡_ {A = ℕ} 0 1 = cc in omega arith)
-      go none q true p = absurd (let z : _≡_ {A = ℕ} 0 1 = cc in omega arith)
+      go (some d) q t p = zero-one cc
+      go none q true p = zero-one cc
       go none q false p =
           let a : rowPlace s n k ≡ j = cc in
           let b : advanced y ≡ x = cc in

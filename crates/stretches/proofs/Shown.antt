@@ -5,12 +5,12 @@ use mathlib.Core.Bool.{Bool, true, false, not, _&&_}
 use mathlib.Core.List.{List, []}
 use mathlib.Core.Option.{Option, none, some}
 use Prim.Native.Nat.{ℕ, _≤_, _<_}
-use native.Mathlib.Omega.{arith}
 use lib.Dec.{eqb, leb}
 use lib.ListN.{length, take, drop}
 use borrow.Author.Tests.{le-leb, lt-leb, leb-true, leb-false}
 use Rattle.lent.specs.Bytes.{win}
 use Rattle.lent.specs.Tables.{if_then_else_}
+use Rattle.lent.proofs.Choices.{zero-one}
 use Rattle.machine.specs.Sizes.{keyCount, valueAt, stagedAt}
 use Rattle.machine.specs.State.{Value, nothing, staged, DROP, Row, noRow, row, State, stagedIn, rowPlace, rowOf, rowAt, cached}
 use Rattle.machine.specs.Refusals.{Sight as Seen, cachedSight, rowSight, sight, notLive}
@@ -87,13 +87,13 @@ module _ (s : State) (n k : ℕ) where
         where
           go : (o : Option Seen) → placed o ≡ Sight.Nothing → seen o ≡ bare Answer.None
           go none p = refl
-          go (some x) p = absurd (let z : _≡_ {A = ℕ} 0 1 = cc in omega arith)
+          go (some x) p = zero-one cc
 
       pub shown-at : (at m : ℕ) → placed (sight s n k) ≡ Sight.At at m → Shows (show s n k) at m
       shown-at at m p = rw shown-seen (go (sight s n k) p)
         where
           go : (o : Option Seen) → placed o ≡ Sight.At at m → Shows (seen o) at m
-          go none p = absurd (let z : _≡_ {A = ℕ} 0 1 = cc in omega arith)
+          go none p = zero-one cc
           go (some x) p = let z : length (x .value) ≡ m = cc in record { answer = ap Answer.Value z; place = cc; size = z }
 
   -- what is handed back stands in the lent bytes, at its place

@@ -22,7 +22,7 @@ use Rattle.machine.specs.declared.Answer.{Answer}
 use Rattle.machine.specs.declared.Command.the-variants.{Validate, Done, Undo}
 use Rattle.machine.proofs.SoundFacts as facts
 use Rattle.lent.specs.Tables.{if_then_else_}
-use Rattle.lent.proofs.Choices.{clash}
+use Rattle.lent.proofs.Choices.{clash, zero-one}
 use Rattle.machine.proofs.SoundMeans.{sessions-length}
 use Rattle.layout.specs.Fields.{sessionIn}
 use Rattle.layout.specs.Holds.{Holds}
@@ -142,21 +142,21 @@ module _ (x : Session) (m : ℕ) where
     where
       go : (t u : Bool) → (if t then Validation.Seals (sealed x) else if u then Validation.Clashes else Validation.Loses) ≡ Validation.Seals y → (t ≡ true) × (y ≡ sealed x)
       go true u f = (refl, cc)
-      go false true f = absurd (let z : _≡_ {A = ℕ} 0 1 = cc in omega arith)
-      go false false f = absurd (let z : _≡_ {A = ℕ} 0 1 = cc in omega arith)
+      go false true f = zero-one cc
+      go false false f = zero-one cc
 
   pub told-loses : validationOf x m ≡ Validation.Loses → (eqb m (x .count) ≡ false) × (isSealed x ≡ false)
   told-loses e = go (eqb m (x .count)) (isSealed x) e
     where
       go : (t u : Bool) → (if t then Validation.Seals (sealed x) else if u then Validation.Clashes else Validation.Loses) ≡ Validation.Loses → (t ≡ false) × (u ≡ false)
-      go true u f = absurd (let z : _≡_ {A = ℕ} 0 1 = cc in omega arith)
-      go false true f = absurd (let z : _≡_ {A = ℕ} 0 1 = cc in omega arith)
+      go true u f = zero-one cc
+      go false true f = zero-one cc
       go false false f = (refl, refl)
 
   pub told-clashes : validationOf x m ≡ Validation.Clashes → (eqb m (x .count) ≡ false) × (isSealed x ≡ true)
   told-clashes e = go (eqb m (x .count)) (isSealed x) e
     where
       go : (t u : Bool) → (if t then Validation.Seals (sealed x) else if u then Validation.Clashes else Validation.Loses) ≡ Validation.Clashes → (t ≡ false) × (u ≡ true)
-      go true u f = absurd (let z : _≡_ {A = ℕ} 0 1 = cc in omega arith)
+      go true u f = zero-one cc
       go false true f = (refl, refl)
-      go false false f = absurd (let z : _≡_ {A = ℕ} 0 1 = cc in omega arith)
+      go false false f = zero-one cc

@@ -1,7 +1,7 @@
 -- DELTA's own tests, then what its session found; where that is its places, the record is stored and the row changed.
 use mathlib.Core.Path.{sym, _∙_}
-use borrow.Author.Tests.{not-true, not-false}
 use borrow.Author.Needs.{needs}
+use Rattle.lent.proofs.Choices.{test-failed, test-passed}
 use Rattle.stages.proofs.Staged.{staging-at}
 use Rattle.outcome.proofs.Told.{gives}
 use Rattle.deltas.proofs.Tried.{delta-key, delta-operation, delta-step, delta-long, delta-found, delta-changes}
@@ -15,13 +15,13 @@ is-operation-requires : tie.Need-is-operation-requires
 is-operation-requires c κs = search needs
 
 returns-2 : tie.Need-returns-2
-returns-2 c = λ σ h ok. gives (delta-operation _ _ _ _ _ _ (sym (c .before .is-operation .ensures) ∙ not-true _ (c .if2 .taken))) h
+returns-2 c = λ σ h ok. gives (delta-operation _ _ _ _ _ _ (test-failed (c .before .is-operation .ensures) (c .if2 .taken))) h
 
 returns-3 : tie.Need-returns-3
 returns-3 c = λ σ h ok. gives (delta-step _ _ _ _ _ _ (c .if3 .taken)) h
 
 returns-4 : tie.Need-returns-4
-returns-4 c = λ σ h ok. gives (delta-long _ _ _ _ _ _ (c .before .before .before .before .if1 .left) (sym (c .before .before .before .is-operation .ensures) ∙ not-false _ (c .before .before .if2 .left)) (c .before .if3 .left) (c .if4 .taken)) h
+returns-4 c = λ σ h ok. gives (delta-long _ _ _ _ _ _ (c .before .before .before .before .if1 .left) (test-passed (c .before .before .before .is-operation .ensures) (c .before .before .if2 .left)) (c .before .if3 .left) (c .if4 .taken)) h
 
 find-requires : tie.Need-find-requires
 find-requires c κs = search needs
@@ -45,13 +45,13 @@ same-length : tie.Need-same-length
 same-length c = search needs
 
 returns-5 : tie.Need-returns-5
-returns-5 c = λ σ h ok. gives (delta-found _ _ _ _ _ _ (c .before .before .before .before .before .before .before .before .before .if1 .left) (sym (c .before .before .before .before .before .before .before .before .is-operation .ensures) ∙ not-false _ (c .before .before .before .before .before .before .before .if2 .left)) (c .before .before .before .before .before .before .if3 .left) (c .before .before .before .before .before .if4 .left) (sym (c .before .before .before .find .ensures .0 σ h) ∙ c .before .e .given .1)) h
+returns-5 c = λ σ h ok. gives (delta-found _ _ _ _ _ _ (c .before .before .before .before .before .before .before .before .before .if1 .left) (test-passed (c .before .before .before .before .before .before .before .before .is-operation .ensures) (c .before .before .before .before .before .before .before .if2 .left)) (c .before .before .before .before .before .before .if3 .left) (c .before .before .before .before .before .if4 .left) (sym (c .before .before .before .find .ensures .0 σ h) ∙ c .before .e .given .1)) h
 
 same-length-2 : tie.Need-same-length-2
 same-length-2 c = search needs
 
 returns-6 : tie.Need-returns-6
-returns-6 c = λ σ h ok. gives (delta-found _ _ _ _ _ _ (c .before .before .before .before .before .before .before .before .if1 .left) (sym (c .before .before .before .before .before .before .before .is-operation .ensures) ∙ not-false _ (c .before .before .before .before .before .before .if2 .left)) (c .before .before .before .before .before .if3 .left) (c .before .before .before .before .if4 .left) (sym (c .before .before .find .ensures .0 σ h) ∙ c .enum-told .given .1)) h
+returns-6 c = λ σ h ok. gives (delta-found _ _ _ _ _ _ (c .before .before .before .before .before .before .before .before .if1 .left) (test-passed (c .before .before .before .before .before .before .before .is-operation .ensures) (c .before .before .before .before .before .before .if2 .left)) (c .before .before .before .before .before .if3 .left) (c .before .before .before .before .if4 .left) (sym (c .before .before .find .ensures .0 σ h) ∙ c .enum-told .given .1)) h
 
 same-length-3 : tie.Need-same-length-3
 same-length-3 c = search needs
@@ -60,7 +60,7 @@ returns-7 : tie.Need-returns-7
 returns-7 c = λ σ h ok.
     let q = sym (c .before .before .before .before .before .before .before .before .before .before .before .find .ensures .0 σ h) ∙ c .before .before .before .before .before .before .before .before .before .place .given .1 in
     let a = staging-at σ _ _ _ _ ok _ _ _ q in
-    rw (delta-changes _ _ _ _ _ _ (c .before .before .before .before .before .before .before .before .before .before .before .before .before .before .before .before .before .if1 .left) (sym (c .before .before .before .before .before .before .before .before .before .before .before .before .before .before .before .before .is-operation .ensures) ∙ not-false _ (c .before .before .before .before .before .before .before .before .before .before .before .before .before .before .before .if2 .left)) (c .before .before .before .before .before .before .before .before .before .before .before .before .before .before .if3 .left) _ _ _ (c .before .before .before .before .before .before .before .before .before .before .before .before .before .if4 .left) q (a .row)) (c .before .before .change .ensures _ (c .before .before .before .before .before .before .store .ensures σ h (a .number) (a .count)) (a .taken))
+    rw (delta-changes _ _ _ _ _ _ (c .before .before .before .before .before .before .before .before .before .before .before .before .before .before .before .before .before .if1 .left) (test-passed (c .before .before .before .before .before .before .before .before .before .before .before .before .before .before .before .before .is-operation .ensures) (c .before .before .before .before .before .before .before .before .before .before .before .before .before .before .before .if2 .left)) (c .before .before .before .before .before .before .before .before .before .before .before .before .before .before .if3 .left) _ _ _ (c .before .before .before .before .before .before .before .before .before .before .before .before .before .if4 .left) q (a .row)) (c .before .before .change .ensures _ (c .before .before .before .before .before .before .store .ensures σ h (a .number) (a .count)) (a .taken))
 
 pub delta-spec : {M : Type 1} → statement M
 delta-spec =

@@ -1,7 +1,7 @@
 -- The row's mark and the key's decide which value is worked on, and that value stands where its record says.
 use mathlib.Core.Path.{sym, _∙_}
-use borrow.Author.Tests.{not-true, not-false}
 use borrow.Author.Needs.{needs}
+use Rattle.lent.proofs.Choices.{test-failed, test-passed}
 use Rattle.deltas.proofs.Working.{works-drop, works-staged, works-absent, works-cached}
 use Rattle.deltas.proofs.work.Statement.{statement}
 use Rattle.deltas.proofs.work.Tie as tie
@@ -61,7 +61,7 @@ returns-3 c = let has-value = c .before .has-value in
     let if1 = c .before .before .before .if1 in
     let mark = c .before .before .before .before .mark in
     let args = c .before .before .before .before .before .before .before .before .args in
-    (λ σ h. works-absent h (args .row) (args .k) (args .operation) (args .operand .now) (λ q. if1 .left (mark .ensures σ h ∙ q)) (λ q. if2 .left (mark .ensures σ h ∙ q)) (sym (has-value .ensures σ h) ∙ not-true _ (c .if3 .taken)), tt)
+    (λ σ h. works-absent h (args .row) (args .k) (args .operation) (args .operand .now) (λ q. if1 .left (mark .ensures σ h ∙ q)) (λ q. if2 .left (mark .ensures σ h ∙ q)) (test-failed (has-value .ensures σ h) (c .if3 .taken)), tt)
 
 value-length-requires : tie.Need-value-length-requires
 value-length-requires c κs = search needs
@@ -102,7 +102,7 @@ returns-4 c = let operate = c .before .before .operate2 in
     let if1 = c .before .before .before .before .before .before .before .before .before .if1 in
     let mark = c .before .before .before .before .before .before .before .before .before .before .mark in
     let args = c .before .before .before .before .before .before .before .before .before .before .before .before .before .before .args in
-    (λ σ h. works-cached h (args .row) (args .k) (args .operation) (args .operand .now) (λ q. if1 .left (mark .ensures σ h ∙ q)) (λ q. if2 .left (mark .ensures σ h ∙ q)) (c .before .before .before .before .before .before .before .before .before .before .before .before .before .before .pre .1 .1 .0) (sym (has-value .ensures σ h) ∙ not-false _ (if3 .left)) (value-length .ensures .0 σ h) (operate .ensures .value), operate .ensures .short)
+    (λ σ h. works-cached h (args .row) (args .k) (args .operation) (args .operand .now) (λ q. if1 .left (mark .ensures σ h ∙ q)) (λ q. if2 .left (mark .ensures σ h ∙ q)) (c .before .before .before .before .before .before .before .before .before .before .before .before .before .before .pre .1 .1 .0) (test-passed (has-value .ensures σ h) (if3 .left)) (value-length .ensures .0 σ h) (operate .ensures .value), operate .ensures .short)
 
 pub work-spec : {M : Type 1} → statement M
 work-spec =

@@ -2,8 +2,8 @@
 use mathlib.Core.Path.{_≡_, sym, _∙_}
 use mathlib.Core.Bool.{true}
 use native.Mathlib.Omega.{arith}
-use borrow.Author.Tests.{not-true, not-false}
 use borrow.Author.Needs.{needs}
+use Rattle.lent.proofs.Choices.{test-failed, test-passed}
 use Rattle.machine.specs.Tables.{mem}
 use Rattle.machine.specs.State.{rowAt}
 use Rattle.layout.specs.Fields.{rowSession}
@@ -31,7 +31,7 @@ same-length-2 c = search needs
 returns-2 : tie.Need-returns-2
 returns-2 c = let session = c .before .before .before .session in
     let args = c .before .before .before .before .before .before .before .args in
-    λ σ h. rw (row-stays (args .ending) (args .ns .now) (args .i) σ (rw (← session .ensures σ h) (sym (c .before .among .ensures) ∙ not-true _ (c .if2 .taken)))) h
+    λ σ h. rw (row-stays (args .ending) (args .ns .now) (args .i) σ (rw (← session .ensures σ h) (test-failed (c .before .among .ensures) (c .if2 .taken)))) h
 
 key-requires : tie.Need-key-requires
 key-requires c κs = search needs
@@ -56,7 +56,7 @@ returns-3 c = let free-row = c .before .before .free-row in
     let args = c .before .before .before .before .before .before .before .before .before .before .before .before .before .before .before .before .before .args in
     λ σ h.
     let other : rowSession (rowAt σ (args .i)) ≡ 0 → ⊥ = λ q. if1 .left (session .ensures σ h ∙ q) in
-    let one : mem (rowSession (rowAt σ (args .i))) (args .ns .now) ≡ true = rw (← session .ensures σ h) (sym (among .ensures) ∙ not-false _ (if2 .left)) in
+    let one : mem (rowSession (rowAt σ (args .i))) (args .ns .now) ≡ true = rw (← session .ensures σ h) (test-passed (among .ensures) (if2 .left)) in
     rw (row-ends (args .ending) (args .ns .now) (args .i) σ other one, ← key .ensures .0 σ h) (free-row .ensures _ (settle .ensures σ h))
 
 pub end-row-spec : {M : Type 1} → statement M

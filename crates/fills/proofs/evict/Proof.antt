@@ -1,8 +1,8 @@
 -- The refusal, then whether a value is there; where one is, dropping it leaves the record with its lease.
 use native.Mathlib.Omega.{arith}
-use mathlib.Core.Path.{sym, _∙_}
 use borrow.Author.Tests.{not-true, not-false}
 use borrow.Author.Needs.{needs}
+use Rattle.lent.proofs.Choices.{test-failed, test-passed}
 use Rattle.outcome.proofs.Told.{gives}
 use Rattle.fills.proofs.Tried.{evict-key, evict-empty, evict-evicted}
 use Rattle.fills.proofs.evict.Statement.{statement}
@@ -20,7 +20,7 @@ same-length c = search needs
 
 returns-2 : tie.Need-returns-2
 returns-2 c = let args = c .before .before .before .before .before .args in
-    λ σ h e. gives (evict-empty σ (args .key) (omega arith) (not-false _ (sym (c .before .has-value .ensures σ h) ∙ not-true _ (c .if2 .taken)))) h
+    λ σ h e. gives (evict-empty σ (args .key) (omega arith) (not-false _ (test-failed (c .before .has-value .ensures σ h) (c .if2 .taken)))) h
 
 drop-value-requires : tie.Need-drop-value-requires
 drop-value-requires c κs = search needs
@@ -30,7 +30,7 @@ same-length-2 c = search needs
 
 returns-3 : tie.Need-returns-3
 returns-3 c = let args = c .before .before .before .before .before .before .before .before .before .args in
-    λ σ h e. gives (evict-evicted σ (args .key) (omega arith) (not-true _ (sym (c .before .before .before .before .before .has-value .ensures σ h) ∙ not-false _ (c .before .before .before .before .if2 .left)))) (c .before .before .drop-value .ensures σ h)
+    λ σ h e. gives (evict-evicted σ (args .key) (omega arith) (not-true _ (test-passed (c .before .before .before .before .before .has-value .ensures σ h) (c .before .before .before .before .if2 .left)))) (c .before .before .drop-value .ensures σ h)
 
 pub evict-spec : {M : Type 1} → statement M
 evict-spec =

@@ -1,7 +1,7 @@
 -- `read` meets its contract: the text is checked first, so that `out` stays where it says no value; then `fill` writes it.
 use mathlib.Core.Path.{refl, sym, _∙_}
-use borrow.Author.Tests.{not-true, not-false}
 use Rattle.lent.proofs.Splice.{splice-none}
+use Rattle.lent.proofs.Choices.{test-failed, test-passed}
 use Rattle.hex.proofs.Reading.{length-bytes, read-dash, read-pairs, read-none}
 use borrow.Author.Needs.{needs}
 use Rattle.hex.proofs.read.Statement.{statement}
@@ -17,16 +17,16 @@ is-hex-requires : tie.Need-is-hex-requires
 is-hex-requires c κs = search needs
 
 returns-2 : tie.Need-returns-2
-returns-2 c = rw (read-none (c .before .before .before .before .before .before .args .text .now) (sym (c .before .before .before .is-dash .ensures) ∙ c .before .before .if1 .left) (sym (c .before .is-hex .ensures) ∙ not-true _ (c .if2 .taken))) (refl, sym (splice-none _ _))
+returns-2 c = rw (read-none (c .before .before .before .before .before .before .args .text .now) (sym (c .before .before .before .is-dash .ensures) ∙ c .before .before .if1 .left) (test-failed (c .before .is-hex .ensures) (c .if2 .taken))) (refl, sym (splice-none _ _))
 
 fill-requires : tie.Need-fill-requires
-fill-requires c κs = (sym (c .before .before .is-hex .ensures) ∙ not-false _ (c .before .if2 .left), search needs)
+fill-requires c κs = (test-passed (c .before .before .is-hex .ensures) (c .before .if2 .left), search needs)
 
 same-length : tie.Need-same-length
 same-length c = search needs
 
 returns-3 : tie.Need-returns-3
-returns-3 c = rw (read-pairs (c .before .before .before .before .before .before .before .before .before .before .args .text .now) (sym (c .before .before .before .before .before .before .before .is-dash .ensures) ∙ c .before .before .before .before .before .before .if1 .left) (sym (c .before .before .before .before .before .is-hex .ensures) ∙ not-false _ (c .before .before .before .before .if2 .left)), length-bytes) (refl, c .before .before .fill .ensures)
+returns-3 c = rw (read-pairs (c .before .before .before .before .before .before .before .before .before .before .args .text .now) (sym (c .before .before .before .before .before .before .before .is-dash .ensures) ∙ c .before .before .before .before .before .before .if1 .left) (test-passed (c .before .before .before .before .before .is-hex .ensures) (c .before .before .before .before .if2 .left)), length-bytes) (refl, c .before .before .fill .ensures)
 
 pub read-spec : {M : Type 1} → statement M
 read-spec =

@@ -1,6 +1,6 @@
 -- STATE, CLOCK twice, then ARG, on the state that well-formed bytes hold.
-use mathlib.Core.Path.{sym, _∙_}
-use borrow.Author.Tests.{not-true, not-false, lt-ltb, le-ltb}
+use borrow.Author.Tests.{lt-ltb, le-ltb}
+use Rattle.lent.proofs.Choices.{test-failed, test-passed}
 use Rattle.layout.specs.Layout.{decode}
 use Rattle.layout.proofs.Formed.{formed, holds-decoded}
 use Rattle.numbered.specs.Commands.{unknown}
@@ -13,24 +13,24 @@ well-formed-requires c κs = search needs
 
 returns : tie.Need-returns
 unfolding unknown
-returns c = rw (sym (c .before .well-formed .ensures) ∙ not-true _ (c .if1 .taken))
+returns c = rw (test-failed (c .before .well-formed .ensures) (c .if1 .taken))
 
 clock-requires : tie.Need-clock-requires
-clock-requires c κs = formed _ (sym (c .before .well-formed .ensures) ∙ not-false _ (c .if1 .left)) .size
+clock-requires c κs = formed _ (test-passed (c .before .well-formed .ensures) (c .if1 .left)) .size
 
 returns-2 : tie.Need-returns-2
 unfolding unknown
-returns-2 c = let e = sym (c .before .before .before .well-formed .ensures) ∙ not-false _ (c .before .before .if1 .left) in
+returns-2 c = let e = test-passed (c .before .before .before .well-formed .ensures) (c .before .before .if1 .left) in
     rw (e, ← c .before .clock .ensures (decode (c .before .before .before .before .before .args .state .now)) (holds-decoded (c .before .before .before .before .before .args .state .now) e), lt-ltb _ _ (c .if2 .taken))
 
 returns-3 : tie.Need-returns-3
 unfolding unknown
-returns-3 c = let e = sym (c .before .before .before .before .well-formed .ensures) ∙ not-false _ (c .before .before .before .if1 .left) in
+returns-3 c = let e = test-passed (c .before .before .before .before .well-formed .ensures) (c .before .before .before .if1 .left) in
     rw (e, ← c .before .before .clock .ensures (decode (c .before .before .before .before .before .before .args .state .now)) (holds-decoded (c .before .before .before .before .before .before .args .state .now) e), le-ltb _ _ (c .before .if2 .left), lt-ltb _ _ (c .if3 .taken))
 
 returns-4 : tie.Need-returns-4
 unfolding unknown
-returns-4 c = let e = sym (c .before .before .before .before .well-formed .ensures) ∙ not-false _ (c .before .before .before .if1 .left) in
+returns-4 c = let e = test-passed (c .before .before .before .before .well-formed .ensures) (c .before .before .before .if1 .left) in
     rw (e, ← c .before .before .clock .ensures (decode (c .before .before .before .before .before .before .args .state .now)) (holds-decoded (c .before .before .before .before .before .before .args .state .now) e), le-ltb _ _ (c .before .if2 .left), le-ltb _ _ (c .if3 .left))
 
 pub refuse-unknown-spec : {M : Type 1} → statement M

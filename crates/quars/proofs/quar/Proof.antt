@@ -1,7 +1,7 @@
 -- Key and kind, then the session; an open one goes on by its own number.
 use mathlib.Core.Path.{sym, _∙_}
 use native.Mathlib.Omega.{arith}
-use borrow.Author.Tests.{not-true, not-false}
+use Rattle.lent.proofs.Choices.{test-failed, test-passed}
 use Rattle.machine.proofs.Accepted.{is-kind}
 use Rattle.askers.proofs.Asked.{asks}
 use Rattle.outcome.proofs.Told.{gives}
@@ -17,7 +17,7 @@ is-kind-requires : tie.Need-is-kind-requires
 is-kind-requires c κs = search needs
 
 returns-2 : tie.Need-returns-2
-returns-2 c = λ σ h ok. gives (quar-kind σ _ _ _ (sym (c .before .is-kind .ensures) ∙ not-true _ (c .if2 .taken))) h
+returns-2 c = λ σ h ok. gives (quar-kind σ _ _ _ (test-failed (c .before .is-kind .ensures) (c .if2 .taken))) h
 
 find-requires : tie.Need-find-requires
 find-requires c κs = search needs
@@ -32,16 +32,16 @@ cast-hold : tie.Need-cast-hold
 cast-hold c = search needs
 
 cast-hold-2 : tie.Need-cast-hold-2
-cast-hold-2 c = omega (arith, is-kind (c .before .before .before .before .before .before .before .before .before .before .args .kind) (sym (c .before .before .before .before .before .before .before .is-kind .ensures) ∙ not-false _ (c .before .before .before .before .before .before .if2 .left)) .1)
+cast-hold-2 c = omega (arith, is-kind (c .before .before .before .before .before .before .before .before .before .before .args .kind) (test-passed (c .before .before .before .before .before .before .before .is-kind .ensures) (c .before .before .before .before .before .before .if2 .left)) .1)
 
 hold-requires : tie.Need-hold-requires
-hold-requires c κs = let d = is-kind (c .before .before .before .before .before .before .before .before .before .before .args .kind) (sym (c .before .before .before .before .before .before .before .is-kind .ensures) ∙ not-false _ (c .before .before .before .before .before .before .if2 .left)) in (search needs, (rw (c .before .before .place .given .1) at (c .before .before .before .before .find .ensures .1), (d .0, omega (arith, d .1))))
+hold-requires c κs = let d = is-kind (c .before .before .before .before .before .before .before .before .before .before .args .kind) (test-passed (c .before .before .before .before .before .before .before .is-kind .ensures) (c .before .before .before .before .before .before .if2 .left)) in (search needs, (rw (c .before .before .place .given .1) at (c .before .before .before .before .find .ensures .1), (d .0, omega (arith, d .1))))
 
 same-length : tie.Need-same-length
 same-length c = search needs
 
 returns-3 : tie.Need-returns-3
-returns-3 c = λ σ h ok. gives (quar-refused σ _ _ _ (c .before .before .before .before .before .before .before .if1 .left) (sym (c .before .before .before .before .before .before .is-kind .ensures) ∙ not-false _ (c .before .before .before .before .before .if2 .left)) _ (sym (c .before .before .before .find .ensures .0 σ h) ∙ c .before .e .given .1)) h
+returns-3 c = λ σ h ok. gives (quar-refused σ _ _ _ (c .before .before .before .before .before .before .before .if1 .left) (test-passed (c .before .before .before .before .before .before .is-kind .ensures) (c .before .before .before .before .before .if2 .left)) _ (sym (c .before .before .before .find .ensures .0 σ h) ∙ c .before .e .given .1)) h
 
 same-length-2 : tie.Need-same-length-2
 same-length-2 c = search needs
@@ -50,7 +50,7 @@ returns-4 : tie.Need-returns-4
 returns-4 c = λ σ h ok.
     let q = sym (c .before .before .before .before .before .before .before .find .ensures .0 σ h) ∙ c .before .before .before .before .before .place .given .1 in
     let a = asks σ (c .before .before .before .before .before .before .before .before .before .before .before .before .before .args .session) (c .before .before .before .before .before .place .given .0 .0) (c .before .before .before .before .before .place .given .0 .1 .0) q in
-    rw (quar-open σ (c .before .before .before .before .before .before .before .before .before .before .before .before .before .args .session) (c .before .before .before .before .before .before .before .before .before .before .before .before .before .args .key) (c .before .before .before .before .before .before .before .before .before .before .before .before .before .args .kind) (c .before .before .before .before .before .before .before .before .before .before .before .if1 .left) (sym (c .before .before .before .before .before .before .before .before .before .before .is-kind .ensures) ∙ not-false _ (c .before .before .before .before .before .before .before .before .before .if2 .left)) _ _ q) (rw (a .number) at (c .before .before .hold .ensures σ h ok (stands _ _ _ _ a)))
+    rw (quar-open σ (c .before .before .before .before .before .before .before .before .before .before .before .before .before .args .session) (c .before .before .before .before .before .before .before .before .before .before .before .before .before .args .key) (c .before .before .before .before .before .before .before .before .before .before .before .before .before .args .kind) (c .before .before .before .before .before .before .before .before .before .before .before .if1 .left) (test-passed (c .before .before .before .before .before .before .before .before .before .before .is-kind .ensures) (c .before .before .before .before .before .before .before .before .before .if2 .left)) _ _ q) (rw (a .number) at (c .before .before .hold .ensures σ h ok (stands _ _ _ _ a)))
 
 pub quar-spec : {M : Type 1} → statement M
 quar-spec =

@@ -1,9 +1,9 @@
 -- Whoever is left decides: nobody, one who is not sealed, or one who may go.
 use mathlib.Core.Path.{sym, _∙_}
+use Rattle.lent.proofs.Choices.{test-failed, test-passed}
 use Rattle.machine.specs.State.{sessionOf}
 use Rattle.machine.specs.Expiry.{expire}
 use Rattle.machine.specs.Refusals.{refusals}
-use borrow.Author.Tests.{not-true, not-false}
 use Rattle.refusals.proofs.Lefts.{left-is, left-nobody}
 use borrow.Author.Needs.{needs}
 use Rattle.refusals.proofs.done.Statement.{statement}
@@ -27,11 +27,11 @@ is-sealed-requires c κs = search needs
 
 returns-2 : tie.Need-returns-2
 unfolding refusals
-returns-2 c = λ σ h ok. rw (left-is (sessionOf (expire (c .before .before .before .before .before .before .before .args .time) σ) (c .before .before .before .before .before .before .before .args .session)) (c .before .before .before .x .given .0 .0) (sym (c .before .before .before .before .before .session .ensures σ h ok) ∙ c .before .before .before .x .given .1), sym (c .before .is-sealed .ensures) ∙ not-true _ (c .if1 .taken))
+returns-2 c = λ σ h ok. rw (left-is (sessionOf (expire (c .before .before .before .before .before .before .before .args .time) σ) (c .before .before .before .before .before .before .before .args .session)) (c .before .before .before .x .given .0 .0) (sym (c .before .before .before .before .before .session .ensures σ h ok) ∙ c .before .before .before .x .given .1), test-failed (c .before .is-sealed .ensures) (c .if1 .taken))
 
 returns-3 : tie.Need-returns-3
 unfolding refusals
-returns-3 c = λ σ h ok. rw (left-is (sessionOf (expire (c .before .before .before .before .before .before .before .args .time) σ) (c .before .before .before .before .before .before .before .args .session)) (c .before .before .before .x .given .0 .0) (sym (c .before .before .before .before .before .session .ensures σ h ok) ∙ c .before .before .before .x .given .1), sym (c .before .is-sealed .ensures) ∙ not-false _ (c .if1 .left))
+returns-3 c = λ σ h ok. rw (left-is (sessionOf (expire (c .before .before .before .before .before .before .before .args .time) σ) (c .before .before .before .before .before .before .before .args .session)) (c .before .before .before .x .given .0 .0) (sym (c .before .before .before .before .before .session .ensures σ h ok) ∙ c .before .before .before .x .given .1), test-passed (c .before .is-sealed .ensures) (c .if1 .left))
 
 pub done-spec : {M : Type 1} → statement M
 done-spec =

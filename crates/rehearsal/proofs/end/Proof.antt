@@ -1,6 +1,5 @@
 -- Buffers that are not lent right are left alone; else the two counts are printed.
-use mathlib.Core.Path.{sym, _∙_}
-use borrow.Author.Tests.{not-true, not-false}
+use Rattle.lent.proofs.Choices.{test-failed, test-passed}
 use Rattle.rehearsal.proofs.Turns.{lent-sizes, end-idle, end-printed}
 use borrow.Author.Needs.{needs}
 use Rattle.rehearsal.proofs.end.Statement.{statement}
@@ -13,22 +12,22 @@ same-length : tie.Need-same-length
 same-length c = search needs
 
 returns : tie.Need-returns
-returns c = end-idle _ _ (sym (c .before .lent-right .ensures) ∙ not-true _ (c .if1 .taken))
+returns c = end-idle _ _ (test-failed (c .before .lent-right .ensures) (c .if1 .taken))
 
 lines-requires : tie.Need-lines-requires
-lines-requires c κs = lent-sizes (c .before .before .before .before .before .args .book .now) (c .before .before .before .before .before .args .out .now) (sym (c .before .lent-right .ensures) ∙ not-false _ (c .if1 .left)) .0
+lines-requires c κs = lent-sizes (c .before .before .before .before .before .args .book .now) (c .before .before .before .before .before .args .out .now) (test-passed (c .before .lent-right .ensures) (c .if1 .left)) .0
 
 broken-requires : tie.Need-broken-requires
-broken-requires c κs = lent-sizes (c .before .before .before .before .before .before .args .book .now) (c .before .before .before .before .before .before .args .out .now) (sym (c .before .before .lent-right .ensures) ∙ not-false _ (c .before .if1 .left)) .0
+broken-requires c κs = lent-sizes (c .before .before .before .before .before .before .args .book .now) (c .before .before .before .before .before .before .args .out .now) (test-passed (c .before .before .lent-right .ensures) (c .before .if1 .left)) .0
 
 end-requires : tie.Need-end-requires
-end-requires c κs = lent-sizes (c .before .before .before .before .before .before .before .before .args .book .now) (c .before .before .before .before .before .before .before .before .args .out .now) (sym (c .before .before .before .before .lent-right .ensures) ∙ not-false _ (c .before .before .before .if1 .left)) .1
+end-requires c κs = lent-sizes (c .before .before .before .before .before .before .before .before .args .book .now) (c .before .before .before .before .before .before .before .before .args .out .now) (test-passed (c .before .before .before .before .lent-right .ensures) (c .before .before .before .if1 .left)) .1
 
 same-length-2 : tie.Need-same-length-2
 same-length-2 c = search needs
 
 returns-2 : tie.Need-returns-2
-returns-2 c = end-printed _ _ (sym (c .before .before .before .before .before .before .before .lent-right .ensures) ∙ not-false _ (c .before .before .before .before .before .before .if1 .left)) _ _ _ _ (c .before .before .before .before .before .lines .ensures) (c .before .before .before .before .broken .ensures) (c .before .before .end .ensures)
+returns-2 c = end-printed _ _ (test-passed (c .before .before .before .before .before .before .before .lent-right .ensures) (c .before .before .before .before .before .before .if1 .left)) _ _ _ _ (c .before .before .before .before .before .lines .ensures) (c .before .before .before .before .broken .ensures) (c .before .before .end .ensures)
 
 pub end-spec : {M : Type 1} → statement M
 end-spec =

@@ -1,6 +1,5 @@
 -- Buffers that are not lent right are left alone; else what is said of the line is printed.
-use mathlib.Core.Path.{sym, _∙_}
-use borrow.Author.Tests.{not-true, not-false}
+use Rattle.lent.proofs.Choices.{test-failed, test-passed}
 use Rattle.rehearsal.proofs.Turns.{lent-sizes, line-idle, line-printed, said-within}
 use borrow.Author.Needs.{needs}
 use Rattle.rehearsal.proofs.line.Statement.{statement}
@@ -16,16 +15,16 @@ same-length-2 : tie.Need-same-length-2
 same-length-2 c = search needs
 
 returns : tie.Need-returns
-returns c = line-idle _ _ _ _ (sym (c .before .lent-right .ensures) ∙ not-true _ (c .if1 .taken))
+returns c = line-idle _ _ _ _ (test-failed (c .before .lent-right .ensures) (c .if1 .taken))
 
 slice-aggregate-act : tie.Need-slice-aggregate-act
 slice-aggregate-act c = search needs
 
 act-requires : tie.Need-act-requires
-act-requires c κs = (lent-sizes (c .before .before .before .before .before .before .before .before .before .before .before .args .book .now) (c .before .before .before .before .before .before .before .before .before .before .before .args .out .now) (sym (c .before .before .before .before .lent-right .ensures) ∙ not-false _ (c .before .before .before .if1 .left)) .0, search needs)
+act-requires c κs = (lent-sizes (c .before .before .before .before .before .before .before .before .before .before .before .args .book .now) (c .before .before .before .before .before .before .before .before .before .before .before .args .out .now) (test-passed (c .before .before .before .before .lent-right .ensures) (c .before .before .before .if1 .left)) .0, search needs)
 
 say-requires : tie.Need-say-requires
-say-requires c κs = let l = lent-sizes (c .before .before .before .before .before .before .before .before .before .before .before .before .before .before .before .before .before .before .before .before .args .book .now) (c .before .before .before .before .before .before .before .before .before .before .before .before .before .before .before .before .before .before .before .before .args .out .now) (sym (c .before .before .before .before .before .before .before .before .before .before .before .before .before .lent-right .ensures) ∙ not-false _ (c .before .before .before .before .before .before .before .before .before .before .before .before .if1 .left)) in
+say-requires c κs = let l = lent-sizes (c .before .before .before .before .before .before .before .before .before .before .before .before .before .before .before .before .before .before .before .before .args .book .now) (c .before .before .before .before .before .before .before .before .before .before .before .before .before .before .before .before .before .before .before .before .args .out .now) (test-passed (c .before .before .before .before .before .before .before .before .before .before .before .before .before .lent-right .ensures) (c .before .before .before .before .before .before .before .before .before .before .before .before .if1 .left)) in
     (search (needs, l), (search (needs, l), said-within _ _ _ _ _ _ (c .before .before .before .before .before .before .before .before .act .ensures) (search needs)))
 
 same-length-3 : tie.Need-same-length-3
@@ -38,7 +37,7 @@ same-length-5 : tie.Need-same-length-5
 same-length-5 c = search needs
 
 returns-2 : tie.Need-returns-2
-returns-2 c = line-printed _ _ _ _ (sym (c .before .before .before .before .before .before .before .before .before .before .before .before .before .before .before .before .before .before .lent-right .ensures) ∙ not-false _ (c .before .before .before .before .before .before .before .before .before .before .before .before .before .before .before .before .before .if1 .left)) _ _ _ _ _ _ (c .before .before .before .before .before .before .before .before .before .before .before .before .before .act .ensures) (c .before .before .before .before .say .ensures)
+returns-2 c = line-printed _ _ _ _ (test-passed (c .before .before .before .before .before .before .before .before .before .before .before .before .before .before .before .before .before .before .lent-right .ensures) (c .before .before .before .before .before .before .before .before .before .before .before .before .before .before .before .before .before .if1 .left)) _ _ _ _ _ _ (c .before .before .before .before .before .before .before .before .before .before .before .before .before .act .ensures) (c .before .before .before .before .say .ensures)
 
 pub line-spec : {M : Type 1} → statement M
 line-spec =

@@ -1,6 +1,5 @@
 -- A C line counts only after START has answered READY; then it is the write.
-use mathlib.Core.Path.{sym, _∙_}
-use borrow.Author.Tests.{not-true, not-false}
+use Rattle.lent.proofs.Choices.{test-failed, test-passed}
 use Rattle.rehearsal.proofs.Turns.{here, not-taken, write-early, write-started}
 use borrow.Author.Needs.{needs}
 use Rattle.rehearsal.proofs.write.Statement.{statement}
@@ -16,7 +15,7 @@ same-length : tie.Need-same-length
 same-length c = search needs
 
 returns : tie.Need-returns
-returns c = λ l. not-taken _ _ _ _ (c .unreadable .ensures) (write-early _ _ _ _ l _ (sym (c .before .before .started .ensures) ∙ not-true _ (c .before .if1 .taken)))
+returns c = λ l. not-taken _ _ _ _ (c .unreadable .ensures) (write-early _ _ _ _ l _ (test-failed (c .before .before .started .ensures) (c .before .if1 .taken)))
 
 write-requires : tie.Need-write-requires
 write-requires c κs = search needs
@@ -28,7 +27,7 @@ same-length-3 : tie.Need-same-length-3
 same-length-3 c = search needs
 
 returns-2 : tie.Need-returns-2
-returns-2 c = λ l. rw (write-started (c .before .before .before .before .before .before .before .before .before .before .before .args .cache .now) (c .before .before .before .before .before .before .before .before .before .before .before .args .book .now) (c .before .before .before .before .before .before .before .before .before .before .before .args .session) (c .before .before .before .before .before .before .before .before .before .before .before .args .key) l (c .before .before .before .before .before .before .before .before .before .before .before .args .value .now) (sym (c .before .before .before .before .before .before .started .ensures) ∙ not-false _ (c .before .before .before .before .before .if1 .left))) (here (c .before .before .write .ensures))
+returns-2 c = λ l. rw (write-started (c .before .before .before .before .before .before .before .before .before .before .before .args .cache .now) (c .before .before .before .before .before .before .before .before .before .before .before .args .book .now) (c .before .before .before .before .before .before .before .before .before .before .before .args .session) (c .before .before .before .before .before .before .before .before .before .before .before .args .key) l (c .before .before .before .before .before .before .before .before .before .before .before .args .value .now) (test-passed (c .before .before .before .before .before .before .started .ensures) (c .before .before .before .before .before .if1 .left))) (here (c .before .before .write .ensures))
 
 pub write-spec : {M : Type 1} → statement M
 write-spec =

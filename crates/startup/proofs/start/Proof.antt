@@ -1,7 +1,7 @@
 -- Each test that refuses, in its order, then the fresh state.
 use native.Mathlib.Omega.{arith}
-use mathlib.Core.Path.{refl, sym, _∙_}
-use borrow.Author.Tests.{not-true, not-false}
+use mathlib.Core.Path.{refl}
+use Rattle.lent.proofs.Choices.{test-failed, test-passed}
 use Rattle.startup.proofs.Started.{started-size, started-read, started-write, started-ready, lifetime-small}
 use borrow.Author.Needs.{needs}
 use Rattle.startup.proofs.start.Statement.{statement}
@@ -14,19 +14,19 @@ is-lifetime-requires : tie.Need-is-lifetime-requires
 is-lifetime-requires c κs = search needs
 
 returns-2 : tie.Need-returns-2
-returns-2 c = rw (started-read (c .before .before .before .before .args .s .now) (c .before .before .before .before .args .read) (c .before .before .before .before .args .write) (omega arith) (sym (c .before .is-lifetime .ensures) ∙ not-true _ (c .if2 .taken))) (refl, refl)
+returns-2 c = rw (started-read (c .before .before .before .before .args .s .now) (c .before .before .before .before .args .read) (c .before .before .before .before .args .write) (omega arith) (test-failed (c .before .is-lifetime .ensures) (c .if2 .taken))) (refl, refl)
 
 is-lifetime-requires-2 : tie.Need-is-lifetime-requires-2
 is-lifetime-requires-2 c κs = search needs
 
 returns-3 : tie.Need-returns-3
-returns-3 c = rw (started-write (c .before .before .before .before .before .before .args .s .now) (c .before .before .before .before .before .before .args .read) (c .before .before .before .before .before .before .args .write) (omega arith) (sym (c .before .is-lifetime2 .ensures) ∙ not-true _ (c .if3 .taken))) (refl, refl)
+returns-3 c = rw (started-write (c .before .before .before .before .before .before .args .s .now) (c .before .before .before .before .before .before .args .read) (c .before .before .before .before .before .before .args .write) (omega arith) (test-failed (c .before .is-lifetime2 .ensures) (c .if3 .taken))) (refl, refl)
 
 cast-write-fresh : tie.Need-cast-write-fresh
-cast-write-fresh c = omega (arith, lifetime-small (c .before .before .before .before .before .before .before .args .read) (sym (c .before .before .before .before .is-lifetime .ensures) ∙ not-false _ (c .before .before .before .if2 .left)))
+cast-write-fresh c = omega (arith, lifetime-small (c .before .before .before .before .before .before .before .args .read) (test-passed (c .before .before .before .before .is-lifetime .ensures) (c .before .before .before .if2 .left)))
 
 cast-write-fresh-2 : tie.Need-cast-write-fresh-2
-cast-write-fresh-2 c = omega (arith, lifetime-small (c .before .before .before .before .before .before .before .args .write) (sym (c .before .before .is-lifetime2 .ensures) ∙ not-false _ (c .before .if3 .left)))
+cast-write-fresh-2 c = omega (arith, lifetime-small (c .before .before .before .before .before .before .before .args .write) (test-passed (c .before .before .is-lifetime2 .ensures) (c .before .if3 .left)))
 
 write-fresh-requires : tie.Need-write-fresh-requires
 write-fresh-requires c κs = search needs
@@ -35,7 +35,7 @@ same-length : tie.Need-same-length
 same-length c = search needs
 
 returns-4 : tie.Need-returns-4
-returns-4 c = rw (started-ready (c .before .before .before .before .before .before .before .before .before .before .args .s .now) (c .before .before .before .before .before .before .before .before .before .before .args .read) (c .before .before .before .before .before .before .before .before .before .before .args .write) (omega arith) (sym (c .before .before .before .before .before .before .before .is-lifetime .ensures) ∙ not-false _ (c .before .before .before .before .before .before .if2 .left)) (sym (c .before .before .before .before .before .is-lifetime2 .ensures) ∙ not-false _ (c .before .before .before .before .if3 .left)))
+returns-4 c = rw (started-ready (c .before .before .before .before .before .before .before .before .before .before .args .s .now) (c .before .before .before .before .before .before .before .before .before .before .args .read) (c .before .before .before .before .before .before .before .before .before .before .args .write) (omega arith) (test-passed (c .before .before .before .before .before .before .before .is-lifetime .ensures) (c .before .before .before .before .before .before .if2 .left)) (test-passed (c .before .before .before .before .before .is-lifetime2 .ensures) (c .before .before .before .before .if3 .left)))
     (refl, c .before .before .write-fresh .ensures)
 
 pub start-spec : {M : Type 1} → statement M

@@ -1,13 +1,14 @@
 -- After k turns each of the first k keys is formed, and their tokens are distinct and have their seats.
 use mathlib.Core.Bool.{true, false, and-false}
 use Prim.Native.Nat.{_+_, _-_, _*_, _≤_}
-use mathlib.Core.Path.{_≡_, sym, _∙_}
+use mathlib.Core.Path.{_≡_}
 use native.Mathlib.Omega.{arith}
 use borrow.Author.Needs.{needs}
-use borrow.Author.Tests.{not-true, not-false}
+use borrow.Author.Tests.{not-false}
 use Rattle.lent.specs.Bytes.{win}
 use Rattle.lent.specs.Tables.{every}
 use Rattle.lent.proofs.Walks.{every-none, every-more, every-fails}
+use Rattle.lent.proofs.Choices.{test-failed}
 use Rattle.machine.specs.Sizes.{keyCount, keysFrom, keyWidth}
 use Rattle.machine.specs.Sound.{distinct}
 use Rattle.layout.specs.Layout.{decHead}
@@ -63,7 +64,7 @@ token-enters-requires c κs = (search needs, (search needs, c .before .before .b
 
 returns-2 : tie.Need-returns-2 Inv-loop μ-loop
 unfolding keysFit distinct
-returns-2 c = let f : distinct (numbers (c .before .before .before .before .before .before .before .before .before .before .before .before .args .s .now) (keysFrom + 4) keyWidth) keyCount ≡ false = every-fails _ keyCount (c .before .before .before .before .before .before .before .before .loop .k) (search needs) (sym (c .before .token-enters .ensures .0) ∙ not-true _ (c .if2 .taken)) in rw (f, and-false)
+returns-2 c = let f : distinct (numbers (c .before .before .before .before .before .before .before .before .before .before .before .before .args .s .now) (keysFrom + 4) keyWidth) keyCount ≡ false = every-fails _ keyCount (c .before .before .before .before .before .before .before .before .loop .k) (search needs) (test-failed (c .before .token-enters .ensures .0) (c .if2 .taken)) in rw (f, and-false)
 
 add-k : tie.Need-add-k Inv-loop μ-loop
 add-k c = search needs

@@ -1,13 +1,14 @@
 -- After i turns each of the first i rows is formed and joins, and all is known at row i that `join` asks.
 use Prim.Native.Nat.{_+_, _-_, _*_, _≤_}
-use mathlib.Core.Path.{_≡_, sym, _∙_}
+use mathlib.Core.Path.{_≡_}
 use mathlib.Core.Bool.{true, false, and-false}
 use native.Mathlib.Omega.{arith}
 use borrow.Author.Needs.{needs}
-use borrow.Author.Tests.{not-true, not-false}
+use borrow.Author.Tests.{not-false}
 use Rattle.lent.specs.Bytes.{win}
 use Rattle.lent.specs.Tables.{every}
 use Rattle.lent.proofs.Walks.{every-none, every-more, every-fails}
+use Rattle.lent.proofs.Choices.{test-failed, test-passed}
 use Rattle.machine.specs.Sizes.{rowCount, rowsFrom, rowWidth}
 use Rattle.joins.specs.Joins.{joinOk, Ready}
 use Rattle.joins.proofs.Entered.{ready-none}
@@ -55,7 +56,7 @@ join-requires c κs = (search needs, (search needs, (c .before .before .before .
 
 returns-2 : tie.Need-returns-2 Inv-loop μ-loop
 unfolding rowsFit
-returns-2 c = let f : every (joinOk (c .before .before .before .before .before .before .before .before .before .before .before .before .args .s .now)) rowCount ≡ false = every-fails _ rowCount (c .before .before .before .before .before .before .before .before .before .before .loop .i) (search needs) (sym (c .before .join .ensures .is) ∙ not-true _ (c .if2 .taken)) in rw (f, and-false)
+returns-2 c = let f : every (joinOk (c .before .before .before .before .before .before .before .before .before .before .before .before .args .s .now)) rowCount ≡ false = every-fails _ rowCount (c .before .before .before .before .before .before .before .before .before .before .loop .i) (search needs) (test-failed (c .before .join .ensures .is) (c .if2 .taken)) in rw (f, and-false)
 
 add-i : tie.Need-add-i Inv-loop μ-loop
 add-i c = search needs
@@ -64,7 +65,7 @@ loop-less : tie.Need-loop-less Inv-loop μ-loop
 loop-less c = search needs
 
 loop-again : tie.Need-loop-again Inv-loop μ-loop
-loop-again c = (search needs, (every-more _ _ (c .before .before .before .before .before .before .before .before .before .before .loop .inv .1 .0) (record-passed rowFormed (c .before .before .before .before .before .before .before .before .before .before .before .before .args .s .now) _ rowWidth (c .before .before .before .before .before .before .before .row-formed .ensures) (c .before .before .before .before .before .before .if1 .left)), (every-more _ _ (c .before .before .before .before .before .before .before .before .before .before .loop .inv .1 .1 .0) (sym (c .before .join .ensures .is) ∙ not-false _ (c .if2 .left)), c .before .join .ensures .next (not-false _ (c .if2 .left)))))
+loop-again c = (search needs, (every-more _ _ (c .before .before .before .before .before .before .before .before .before .before .loop .inv .1 .0) (record-passed rowFormed (c .before .before .before .before .before .before .before .before .before .before .before .before .args .s .now) _ rowWidth (c .before .before .before .before .before .before .before .row-formed .ensures) (c .before .before .before .before .before .before .if1 .left)), (every-more _ _ (c .before .before .before .before .before .before .before .before .before .before .loop .inv .1 .1 .0) (test-passed (c .before .join .ensures .is) (c .if2 .left)), c .before .join .ensures .next (not-false _ (c .if2 .left)))))
 
 returns-3 : tie.Need-returns-3 Inv-loop μ-loop
 unfolding rowsFit rowsFormed

@@ -1,10 +1,10 @@
 -- After j turns each of the first j sessions is formed, and their numbers are distinct and have their seats.
 use mathlib.Core.Bool.{true, false, and-false}
 use Prim.Native.Nat.{_+_, _-_, _*_, _≤_}
-use mathlib.Core.Path.{_≡_, refl, sym, _∙_}
+use mathlib.Core.Path.{_≡_, refl}
 use native.Mathlib.Omega.{arith}
 use borrow.Author.Needs.{needs}
-use borrow.Author.Tests.{not-true, not-false}
+use borrow.Author.Tests.{not-false}
 use Rattle.lent.specs.Bytes.{win}
 use Rattle.lent.specs.Tables.{every}
 use Rattle.lent.proofs.Walks.{every-none, every-more, every-fails}
@@ -12,7 +12,7 @@ use Rattle.machine.specs.Sizes.{sessionCount, sessionsFrom, sessionWidth}
 use Rattle.machine.specs.Sound.{distinct}
 use Rattle.layout.specs.Layout.{decHead}
 use Rattle.joins.specs.Joins.{numbers, Entered}
-use Rattle.lent.proofs.Choices.{clash}
+use Rattle.lent.proofs.Choices.{clash, test-failed}
 use Rattle.state.specs.Forms.{sessionFormed, sessionsFormed, sessionsFit}
 use Rattle.state.proofs.Tests.{record-failed, record-passed}
 use Rattle.state.proofs.sessions_fit.Statement.{statement}
@@ -63,7 +63,7 @@ session-enters-requires c κs = (search needs, (search needs, c .before .before 
 
 returns-2 : tie.Need-returns-2 Inv-loop μ-loop
 unfolding sessionsFit distinct
-returns-2 c = let f : distinct (numbers (c .before .before .before .before .before .before .before .before .before .before .before .before .args .s .now) sessionsFrom sessionWidth) sessionCount ≡ false = every-fails _ sessionCount (c .before .before .before .before .before .before .before .before .loop .j) (search needs) (sym (c .before .session-enters .ensures .0) ∙ not-true _ (c .if2 .taken)) in (rw (f, and-false), λ o. clash false o refl)
+returns-2 c = let f : distinct (numbers (c .before .before .before .before .before .before .before .before .before .before .before .before .args .s .now) sessionsFrom sessionWidth) sessionCount ≡ false = every-fails _ sessionCount (c .before .before .before .before .before .before .before .before .loop .j) (search needs) (test-failed (c .before .session-enters .ensures .0) (c .if2 .taken)) in (rw (f, and-false), λ o. clash false o refl)
 
 add-j : tie.Need-add-j Inv-loop μ-loop
 add-j c = search needs

@@ -1,12 +1,12 @@
 -- A session that is not due stays and nothing is noted; one that is due is freed, and its number stands behind those noted before.
-use mathlib.Core.Path.{_≡_, sym, _∙_}
+use mathlib.Core.Path.{_≡_, sym}
 use mathlib.Core.Bool.{true, false}
 use mathlib.Core.List.{append-nil}
 use native.Mathlib.Numerals.{add-one}
 use native.Mathlib.Omega.{arith}
 use lib.Seq.{take-suc-set}
-use borrow.Author.Tests.{not-true, not-false}
 use borrow.Author.Needs.{needs}
+use Rattle.lent.proofs.Choices.{test-failed, test-passed}
 use Rattle.machine.specs.State.{sessionAt}
 use Rattle.deadlines.specs.Deadlines.{dueSlot}
 use Rattle.sweep.proofs.Steps.{session-stays, session-ends, noted-not, noted-is}
@@ -23,7 +23,7 @@ returns : tie.Need-returns
 returns c = let args = c .before .before .before .before .before .args in (
   search needs,
   λ σ h.
-      let stays : dueSlot (args .time) (sessionAt σ (args .i)) ≡ false = sym (c .before .session-due .ensures σ h) ∙ not-true _ (c .if1 .taken) in
+      let stays : dueSlot (args .time) (sessionAt σ (args .i)) ≡ false = test-failed (c .before .session-due .ensures σ h) (c .if1 .taken) in
       (rw (session-stays _ _ σ stays) h, rw (noted-not _ _ stays) (sym (append-nil _))),
 )
 
@@ -56,7 +56,7 @@ returns-2 c = let free = c .before .before .free in
     let args = c .before .before .before .before .before .before .before .before .before .before .before .args in (
       search needs,
       λ σ h.
-          let ends : dueSlot (args .time) (sessionAt σ (args .i)) ≡ true = sym (session-due .ensures σ h) ∙ not-false _ (if1 .left) in (
+          let ends : dueSlot (args .time) (sessionAt σ (args .i)) ≡ true = test-passed (session-due .ensures σ h) (if1 .left) in (
             rw (session-ends _ _ σ ends) (free .ensures σ h),
             rw (noted-is _ _ ends, ← (number .ensures σ h), add-one) (take-suc-set (args .ns .now) (args .count) (number .result) (omega arith)),
           ),

@@ -1,9 +1,9 @@
 -- An open session is refused (`done-open`); a sealed one finishes, the session at the place being that of the number (`number-here`).
+use Rattle.lent.proofs.Choices.{test-failed, test-passed}
 use Rattle.outcome.proofs.Told.{gives}
 use Rattle.machine.specs.State.{sessionAt}
 use Rattle.turns.proofs.Cases.{located, done-open, done-is, number-here, finished-is, live-is, number-in}
 use mathlib.Core.Path.{sym, ap, _∙_}
-use borrow.Author.Tests.{not-true, not-false}
 use Rattle.machine.specs.Session.{isSealed}
 use Rattle.machine.specs.declared.Session.{Session}
 use borrow.Author.Needs.{needs}
@@ -23,7 +23,7 @@ returns : tie.Need-returns
 returns c = λ σ h ok p.
     let w = located σ (c .before .before .before .before .before .args .session) (c .before .before .before .before .before .args .i) ok p (search needs) in
     let x = live-is σ ok (c .before .before .before .before .before .args .session) (c .before .before .before .before .before .args .i) w (c .before .before .load .result) (c .before .before .load .ensures σ h) in
-    gives (done-open σ (c .before .before .before .before .before .args .session) (w .live) (w .of) (sym (ap isSealed x) ∙ sym (c .before .is-sealed .ensures) ∙ not-true _ (c .if1 .taken))) h
+    gives (done-open σ (c .before .before .before .before .before .args .session) (w .live) (w .of) (sym (ap isSealed x) ∙ test-failed (c .before .is-sealed .ensures) (c .if1 .taken))) h
 
 finish-requires : tie.Need-finish-requires
 finish-requires c κs = search needs
@@ -36,7 +36,7 @@ returns-2 c = λ σ h ok p.
     let w = located σ (c .before .before .before .before .before .before .before .before .before .args .session) (c .before .before .before .before .before .before .before .before .before .args .i) ok p (search needs) in
     let x = live-is σ ok (c .before .before .before .before .before .before .before .before .before .args .session) (c .before .before .before .before .before .before .before .before .before .args .i) w (c .before .before .before .before .before .before .load .result) (c .before .before .before .before .before .before .load .ensures σ h) in
     let e = ap (λ (y : Session). y .number) (c .before .before .before .before .before .before .load .ensures σ h) ∙ number-in (sessionAt σ (c .before .before .before .before .before .before .before .before .before .args .i)) in
-    gives (done-is σ (c .before .before .before .before .before .before .before .before .before .args .session) (w .live) (w .of) (sym (ap isSealed x) ∙ sym (c .before .before .before .before .before .is-sealed .ensures) ∙ not-false _ (c .before .before .before .before .if1 .left)))
+    gives (done-is σ (c .before .before .before .before .before .before .before .before .before .args .session) (w .live) (w .of) (sym (ap isSealed x) ∙ test-passed (c .before .before .before .before .before .is-sealed .ensures) (c .before .before .before .before .if1 .left)))
     (rw (← finished-is σ ok (c .before .before .before .before .before .before .before .before .before .args .session) (c .before .before .before .before .before .before .before .before .before .args .i) w (c .before .before .before .before .before .before .load .result .number) e) (c .before .before .finish .ensures σ h ok (number-here σ ok (c .before .before .before .before .before .before .before .before .before .args .session) (c .before .before .before .before .before .before .before .before .before .args .i) w (c .before .before .before .before .before .before .load .result .number) e)))
 
 pub done-at-spec : {M : Type 1} → statement M

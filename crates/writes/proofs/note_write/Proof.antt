@@ -2,7 +2,7 @@
 use mathlib.Core.Path.{_≡_, sym, _∙_}
 use mathlib.Core.Bool.{true}
 use Prim.Native.Nat.{_<_}
-use borrow.Author.Tests.{not-true, not-false}
+use Rattle.lent.proofs.Choices.{test-failed, test-passed}
 use Rattle.machine.specs.Sizes.{stateSize, sessionCount}
 use lib.ListN.{length}
 use Rattle.layout.specs.Layout.{decode}
@@ -17,16 +17,16 @@ well-formed-requires : tie.Need-well-formed-requires
 well-formed-requires c κs = search needs
 
 returns : tie.Need-returns
-returns c = written-damaged (c .before .before .before .before .args .cache .now) (c .before .before .before .before .args .book .now) (c .before .before .before .before .args .session) (c .before .before .before .before .args .key) (sym (c .before .well-formed .ensures) ∙ not-true _ (c .if1 .taken))
+returns c = written-damaged (c .before .before .before .before .args .cache .now) (c .before .before .before .before .args .book .now) (c .before .before .before .before .args .session) (c .before .before .before .before .args .key) (test-failed (c .before .well-formed .ensures) (c .if1 .taken))
 
 find-requires : tie.Need-find-requires
-find-requires c κs = formed (c .before .before .before .before .args .cache .now) (sym (c .before .well-formed .ensures) ∙ not-false _ (c .if1 .left)) .size
+find-requires c κs = formed (c .before .before .before .before .args .cache .now) (test-passed (c .before .well-formed .ensures) (c .if1 .left)) .size
 
 enum-known-place : tie.Need-enum-known-place
 enum-known-place c = search needs
 
 mark-write-requires : tie.Need-mark-write-requires
-mark-write-requires c κs = let z : length (c .before .before .before .before .before .before .before .before .before .args .cache .now) ≡ stateSize = formed (c .before .before .before .before .before .before .before .before .before .args .cache .now) (sym (c .before .before .before .before .before .before .well-formed .ensures) ∙ not-false _ (c .before .before .before .before .before .if1 .left)) .size in
+mark-write-requires c κs = let z : length (c .before .before .before .before .before .before .before .before .before .args .cache .now) ≡ stateSize = formed (c .before .before .before .before .before .before .before .before .before .args .cache .now) (test-passed (c .before .before .before .before .before .before .well-formed .ensures) (c .before .before .before .before .before .if1 .left)) .size in
     let l : c .before .before .place .given .0 .0 < sessionCount = rw (c .before .before .place .given .1) at (c .before .before .before .before .find .ensures .1) in
     (z, (c .before .before .before .before .before .before .before .before .before .pre, l))
 
@@ -37,11 +37,11 @@ same-length : tie.Need-same-length
 same-length c = search needs
 
 returns-2 : tie.Need-returns-2
-returns-2 c = let e : wellFormed (c .before .before .before .before .before .before .before .before .before .before .before .before .args .cache .now) ≡ true = sym (c .before .before .before .before .before .before .before .before .before .well-formed .ensures) ∙ not-false _ (c .before .before .before .before .before .before .before .before .if1 .left) in
+returns-2 c = let e : wellFormed (c .before .before .before .before .before .before .before .before .before .before .before .before .args .cache .now) ≡ true = test-passed (c .before .before .before .before .before .before .before .before .before .well-formed .ensures) (c .before .before .before .before .before .before .before .before .if1 .left) in
     written-at (c .before .before .before .before .before .before .before .before .before .before .before .before .args .cache .now) (c .before .before .before .before .before .before .before .before .before .before .before .before .args .book .now) (c .before .before .before .before .before .before .before .before .before .before .before .before .args .session) (c .before .before .before .before .before .before .before .before .before .before .before .before .args .key) e _ _ _ (sym (c .before .before .before .before .before .before .before .find .ensures .0 (decode (c .before .before .before .before .before .before .before .before .before .before .before .before .args .cache .now)) (holds-decoded (c .before .before .before .before .before .before .before .before .before .before .before .before .args .cache .now) e)) ∙ c .before .before .before .before .before .place .given .1) (c .before .before .mark-write .ensures)
 
 returns-3 : tie.Need-returns-3
-returns-3 c = let e : wellFormed (c .before .before .before .before .before .before .before .args .cache .now) ≡ true = sym (c .before .before .before .before .well-formed .ensures) ∙ not-false _ (c .before .before .before .if1 .left) in
+returns-3 c = let e : wellFormed (c .before .before .before .before .before .before .before .args .cache .now) ≡ true = test-passed (c .before .before .before .before .well-formed .ensures) (c .before .before .before .if1 .left) in
     written-nobody (c .before .before .before .before .before .before .before .args .cache .now) (c .before .before .before .before .before .before .before .args .book .now) (c .before .before .before .before .before .before .before .args .session) (c .before .before .before .before .before .before .before .args .key) e (sym (c .before .before .find .ensures .0 (decode (c .before .before .before .before .before .before .before .args .cache .now)) (holds-decoded (c .before .before .before .before .before .before .before .args .cache .now) e)) ∙ c .enum-told .given .1)
 
 pub note-write-spec : {M : Type 1} → statement M
