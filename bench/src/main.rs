@@ -15,8 +15,8 @@ use works::{Trial, PARTS, WORKS};
 const USAGE: &str = "usage:
   bench times                         ns of the check
   bench commands                      commands a second
-  bench call WHO STATE TIMES          the check alone; WHO is plain, proved or second, STATE fresh, light, full, colliding, one-slot,
-                                      crowded, falling, pair, packed, chained or worst
+  bench call WHO STATE TIMES          the check alone; WHO is plain, proved or second, STATE fresh, light, full, random, climbing,
+                                      falling, mixed, pair, idle, leases, or any-N, the Nth of many made by chance
   bench work PART STATE WORK TIMES    PART is proved, second, proved-check, second-check or nothing, STATE light or full,
                                       WORK get-hit, get-miss, session or sweep";
 
@@ -68,7 +68,7 @@ fn commands() {
     println!("{:<6} {:<9} {:>9} {:>6} {:>9} {:>6} {:>14}", "state", "work", "proved/s", "check", "second/s", "check", "proved/second");
     for plan in ["light", "full"] {
         for work in &WORKS {
-            let mut trial = Trial::new(named(plan).expect("a plan"), work);
+            let mut trial = Trial::new(&named(plan).expect("a plan"), work);
             let mut best = [f64::MAX; PARTS.len()];
             for _ in 0..60 {
                 for (best, (_, part)) in best.iter_mut().zip(PARTS) {
@@ -89,14 +89,14 @@ fn commands() {
 
 fn call(who: &str, plan: &str, times: &str) -> Option<()> {
     let (_, judge) = JUDGES.iter().find(|judge| judge.0 == who)?;
-    judged(&state(named(plan)?), *judge, times.parse().ok()?);
+    judged(&state(&named(plan)?), *judge, times.parse().ok()?);
     Some(())
 }
 
 fn work(part: &str, plan: &str, work: &str, times: &str) -> Option<()> {
     let (_, part) = PARTS.iter().find(|known| known.0 == part)?;
     let work = WORKS.iter().find(|known| known.name == work)?;
-    Trial::new(named(plan)?, work).repeat(*part, times.parse().ok()?);
+    Trial::new(&named(plan)?, work).repeat(*part, times.parse().ok()?);
     Some(())
 }
 
