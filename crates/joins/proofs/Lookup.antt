@@ -7,10 +7,10 @@ use Prim.Native.Nat.{ℕ, _+_, _-_, _≤_, _<_}
 use native.Mathlib.Numerals.{add-one}
 use native.Mathlib.Omega.{arith}
 use lib.Bits.{bitOr, or-zero-r}
-use lib.Dec.{eqb, ltb, eqb·suc-zero}
-use borrow.Author.Tests.{eq-eqb, ne-eqb, eqb-true, eqb-false, ltb-true, ltb-false, not-true}
+use lib.Dec.{eqb, eqb·suc-zero}
+use borrow.Author.Tests.{eq-eqb, ne-eqb, eqb-true, eqb-false}
 use Rattle.lent.specs.Tables.{if_then_else_, every}
-use Rattle.lent.proofs.Walks.{all-every, every-all, some-at, none-some, Search, found, nowhere, first-search}
+use Rattle.lent.proofs.Walks.{all-every, some-at, none-some, Search, found, nowhere, first-search}
 use Rattle.lent.proofs.Zeros.{eqb-or}
 use Rattle.machine.proofs.Every.{distinct-same}
 use Rattle.machine.specs.Sizes.{sessionCount}

@@ -6,17 +6,17 @@ use mathlib.Core.Logic.{⊎-elim}
 use mathlib.Core.List.{List}
 use Prim.Native.Nat.{ℕ, _+_, _/_, _%_, _<_}
 use native.Mathlib.Omega.{arith}
-use lib.ListN.{length, set, replicate, length-set, length-replicate}
+use lib.ListN.{length, replicate, length-set, length-replicate}
 use lib.Seq.{getD-set-same, getD-set-other}
 use lib.Dec.{eqb}
 use borrow.Author.Tests.{eq-eqb, ne-eqb}
-use Rattle.lent.proofs.Choices.{clash}
+use Rattle.lent.proofs.Choices.{or-no, clash}
 use Rattle.lent.proofs.Walks.{all-every}
-use Rattle.machine.specs.Sound.{newAt}
+use Rattle.machine.specs.Sound.{newAt, distinct}
 use Rattle.joins.specs.Bits.{wordBits, hasBit, withBit}
 use Rattle.joins.specs.Joins.{item, markWords, hasMark, setBit, Marked, Met}
 use Rattle.joins.proofs.Bits.{bit-with}
-use Rattle.joins.proofs.Numbers.{last-or, same-or, new-zero, new-used}
+use Rattle.joins.proofs.Numbers.{last-or, same-or, new-zero, new-used, distinct-more}
 
 pub set-bit : (marks : List ℕ) (k b : ℕ) → k < length marks → (a c : ℕ) → hasBit (item (setBit marks k b) a) c ≡ (hasBit (item marks a) c || (eqb a k && eqb c b))
 set-bit marks k b h a c =
@@ -61,3 +61,7 @@ module _ {f : ℕ → ℕ} {k n : ℕ} {marks : List ℕ} (y : Marked f k marks)
       where
         own : (m : ℕ) → m ≡ n → hasMark marks m || (eqb (m / wordBits % markWords) (n / wordBits % markWords) && eqb (m % wordBits) (n % wordBits)) ≡ true
         own m q = rw (q, eq-eqb (n / wordBits % markWords) (n / wordBits % markWords) refl, eq-eqb (n % wordBits) (n % wordBits) refl) (or-true (hasMark marks n))
+
+-- a turn of a loop that keeps whether any number met the mark of another
+pub met-more : {f : ℕ → ℕ} {k : ℕ} {r met : Bool} {marks : List ℕ} → (met ≡ false → distinct f k ≡ true) → Met f k r marks → met || r ≡ false → distinct f (k + 1) ≡ true
+met-more {f} {k} {r} {met} d y e = let o = or-no met r e in distinct-more f k (d (o .0)) (y .new (o .1))

@@ -13,7 +13,7 @@ use lib.Dec.{eqb}
 use borrow.Author.Tests.{eq-eqb, ne-eqb, eqb-true, eqb-false}
 use Rattle.lent.specs.Tables.{every}
 use Rattle.lent.proofs.Choices.{case-of}
-use Rattle.lent.proofs.Walks.{all-every, every-cong}
+use Rattle.lent.proofs.Walks.{all-every, every-none, every-more, every-cong}
 use Rattle.machine.proofs.Every.{distinct-same}
 use Rattle.machine.proofs.Views.{getD-same}
 use Rattle.machine.specs.Sound.{newAt, distinct}
@@ -74,6 +74,14 @@ unfolding distinct
 distinct-gathered f m nums g = every-cong (newAt (item nums)) (newAt f) m (λ i h. new-cong (item nums) f i (λ j l. g .is j (omega arith)))
 
 -- ---- distinct numbers
+
+pub distinct-none : (f : ℕ → ℕ) → distinct f 0 ≡ true
+unfolding distinct
+distinct-none f = every-none (newAt f)
+
+pub distinct-more : (f : ℕ → ℕ) (i : ℕ) → distinct f i ≡ true → newAt f i ≡ true → distinct f (i + 1) ≡ true
+unfolding distinct
+distinct-more f = every-more (newAt f)
 
 pub all-new : (f : ℕ → ℕ) (m : ℕ) → ((i j : ℕ) → i < m → j < i → (f i ≡ 0 → ⊥) → f j ≡ f i → ⊥) → distinct f m ≡ true
 unfolding distinct

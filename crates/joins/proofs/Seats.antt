@@ -1,21 +1,21 @@
 -- Seats of numbers side by side. The next number takes its place behind them, and its seat if that is free; a seat that is taken stays so. So
 -- one that finds its seat free is new: the same number before it would have taken that seat or found it taken.
 use mathlib.Core.Path.{_≡_, refl, sym, ap, _∙_}
-use mathlib.Core.Bool.{true, false, not}
+use mathlib.Core.Bool.{Bool, true, false, not, _&&_}
 use mathlib.Core.Logic.{⊎-elim}
 use mathlib.Core.List.{List}
 use Prim.Native.Nat.{ℕ, _+_, _≤_, _<_}
 use native.Mathlib.Omega.{arith}
-use lib.ListN.{length, set, length-set, length-replicate, replicate}
+use lib.ListN.{set, length-set, length-replicate, replicate}
 use lib.Seq.{getD-set-same, getD-set-other}
 use lib.Dec.{eqb}
 use borrow.Author.Tests.{ne-eqb}
-use Rattle.lent.proofs.Choices.{clash}
+use Rattle.lent.proofs.Choices.{and-yes, clash}
 use Rattle.lent.proofs.Walks.{all-every}
 use Rattle.machine.proofs.Views.{getD-same}
-use Rattle.machine.specs.Sound.{newAt}
+use Rattle.machine.specs.Sound.{distinct}
 use Rattle.joins.specs.Joins.{side, item, seatCount, seatOf, Small, Entered, Sat}
-use Rattle.joins.proofs.Numbers.{last-or, same-or, gathered-none, gathered-more, new-zero, new-used}
+use Rattle.joins.proofs.Numbers.{last-or, same-or, gathered-none, gathered-more, new-zero, new-used, distinct-more}
 
 pub entered-none : (f : ℕ → ℕ) → Entered f 0 (replicate side 0) (replicate seatCount 0)
 entered-none f = record {
@@ -86,3 +86,7 @@ module _ {f : ℕ → ℕ} {i n : ℕ} {nums seats : List ℕ} (h : i < side) (y
             (λ z e. let o : i + 1 ≡ 0 = sym own ∙ (ap (item taken) at ∙ e) in omega (arith, o));
         new = λ r. new-used f i n is used ∙ all-every (λ j. not (eqb (f j) n)) i (λ j l. ap not (ne-eqb (f j) n (unlike j l)));
       }
+
+-- a turn of a loop that keeps whether each number found its seat free
+pub sat-more : {f : ℕ → ℕ} {i : ℕ} {r all : Bool} {nums seats : List ℕ} → (all ≡ true → distinct f i ≡ true) → Sat f i r nums seats → all && r ≡ true → distinct f (i + 1) ≡ true
+sat-more {f} {i} {r} {all} d y e = let o = and-yes all r e in distinct-more f i (d (o .0)) (y .new (o .1))
