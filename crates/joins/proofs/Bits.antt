@@ -7,7 +7,7 @@ use native.Mathlib.Omega.{arith}
 use lib.Dec.{eqb, lit<, eqb·zero-suc, eqb·suc-zero, eqb·suc-suc}
 use lib.Pow.{pow-lt}
 use lib.Bits.{bitOr, or-step, or-shr}
-use Rattle.joins.specs.Bits.{hasBit, withBit}
+use Rattle.joins.specs.Bits.{wordBits, hasBit, withBit}
 
 or-low : (a b : ℕ) → bitOr a b % 2 ≡ max (a % 2) (b % 2)
 or-low a b = omega (arith, or-step a b)
@@ -36,5 +36,5 @@ pub bit-with : (m b c : ℕ) → hasBit (withBit m b) c ≡ hasBit m c || eqb c 
 bit-with m b c = bit-or m (2 ^ b) c ∙ rw (bit-power b c)
 
 -- the shift of `bit_with` loses nothing
-pub one-shifted : (b : ℕ) → b < 64 → 1 * 2 ^ b % 2 ^ 64 ≡ 2 ^ b
-one-shifted b h = rw one-mul (mod-eq-of-lt (pow-lt {i = b} {j = 64} h))
+pub one-shifted : (b : ℕ) → b < wordBits → 1 * 2 ^ b % 2 ^ wordBits ≡ 2 ^ b
+one-shifted b h = rw one-mul (mod-eq-of-lt (pow-lt {i = b} {j = wordBits} h))

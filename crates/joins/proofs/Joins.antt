@@ -1,8 +1,8 @@
--- One pass over the rows: what the kind seen on a row's key and the mark of its session tell of it is what comparing it with each row
--- before it tells. The kind seen is that of every row before on the key, since rows that do not share it were refused; the mark at a
--- session's place is that session's, since a place has one number.
+-- One pass over the rows: what stands on a row's key and the mark of its session tell of it what comparing it with each row before it tells.
+-- What stands there is the same for every row before on the key, since rows that do not share it were refused; the mark at a session's place
+-- is that session's, since a place has one number.
 use mathlib.Core.Path.{_≡_, refl, sym, ap, _∙_}
-use mathlib.Core.Bool.{Bool, true, false, not, _&&_, _||_, and-false, or-true}
+use mathlib.Core.Bool.{Bool, true, false, not, _&&_, and-false, or-true}
 use mathlib.Core.Logic.{_⊎_, ⊎-elim, inl, inr}
 use mathlib.Core.List.{List}
 use Prim.Native.Nat.{ℕ, _+_, _*_, _-_, _<_}
@@ -13,12 +13,15 @@ use lib.Dec.{eqb}
 use borrow.Author.Tests.{eq-eqb, ne-eqb, eqb-true}
 use Rattle.lent.specs.Bytes.{le32}
 use Rattle.lent.specs.Tables.{if_then_else_, every}
-use Rattle.lent.proofs.Choices.{and-yes, clash}
+use Rattle.lent.proofs.Choices.{and-yes, or-yes, if-ind, if-same, clash}
 use Rattle.lent.proofs.Walks.{all-every, every-all, every-fails}
+use Rattle.machine.proofs.Views.{getD-same}
+use Rattle.machine.specs.Words.{INVALIDATE}
 use Rattle.machine.specs.Sizes.{keyCount, keysFrom, keyWidth, sessionCount}
-use Rattle.joins.specs.Joins.{rowSession, rowKey, rowKind, isLive, pairOk, joinOk, item, firstPlace, pairBit, Noted, mayShare, On, Seen, Ready, Joined}
+use Rattle.joins.specs.Joins.{rowSession, rowKey, rowKind, isLive, pairOk, joinOk, item, firstPlace, pairBit, Noted, SHARED, ALONE, standing, mayShare, On, Seen, Sessions, Ready, Joined}
 use Rattle.joins.proofs.Lookup.{Stands, place-dead, place-live}
-use Rattle.joins.proofs.Numbers.{last-or, same-or, item-zeros}
+use Rattle.joins.proofs.Numbers.{last-or, same-or}
+use Rattle.joins.proofs.Pairs.{sized-none, no-pairs}
 
 -- ---- rows before another
 
@@ -30,13 +33,14 @@ on-last {s} {i} {k} {j} o = ⊎-elim (λ e. inl e) (λ l. inr (record { before =
 
 -- ---- two rows
 
-if-same : (t : Bool) → (if t then true else true) ≡ true
-if-same true = refl
-if-same false = refl
+standing-used : (d : ℕ) → standing d ≡ 0 → ⊥
+standing-used d e = if-ind (λ x. x ≡ 0 → ⊥) (eqb d INVALIDATE) (λ t z. omega arith) (λ t z. omega arith) e
 
-or-cases : (t u : Bool) → t || u ≡ true → (t ≡ true) ⊎ (u ≡ true)
-or-cases true u e = inl refl
-or-cases false u e = inr e
+standing-shared : (d : ℕ) → standing d ≡ SHARED → d ≡ INVALIDATE
+standing-shared d e = ⊎-elim (λ q. q) (λ q. absurd (let z : standing d ≡ ALONE = rw (ne-eqb d INVALIDATE q) in omega (arith, z, e))) (same-or d INVALIDATE)
+
+shared-standing : (d : ℕ) → d ≡ INVALIDATE → standing d ≡ SHARED
+shared-standing d e = rw (eq-eqb d INVALIDATE e)
 
 module _ (s : List ℕ) (n k d j : ℕ) where
   pair-free : rowSession s j ≡ 0 → pairOk s n k d j ≡ true
@@ -45,26 +49,26 @@ module _ (s : List ℕ) (n k d j : ℕ) where
 
   pair-off : (rowKey s j ≡ k → ⊥) → pairOk s n k d j ≡ true
   unfolding pairOk
-  pair-off e = rw (ne-eqb (rowKey s j) k e) (if-same (eqb (rowSession s j) 0))
+  pair-off e = rw (ne-eqb (rowKey s j) k e) (if-same (eqb (rowSession s j) 0) true)
 
-  pair-on : (i : ℕ) → On s i k j → pairOk s n k d j ≡ not (eqb (rowSession s j) n) && (eqb (rowKind s j) 1 && eqb d 1)
+  pair-on : (i : ℕ) → On s i k j → pairOk s n k d j ≡ not (eqb (rowSession s j) n) && (eqb (rowKind s j) INVALIDATE && eqb d INVALIDATE)
   unfolding pairOk
   pair-on i o = rw (ne-eqb (rowSession s j) 0 (o .used), eq-eqb (rowKey s j) k (o .key))
 
   -- a pair holds if it holds for a used row on the key
-  pair-if : (i : ℕ) → j < i → (On s i k j → (rowSession s j ≡ n → ⊥) × (rowKind s j ≡ 1) × (d ≡ 1)) → pairOk s n k d j ≡ true
+  pair-if : (i : ℕ) → j < i → (On s i k j → (rowSession s j ≡ n → ⊥) × (rowKind s j ≡ INVALIDATE) × (d ≡ INVALIDATE)) → pairOk s n k d j ≡ true
   pair-if i l f =
       ⊎-elim pair-free
       (λ u. ⊎-elim (λ e. let o : On s i k j = record { before = l; used = u; key = e } in
       let x = f o in
-      pair-on i o ∙ rw (ne-eqb (rowSession s j) n (x .0), eq-eqb (rowKind s j) 1 (x .1), eq-eqb d 1 (x .2))) pair-off (same-or (rowKey s j) k))
+      pair-on i o ∙ rw (ne-eqb (rowSession s j) n (x .0), eq-eqb (rowKind s j) INVALIDATE (x .1), eq-eqb d INVALIDATE (x .2))) pair-off (same-or (rowKey s j) k))
       (same-or (rowSession s j) 0)
 
-  pair-kinds : (i : ℕ) → On s i k j → pairOk s n k d j ≡ true → (rowKind s j ≡ 1) × (d ≡ 1)
+  pair-kinds : (i : ℕ) → On s i k j → pairOk s n k d j ≡ true → (rowKind s j ≡ INVALIDATE) × (d ≡ INVALIDATE)
   pair-kinds i o p =
       let b = and-yes (not (eqb (rowSession s j) n)) _ (sym (pair-on i o) ∙ p) .1 in
-      let q = and-yes (eqb (rowKind s j) 1) _ b in
-      (eqb-true (rowKind s j) 1 (q .0), eqb-true d 1 (q .1))
+      let q = and-yes (eqb (rowKind s j) INVALIDATE) _ b in
+      (eqb-true (rowKind s j) INVALIDATE (q .0), eqb-true d INVALIDATE (q .1))
 
 -- ---- row i beside those before it
 
@@ -72,11 +76,14 @@ pub seen-none : (s : List ℕ) (place : ℕ → ℕ) (bit : ℕ → ℕ → Bool
 seen-none s place bit f = record {
   wide = length-replicate {A = ℕ} keyCount 0;
   kinds = λ k j o. absurd (omega (arith, o .before));
-  found = λ k u. absurd (u (item-zeros keyCount k));
+  found = λ k u. absurd (u (getD-same {A = ℕ} keyCount k 0));
   placed = λ k j o. absurd (omega (arith, o .before));
   marks = λ k j o. absurd (omega (arith, o .before));
   left = λ k q e. clash (bit k q) e (f k q);
 }
+
+pub ready-none : {s nums : List ℕ} → Sessions s nums → Ready s 0 nums (replicate keyCount 0) (replicate keyCount 0) (replicate keyCount 0)
+ready-none y = record { sessions = y; sized = sized-none; rows = seen-none _ _ _ no-pairs }
 
 module _ {s nums seen near far : List ℕ} {i : ℕ} (y : Ready s i nums seen near far) where
   abbrev P : ℕ → ℕ
@@ -135,18 +142,18 @@ module _ {s nums seen near far : List ℕ} {i : ℕ} (y : Ready s i nums seen ne
         pub place-low : p - 1 < sessionCount
         place-low = stands .low
 
-        -- of kind d - 1
-        module _ {d : ℕ} (isd : d ≡ rowKind s i + 1) where
-          -- a row before it on the key, and not both of kind 1
-          not-both : (item seen k ≡ 0 → ⊥) → (item seen k ≡ 2 → d ≡ 2 → ⊥) → every pairs i ≡ false
+        -- that stands as d
+        module _ {d : ℕ} (isd : d ≡ standing (rowKind s i)) where
+          -- a row before it on the key, and not both of kind INVALIDATE
+          not-both : (item seen k ≡ 0 → ⊥) → (item seen k ≡ SHARED → d ≡ SHARED → ⊥) → every pairs i ≡ false
           not-both z x =
               let w = y .rows .found k z in
               let j : ℕ = w .0 in
-              let kd : item seen k ≡ rowKind s j + 1 = y .rows .kinds k j (w .1) in
-              let no : eqb (rowKind s j) 1 && eqb (rowKind s i) 1 ≡ false = ⊎-elim
-              (λ a. rw (eq-eqb (rowKind s j) 1 a) (ne-eqb (rowKind s i) 1 (λ b. x (omega (arith, kd, a)) (omega (arith, isd, b)))))
-              (λ a. rw (ne-eqb (rowKind s j) 1 a))
-              (same-or (rowKind s j) 1) in
+              let kd : item seen k ≡ standing (rowKind s j) = y .rows .kinds k j (w .1) in
+              let no : eqb (rowKind s j) INVALIDATE && eqb (rowKind s i) INVALIDATE ≡ false = ⊎-elim
+              (λ a. rw (eq-eqb (rowKind s j) INVALIDATE a) (ne-eqb (rowKind s i) INVALIDATE (λ b. x (kd ∙ shared-standing (rowKind s j) a) (isd ∙ shared-standing (rowKind s i) b))))
+              (λ a. rw (ne-eqb (rowKind s j) INVALIDATE a))
+              (same-or (rowKind s j) INVALIDATE) in
               every-fails pairs i j (w .1 .before) (pair-on s n k (rowKind s i) j i (w .1) ∙ rw no (and-false (not (eqb (rowSession s j) n))))
 
           -- the mark is that of a row of the session on the key
@@ -163,22 +170,22 @@ module _ {s nums seen near far : List ℕ} {i : ℕ} (y : Ready s i nums seen ne
               let pq : P (rowSession s j) ≡ p = ap P e ∙ sym isp in
               clash (bit k (p - 1)) (rw pq at (y .rows .marks k j o)) z
 
-          -- all rows on the key are of kind 1
-          all-read : (t : Bool) → bit k (p - 1) ≡ t → item seen k ≡ 2 → d ≡ 2 → not t ≡ every pairs i
-          all-read true m e x = sym (twice m)
-          all-read false m e x = sym (all-every pairs i (λ j l. pair-if s n k (rowKind s i) j i l (λ o. (new m j o, omega (arith, e, y .rows .kinds k j o), omega (arith, isd, x)))))
+          -- all rows on the key are of kind INVALIDATE
+          all-share : (t : Bool) → bit k (p - 1) ≡ t → item seen k ≡ SHARED → d ≡ SHARED → not t ≡ every pairs i
+          all-share true m e x = sym (twice m)
+          all-share false m e x = sym (all-every pairs i (λ j l. pair-if s n k (rowKind s i) j i l (λ o. (new m j o, standing-shared (rowKind s j) (sym (y .rows .kinds k j o) ∙ e), standing-shared (rowKind s i) (sym isd ∙ x)))))
 
           share-is : mayShare (item seen k) d (bit k (p - 1)) ≡ every pairs i
           share-is =
               ⊎-elim
-              (λ e. rw (eq-eqb (item seen k) 0 e) (sym (all-every pairs i (λ j l. pair-if s n k (rowKind s i) j i l (λ o. absurd (omega (arith, e, y .rows .kinds k j o)))))))
+              (λ e. rw (eq-eqb (item seen k) 0 e) (sym (all-every pairs i (λ j l. pair-if s n k (rowKind s i) j i l (λ o. absurd (standing-used (rowKind s j) (sym (y .rows .kinds k j o) ∙ e)))))))
               (λ z. ⊎-elim
               (λ e. ⊎-elim
-              (λ x. rw (ne-eqb (item seen k) 0 z, eq-eqb (item seen k) 2 e, eq-eqb d 2 x) (all-read (bit k (p - 1)) refl e x))
-              (λ x. rw (ne-eqb (item seen k) 0 z, eq-eqb (item seen k) 2 e, ne-eqb d 2 x) (sym (not-both z (λ a b. x b))))
-              (same-or d 2))
-              (λ e. rw (ne-eqb (item seen k) 0 z, ne-eqb (item seen k) 2 e) (sym (not-both z (λ a b. e a))))
-              (same-or (item seen k) 2))
+              (λ x. rw (ne-eqb (item seen k) 0 z, eq-eqb (item seen k) SHARED e, eq-eqb d SHARED x) (all-share (bit k (p - 1)) refl e x))
+              (λ x. rw (ne-eqb (item seen k) 0 z, eq-eqb (item seen k) SHARED e, ne-eqb d SHARED x) (sym (not-both z (λ a b. x b))))
+              (same-or d SHARED))
+              (λ e. rw (ne-eqb (item seen k) 0 z, ne-eqb (item seen k) SHARED e) (sym (not-both z (λ a b. e a))))
+              (same-or (item seen k) SHARED))
               (same-or (item seen k) 0)
 
           here : On s (i + 1) k i
@@ -195,7 +202,7 @@ module _ {s nums seen near far : List ℕ} {i : ℕ} (y : Ready s i nums seen ne
                 kinds = λ v j o. ⊎-elim
                     (λ e. let x : v ≡ k = sym (o .key) ∙ (ap (rowKey s) e ∙ sym isk) in rw (x, e) (same ∙ isd))
                     (λ w. ⊎-elim
-                    (λ e. let z = pair-kinds s n k (rowKind s i) j i (rw e at w) (every-all pairs i j all (w .before)) in rw e (same ∙ omega (arith, isd, z .0, z .1)))
+                    (λ e. let z = pair-kinds s n k (rowKind s i) j i (rw e at w) (every-all pairs i j all (w .before)) in rw e (same ∙ (isd ∙ ap standing (z .1 ∙ sym (z .0)))))
                     (λ e. getD-set-other seen k v d 0 e ∙ h .kinds v j w)
                     (same-or v k))
                     (on-last o);
@@ -213,7 +220,7 @@ module _ {s nums seen near far : List ℕ} {i : ℕ} (y : Ready s i nums seen ne
                     (λ z. let w = h .left v q z in (w .0, on-more (w .1), w .2))
                     (λ z. let a = and-yes (eqb v k) (eqb q (p - 1)) z in
                     (i, rw (eqb-true v k (a .0)) here, ap (λ (x : ℕ). x - 1) mine ∙ sym (eqb-true q (p - 1) (a .1))))
-                    (or-cases (bit v q) (eqb v k && eqb q (p - 1)) (sym (note .bits v q) ∙ e));
+                    (or-yes (bit v q) (eqb v k && eqb q (p - 1)) (sym (note .bits v q) ∙ e));
               }
 
           pub join-shared : k < keyCount → {r m : Bool} {near′ far′ : List ℕ} → Noted near far k (p - 1) m near′ far′ → r ≡ mayShare (item seen k) d m → Joined s i r nums (set seen k d) near′ far′

@@ -1,7 +1,8 @@
 pub mod Bits
 pub mod Numbers
+pub mod Marks
 pub mod Seats
+pub mod Loose
 pub mod Lookup
 pub mod Pairs
 pub mod Joins
-pub mod Entered

@@ -7,15 +7,16 @@ use Prim.Native.Nat.{ℕ, _+_, _-_, _≤_, _<_}
 use native.Mathlib.Numerals.{add-one}
 use native.Mathlib.Omega.{arith}
 use lib.Bits.{bitOr, or-zero-r}
-use lib.Dec.{eqb, ltb, eqb·suc-zero}
-use borrow.Author.Tests.{eq-eqb, ne-eqb, eqb-true, eqb-false, ltb-true, ltb-false, not-true}
+use lib.Dec.{eqb, eqb·suc-zero}
+use borrow.Author.Tests.{eq-eqb, ne-eqb, eqb-true, eqb-false}
 use Rattle.lent.specs.Tables.{if_then_else_, every}
-use Rattle.lent.proofs.Walks.{all-every, every-all, some-at, none-some, Search, found, nowhere, first-search}
+use Rattle.lent.proofs.Walks.{all-every, some-at, none-some, Search, found, nowhere, first-search}
 use Rattle.lent.proofs.Zeros.{eqb-or}
-use Rattle.machine.specs.Sizes.{sessionCount, sessionsFrom, sessionWidth}
-use Rattle.machine.specs.Sound.{newAt, distinct}
-use Rattle.joins.specs.Joins.{numbers, isLive, item, Gathered, Alone, firstPlace, Stood, OnlyPlace}
-use Rattle.joins.proofs.Numbers.{last-or, new-used}
+use Rattle.machine.proofs.Every.{distinct-same}
+use Rattle.machine.specs.Sizes.{sessionCount}
+use Rattle.machine.specs.Sound.{distinct}
+use Rattle.joins.specs.Joins.{sessionNumbers, isLive, item, Gathered, Alone, firstPlace, Stood, OnlyPlace}
+use Rattle.joins.proofs.Numbers.{last-or}
 
 -- 0 if the test fails
 zero-choice : (t : Bool) (m : ℕ) → eqb (if t then m + 1 else 0) 0 ≡ not t
@@ -42,18 +43,7 @@ places-only nums n j f e o p l q u = ⊎-elim here before (last-or p j l)
 -- ---- a number that stands once
 
 pub once-alone : (nums : List ℕ) (n : ℕ) → distinct (item nums) sessionCount ≡ true → (n ≡ 0 → ⊥) → Alone nums n
-unfolding distinct
-once-alone nums n d used j k a b e g = go (ltb j k) (ltb k j) refl refl
-  where
-    apart : (u v : ℕ) → u < v → v < sessionCount → item nums u ≡ n → item nums v ≡ n → ⊥
-    apart u v h l p q =
-        eqb-false (item nums u) n
-        (not-true _ (every-all (λ x. not (eqb (item nums x) n)) v u (sym (new-used (item nums) v n (sym q) used) ∙ every-all (newAt (item nums)) sessionCount v d l) h)) p
-
-    go : (t u : Bool) → ltb j k ≡ t → ltb k j ≡ u → j ≡ k
-    go true u p q = absurd (apart j k (ltb-true j k p) b e g)
-    go false true p q = absurd (apart k j (ltb-true k j q) a g e)
-    go false false p q = omega (arith, ltb-false j k p, ltb-false k j q)
+once-alone nums n d used j k a b e g = distinct-same (item nums) sessionCount j k d a b (omega (arith, e)) (e ∙ sym g)
 
 module _ (nums : List ℕ) (n : ℕ) where
   -- m + 1 says that n stands at m, and 0 that it stands nowhere
@@ -105,21 +95,18 @@ pub record Stands (s nums : List ℕ) (n p : ℕ) : Type 0 where
   pub here : item nums (p - 1) ≡ n
   pub low : p - 1 < sessionCount
 
-module _ (s nums : List ℕ) (g : Gathered (numbers s sessionsFrom sessionWidth) sessionCount nums) (n : ℕ) where
-  abbrev session : ℕ → ℕ
-  session = numbers s sessionsFrom sessionWidth
-
+module _ (s nums : List ℕ) (g : Gathered (sessionNumbers s) sessionCount nums) (n : ℕ) where
   dead-by : (p : ℕ) → Place nums n p → p ≡ 0 → isLive s n ≡ false
   unfolding isLive
   dead-by _ (at-place {m} l e) z = absurd (omega arith)
-  dead-by _ (no-place f) z = none-some (λ j. eqb (session j) n) sessionCount (λ j l. ne-eqb (session j) n (λ e. f j l (g .is j l ∙ e)))
+  dead-by _ (no-place f) z = none-some (λ j. eqb (sessionNumbers s j) n) sessionCount (λ j l. ne-eqb (sessionNumbers s j) n (λ e. f j l (g .is j l ∙ e)))
 
   live-by : (p : ℕ) → Place nums n p → (p ≡ 0 → ⊥) → Stands s nums n p
   unfolding isLive
   live-by _ (at-place {m} l e) z =
       let o : m + 1 - 1 ≡ m = omega arith in
       record {
-        live = some-at (λ j. eqb (session j) n) sessionCount m l (eq-eqb (session m) n (sym (g .is m l) ∙ e));
+        live = some-at (λ j. eqb (sessionNumbers s j) n) sessionCount m l (eq-eqb (sessionNumbers s m) n (sym (g .is m l) ∙ e));
         here = rw o e;
         low = rw o l;
       }

@@ -4,7 +4,7 @@ use mathlib.Core.Path.{_≡_, refl, sym, ap, _∙_}
 use mathlib.Core.Bool.{Bool, true, false, not}
 use mathlib.Core.Logic.{_⊎_, ⊎-elim, inl, inr}
 use mathlib.Core.List.{List}
-use Prim.Native.Nat.{ℕ, zero, suc, _+_, _≤_, _<_}
+use Prim.Native.Nat.{ℕ, _+_, _≤_, _<_}
 use native.Mathlib.Nat.{eq-or-lt-of-le}
 use native.Mathlib.Omega.{arith}
 use lib.ListN.{set, length-set, length-replicate, replicate}
@@ -12,7 +12,10 @@ use lib.Seq.{getD-set-same, getD-set-other}
 use lib.Dec.{eqb}
 use borrow.Author.Tests.{eq-eqb, ne-eqb, eqb-true, eqb-false}
 use Rattle.lent.specs.Tables.{every}
-use Rattle.lent.proofs.Walks.{every-cong}
+use Rattle.lent.proofs.Choices.{case-of}
+use Rattle.lent.proofs.Walks.{all-every, every-none, every-more, every-cong}
+use Rattle.machine.proofs.Every.{distinct-same}
+use Rattle.machine.proofs.Views.{getD-same}
 use Rattle.machine.specs.Sound.{newAt, distinct}
 use Rattle.joins.specs.Joins.{side, item, Gathered}
 
@@ -28,18 +31,13 @@ same-or a b = go (eqb a b) refl
     go true e = inl (eqb-true a b e)
     go false e = inr (eqb-false a b e)
 
-pub item-zeros : (n k : ℕ) → item (replicate n 0) k ≡ 0
-item-zeros zero k = refl
-item-zeros (suc n) zero = refl
-item-zeros (suc n) (suc k) = item-zeros n k
-
 -- ---- numbers side by side
 
 pub gathered-none : (f : ℕ → ℕ) → Gathered f 0 (replicate side 0)
 gathered-none f = record {
   long = length-replicate {A = ℕ} side 0;
   is = λ j h. absurd (omega arith);
-  rest = λ j h. item-zeros side j;
+  rest = λ j h. getD-same {A = ℕ} side j 0;
 }
 
 pub gathered-more : (f : ℕ → ℕ) (i : ℕ) (nums : List ℕ) (n : ℕ) → i < side → Gathered f i nums → n ≡ f i → Gathered f (i + 1) (set nums i n)
@@ -74,3 +72,26 @@ new-cong f g i e =
 pub distinct-gathered : (f : ℕ → ℕ) (m : ℕ) (nums : List ℕ) → Gathered f m nums → distinct (item nums) m ≡ distinct f m
 unfolding distinct
 distinct-gathered f m nums g = every-cong (newAt (item nums)) (newAt f) m (λ i h. new-cong (item nums) f i (λ j l. g .is j (omega arith)))
+
+-- ---- distinct numbers
+
+pub distinct-none : (f : ℕ → ℕ) → distinct f 0 ≡ true
+unfolding distinct
+distinct-none f = every-none (newAt f)
+
+pub distinct-more : (f : ℕ → ℕ) (i : ℕ) → distinct f i ≡ true → newAt f i ≡ true → distinct f (i + 1) ≡ true
+unfolding distinct
+distinct-more f = every-more (newAt f)
+
+pub all-new : (f : ℕ → ℕ) (m : ℕ) → ((i j : ℕ) → i < m → j < i → (f i ≡ 0 → ⊥) → f j ≡ f i → ⊥) → distinct f m ≡ true
+unfolding distinct
+all-new f m g =
+    all-every (newAt f) m
+    (λ i h. ⊎-elim
+    (λ e. new-zero f i (f i) refl e)
+    (λ z. new-used f i (f i) refl z ∙ all-every (λ j. not (eqb (f j) (f i))) i (λ j l. ap not (ne-eqb (f j) (f i) (g i j h l z))))
+    (same-or (f i) 0))
+
+-- a number that is not 0 at two places
+pub twice-same : (f : ℕ → ℕ) (m i j : ℕ) → i < m → j < m → (i ≡ j → ⊥) → (f i ≡ 0 → ⊥) → f i ≡ f j → distinct f m ≡ false
+twice-same f m i j h l d z e = ⊎-elim (λ t. absurd (d (distinct-same f m i j t h l (omega arith) e))) (λ n. n) (case-of (distinct f m))

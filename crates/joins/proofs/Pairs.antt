@@ -5,67 +5,55 @@ use mathlib.Core.Logic.{⊎-elim}
 use mathlib.Core.List.{List}
 use Prim.Native.Nat.{ℕ, _-_, _≤_, _<_}
 use native.Mathlib.Omega.{arith}
-use lib.ListN.{length, set, replicate, length-set, length-replicate}
-use lib.Seq.{getD-set-same, getD-set-other}
+use lib.ListN.{length, replicate, length-set, length-replicate}
 use lib.Dec.{eqb, ltb}
 use borrow.Author.Tests.{eq-eqb, ne-eqb, ltb-true, ltb-false, lt-ltb, le-ltb}
-use Rattle.joins.specs.Bits.{hasBit, withBit}
+use Rattle.joins.specs.Bits.{wordBits, hasBit}
 use Rattle.lent.specs.Tables.{if_then_else_}
-use Rattle.joins.proofs.Bits.{bit-none, bit-with}
+use Rattle.joins.proofs.Bits.{bit-none}
+use Rattle.joins.proofs.Marks.{set-bit}
+use Rattle.machine.proofs.Views.{getD-same}
 use Rattle.machine.specs.Sizes.{keyCount}
-use Rattle.joins.specs.Joins.{item, pairBit, Sized, Noted}
-use Rattle.joins.proofs.Numbers.{same-or, item-zeros}
+use Rattle.joins.specs.Joins.{item, setBit, pairBit, Sized, Noted}
+use Rattle.joins.proofs.Numbers.{same-or}
 
--- mark b of key k is set
-abbrev pub setBit : List ℕ → ℕ → ℕ → List ℕ
-setBit mark k b = set mark k (withBit (item mark k) b)
-
-module _ (mark : List ℕ) (k b : ℕ) (h : k < length mark) where
-  set-bit : (a c : ℕ) → hasBit (item (setBit mark k b) a) c ≡ (hasBit (item mark a) c || (eqb a k && eqb c b))
-  set-bit a c =
-      ⊎-elim
-      (λ e. let g : item (setBit mark k b) a ≡ withBit (item mark k) b = rw e (getD-set-same mark k (withBit (item mark k) b) 0 h) in
-      rw (g, eq-eqb a k e, e) (bit-with (item mark k) b c))
-      (λ e. rw (getD-set-other mark k a (withBit (item mark k) b) 0 e, ne-eqb a k e, or-false))
-      (same-or a k)
-
--- the same distance from 64
-eqb-far : (v q : ℕ) → 64 ≤ v → 64 ≤ q → eqb (v - 64) (q - 64) ≡ eqb v q
+-- the same distance from the end of a word
+eqb-far : (v q : ℕ) → wordBits ≤ v → wordBits ≤ q → eqb (v - wordBits) (q - wordBits) ≡ eqb v q
 eqb-far v q h l =
-    ⊎-elim (λ e. rw (eq-eqb v q e) (eq-eqb (v - 64) (q - 64) (omega arith)))
-    (λ e. rw (ne-eqb v q e) (ne-eqb (v - 64) (q - 64) (λ z. e (omega arith))))
+    ⊎-elim (λ e. rw (eq-eqb v q e) (eq-eqb (v - wordBits) (q - wordBits) (omega arith)))
+    (λ e. rw (ne-eqb v q e) (ne-eqb (v - wordBits) (q - wordBits) (λ z. e (omega arith))))
     (same-or v q)
 
 module _ (near far : List ℕ) (z : Sized near far) (k q : ℕ) (h : k < keyCount) where
-  pub noted-near : q < 64 → (r : Bool) (near′ : List ℕ) → r ≡ hasBit (item near k) q → near′ ≡ setBit near k q → Noted near far k q r near′ far
+  pub noted-near : q < wordBits → (r : Bool) (near′ : List ℕ) → r ≡ hasBit (item near k) q → near′ ≡ setBit near k q → Noted near far k q r near′ far
   noted-near l r near′ e o = record {
     sized = record { near-is = ap length o ∙ (length-set near k _ ∙ z .near-is); far-is = z .far-is };
-    is = rw (lt-ltb q 64 l) e;
-    bits = λ a v. rw o (go a v (ltb v 64) refl);
+    is = rw (lt-ltb q wordBits l) e;
+    bits = λ a v. rw o (go a v (ltb v wordBits) refl);
   }
     where
-      go : (a v : ℕ) (t : Bool) → ltb v 64 ≡ t → pairBit (setBit near k q) far a v ≡ (pairBit near far a v || (eqb a k && eqb v q))
+      go : (a v : ℕ) (t : Bool) → ltb v wordBits ≡ t → pairBit (setBit near k q) far a v ≡ (pairBit near far a v || (eqb a k && eqb v q))
       go a v true e = rw e (set-bit near k q (omega (arith, z .near-is)) a v)
-      go a v false e = rw (e, ne-eqb v q (λ w. omega (arith, ltb-false v 64 e)), and-false, or-false)
+      go a v false e = rw (e, ne-eqb v q (λ w. omega (arith, ltb-false v wordBits e)), and-false, or-false)
 
-  pub noted-far : 64 ≤ q → (r : Bool) (far′ : List ℕ) → r ≡ hasBit (item far k) (q - 64) → far′ ≡ setBit far k (q - 64) → Noted near far k q r near far′
+  pub noted-far : wordBits ≤ q → (r : Bool) (far′ : List ℕ) → r ≡ hasBit (item far k) (q - wordBits) → far′ ≡ setBit far k (q - wordBits) → Noted near far k q r near far′
   noted-far l r far′ e o = record {
     sized = record { near-is = z .near-is; far-is = ap length o ∙ (length-set far k _ ∙ z .far-is) };
-    is = rw (le-ltb q 64 l) e;
-    bits = λ a v. rw o (go a v (ltb v 64) refl);
+    is = rw (le-ltb q wordBits l) e;
+    bits = λ a v. rw o (go a v (ltb v wordBits) refl);
   }
     where
-      go : (a v : ℕ) (t : Bool) → ltb v 64 ≡ t → pairBit near (setBit far k (q - 64)) a v ≡ (pairBit near far a v || (eqb a k && eqb v q))
-      go a v true e = rw (e, ne-eqb v q (λ w. omega (arith, ltb-true v 64 e)), and-false, or-false)
-      go a v false e = rw (e, ← eqb-far v q (ltb-false v 64 e) l) (set-bit far k (q - 64) (omega (arith, z .far-is)) a (v - 64))
+      go : (a v : ℕ) (t : Bool) → ltb v wordBits ≡ t → pairBit near (setBit far k (q - wordBits)) a v ≡ (pairBit near far a v || (eqb a k && eqb v q))
+      go a v true e = rw (e, ne-eqb v q (λ w. omega (arith, ltb-true v wordBits e)), and-false, or-false)
+      go a v false e = rw (e, ← eqb-far v q (ltb-false v wordBits e) l) (set-bit far k (q - wordBits) (omega (arith, z .far-is)) a (v - wordBits))
 
 -- no mark yet
 pub sized-none : Sized (replicate keyCount 0) (replicate keyCount 0)
 sized-none = record { near-is = length-replicate {A = ℕ} keyCount 0; far-is = length-replicate {A = ℕ} keyCount 0 }
 
 pub no-pairs : (k q : ℕ) → pairBit (replicate keyCount 0) (replicate keyCount 0) k q ≡ false
-no-pairs k q = rw (item-zeros keyCount k) (go (ltb q 64))
+no-pairs k q = rw (getD-same {A = ℕ} keyCount k 0) (go (ltb q wordBits))
   where
-    go : (t : Bool) → (if t then hasBit 0 q else hasBit 0 (q - 64)) ≡ false
+    go : (t : Bool) → (if t then hasBit 0 q else hasBit 0 (q - wordBits)) ≡ false
     go true = bit-none q
-    go false = bit-none (q - 64)
+    go false = bit-none (q - wordBits)

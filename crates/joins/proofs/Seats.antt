@@ -1,155 +1,92 @@
--- Seats of numbers. A number takes the first free seat that it tries, and no seat is given up; so one that was there before stands in a seat
--- before any free one that it tries, and a number that meets a free seat and not itself before it is new. Where others have all its seats, it
--- is compared with each.
+-- Seats of numbers side by side. The next number takes its place behind them, and its seat if that is free; a seat that is taken stays so. So
+-- one that finds its seat free is new: the same number before it would have taken that seat or found it taken.
 use mathlib.Core.Path.{_≡_, refl, sym, ap, _∙_}
-use mathlib.Core.Bool.{Bool, true, false, not}
+use mathlib.Core.Bool.{Bool, true, false, not, _&&_}
 use mathlib.Core.Logic.{⊎-elim}
 use mathlib.Core.List.{List}
-use Prim.Native.Nat.{ℕ, _+_, _-_, _≤_, _<_}
-use native.Mathlib.Numerals.{add-one}
+use Prim.Native.Nat.{ℕ, _+_, _≤_, _<_}
 use native.Mathlib.Omega.{arith}
-use lib.ListN.{length, set, length-set, length-replicate, replicate}
+use lib.ListN.{set, length-set, length-replicate, replicate}
 use lib.Seq.{getD-set-same, getD-set-other}
-use lib.Dec.{eqb, ltb}
-use borrow.Author.Tests.{eq-eqb, ne-eqb, ltb-true, ltb-false}
-use Rattle.lent.specs.Tables.{every}
-use Rattle.lent.proofs.Choices.{clash}
-use Rattle.lent.proofs.Walks.{all-every, every-fails}
-use Rattle.machine.specs.Sound.{newAt}
-use Rattle.joins.specs.Joins.{item, seatCount, tries, spun, spread, seatBy, seatOf, Small, Passed, Sought, stop, full, Seated, FirstTried}
-use Rattle.joins.proofs.Numbers.{last-or, same-or, item-zeros, new-zero, new-used}
+use lib.Dec.{eqb}
+use borrow.Author.Tests.{ne-eqb}
+use Rattle.lent.proofs.Choices.{and-yes, clash}
+use Rattle.lent.proofs.Walks.{all-every}
+use Rattle.machine.proofs.Views.{getD-same}
+use Rattle.machine.specs.Sound.{distinct}
+use Rattle.joins.specs.Joins.{side, item, seatCount, seatOf, Small, Entered, Sat}
+use Rattle.joins.proofs.Numbers.{last-or, same-or, gathered-none, gathered-more, new-zero, new-used, distinct-more}
 
-pub seated-none : (nums : List ℕ) → Seated nums 0 (replicate seatCount 0)
-seated-none nums = record {
-  small = record { long = length-replicate {A = ℕ} seatCount 0; low = λ h. omega (arith, item-zeros seatCount h) };
-  held = λ j h. absurd (omega arith);
+pub entered-none : (f : ℕ → ℕ) → Entered f 0 (replicate side 0) (replicate seatCount 0)
+entered-none f = record {
+  gathered = gathered-none f;
+  seated = record {
+    small = record { long = length-replicate {A = ℕ} seatCount 0; low = λ h. omega (arith, getD-same {A = ℕ} seatCount h 0) };
+    held = λ j h. absurd (omega arith);
+  };
 }
 
-pub small-more : {m n : ℕ} {seats : List ℕ} → m ≤ n → Small m seats → Small n seats
+small-more : {m n : ℕ} {seats : List ℕ} → m ≤ n → Small m seats → Small n seats
 small-more h y = record { long = y .long; low = λ k. omega (arith, y .low k) }
 
--- ---- a search
+-- n is number i
+module _ {f : ℕ → ℕ} {i n : ℕ} {nums seats : List ℕ} (h : i < side) (y : Entered f i nums seats) (is : n ≡ f i) where
+  abbrev placed : List ℕ
+  placed = set nums i n
 
-pub spread-more : (n t x : ℕ) → x ≡ spread n t → spun x ≡ spread n (t + 1)
-unfolding spread
-spread-more n t x e = rw (add-one t) (ap spun e)
+  mine : item placed i ≡ n
+  mine = getD-set-same nums i n 0 (omega (arith, y .gathered .long))
 
-pub seat-more : (n t x h : ℕ) → x ≡ spread n (t + 1) → h ≡ seatBy x → h ≡ seatOf n (t + 1)
-unfolding seatOf
-seat-more n t x h e q = let o : seatBy (spread n (t + 1)) ≡ seatOf n (t + 1) = rw (add-one t) in q ∙ (ap seatBy e ∙ o)
-
-module _ (nums seats : List ℕ) (n : ℕ) where
-  pub passed-more : (t q : ℕ) → Passed nums seats n t → q ≡ item seats (seatOf n t) → (q ≡ 0 → ⊥) → (item nums (q - 1) ≡ n → ⊥) → Passed nums seats n (t + 1)
-  passed-more t q p e z o = λ u h. ⊎-elim (λ w. let x : item seats (seatOf n u) ≡ q = ap (λ (v : ℕ). item seats (seatOf n v)) w ∙ sym e in rw x (z, o)) (λ l. p u l) (last-or u t h)
-
-  pub full-passed : {h : ℕ} → Sought nums seats n h → h ≡ seatCount → Passed nums seats n tries
-  full-passed (stop b e l p o) w = absurd (omega arith)
-  full-passed (full p) w = p
-
-  pub stop-low : {h : ℕ} → Sought nums seats n h → (h ≡ seatCount → ⊥) → h < seatCount
-  stop-low (stop b e l p o) w = l
-  stop-low (full p) w = absurd (w refl)
-
-  pub stop-own : {h : ℕ} → Sought nums seats n h → (h ≡ seatCount → ⊥) → (item seats h ≡ 0 → ⊥) → item nums (item seats h - 1) ≡ n
-  stop-own (stop b e l p o) w z = o z
-  stop-own (full p) w z = absurd (w refl)
-
--- ---- a seat that is taken
-
-module _ (seats : List ℕ) (h v : ℕ) (b : h < length seats) (free : item seats h ≡ 0) (used : v ≡ 0 → ⊥) where
-  was-free : (k : ℕ) → item (set seats h v) k ≡ 0 → item seats k ≡ 0
-  was-free k e = ⊎-elim (λ q. rw q free) (λ q. sym (getD-set-other seats h k v 0 q) ∙ e) (same-or k h)
-
-  still : (k x : ℕ) → (x ≡ 0 → ⊥) → item seats k ≡ x → item (set seats h v) k ≡ x
-  still k x z e = getD-set-other seats h k v 0 (λ q. z (sym e ∙ (ap (item seats) q ∙ free))) ∙ e
-
--- ---- a number that is new; n is the one at place i
-
-module _ (nums : List ℕ) (i : ℕ) (seats : List ℕ) (y : Seated nums i seats) (n : ℕ) (is : n ≡ item nums i) where
-  abbrev Turn : Bool → List ℕ → Type 0
-  Turn r l = (r ≡ newAt (item nums) i) × (r ≡ true → Seated nums (i + 1) l)
-
-  stays : ((item nums i ≡ 0 → ⊥) → (u : ℕ) → u < tries → item seats (seatOf (item nums i) u) ≡ 0 → ⊥) → Seated nums (i + 1) seats
-  stays k = record {
-    small = small-more (omega arith) (y .small);
-    held = λ j l z u b e. ⊎-elim
-        (λ q. absurd (k (λ w. z (ap (item nums) q ∙ w)) u b (ap (λ (x : ℕ). item seats (seatOf (item nums x) u)) (sym q) ∙ e)))
-        (λ a. y .held j a z u b e)
-        (last-or j i l);
+  entered-more : {seats′ : List ℕ} → Small (i + 1) seats′ → ((k : ℕ) → item seats′ k ≡ 0 → item seats k ≡ 0) → ((n ≡ 0 → ⊥) → item seats′ (seatOf n) ≡ 0 → ⊥) → Entered f (i + 1) placed seats′
+  entered-more {seats′} small kept own = record {
+    gathered = gathered-more f i nums n h (y .gathered) is;
+    seated = record {
+      small = small;
+      held = λ j l z e. ⊎-elim
+          (λ q. let x : item placed j ≡ n = rw q mine in own (λ w. z (x ∙ w)) (ap (λ (v : ℕ). item seats′ (seatOf v)) (sym x) ∙ e))
+          (λ a. let x : item placed j ≡ item nums j = getD-set-other nums i j n 0 (λ o. omega arith) in
+          y .seated .held j a (λ w. z (x ∙ w)) (kept (seatOf (item nums j)) (ap (λ (v : ℕ). item seats′ (seatOf v)) (sym x) ∙ e)))
+          (last-or j i l);
+    };
   }
 
-  pub turn-none : n ≡ 0 → Turn true seats
-  turn-none e = (sym (new-zero (item nums) i n is e), λ r. stays (λ z. absurd (z (sym is ∙ e))))
+  stays : ((n ≡ 0 → ⊥) → item seats (seatOf n) ≡ 0 → ⊥) → Entered f (i + 1) placed seats
+  stays own = entered-more (small-more (omega arith) (y .seated .small)) (λ k e. e) own
 
-  module _ (used : n ≡ 0 → ⊥) where
-    pub turn-full : Passed nums seats n tries → (r : Bool) → r ≡ every (λ j. not (eqb (item nums j) n)) i → Turn r seats
-    turn-full p r e = (e ∙ sym (new-used (item nums) i n is used), λ o. stays (λ z u b w. p u b .0 (ap (λ (x : ℕ). item seats (seatOf x u)) is ∙ w)))
+  pub sat-none : n ≡ 0 → Sat f i true placed seats
+  sat-none e = record { entered = stays (λ z. absurd (z e)); new = λ r. new-zero f i n is e }
 
-    pub turn-same : {h : ℕ} → Sought nums seats n h → (h ≡ seatCount → ⊥) → (item seats h ≡ 0 → ⊥) → Turn false seats
-    turn-same (full p) w z = absurd (w refl)
-    turn-same (stop {t} {h} b e l p o) w z =
-        let j : ℕ = item seats h - 1 in
-        let k : j < i = omega (arith, y .small .low h) in
-        (sym (new-used (item nums) i n is used ∙ every-fails (λ j. not (eqb (item nums j) n)) i j k (ap not (eq-eqb (item nums j) n (o z)))), λ r. clash false r refl)
+  module _ {k : ℕ} (at : k ≡ seatOf n) where
+    pub sat-taken : (item seats k ≡ 0 → ⊥) → Sat f i false placed seats
+    sat-taken taken = record { entered = stays (λ z e. taken (ap (item seats) at ∙ e)); new = λ r. clash false r refl }
 
-    -- a free seat
-    module _ {t h : ℕ} (b : t < tries) (e : h ≡ seatOf n t) (l : h < seatCount) (p : Passed nums seats n t) (free : item seats h ≡ 0) where
-      before : (j : ℕ) → j < i → item nums j ≡ n → ⊥
-      before j k q =
-          let f = y .held j k (λ w. used (sym q ∙ w)) t b (ap (λ (x : ℕ). item seats (seatOf x t)) q ∙ (ap (item seats) (sym e) ∙ free)) in
-          let s : item seats (seatOf n (f .0)) ≡ j + 1 = ap (λ (x : ℕ). item seats (seatOf x (f .0))) (sym q) ∙ f .2 in
-          let o : item seats (seatOf n (f .0)) - 1 ≡ j = omega arith in
-          p (f .0) (f .1) .1 (ap (item nums) o ∙ q)
+    module _ (used : n ≡ 0 → ⊥) (inside : k < seatCount) (free : item seats k ≡ 0) where
+      unlike : (j : ℕ) → j < i → f j ≡ n → ⊥
+      unlike j l q =
+          let x : item nums j ≡ n = y .gathered .is j l ∙ q in
+          y .seated .held j l (λ z. used (sym x ∙ z)) (ap (λ (v : ℕ). item seats (seatOf v)) x ∙ (ap (item seats) (sym at) ∙ free))
 
       abbrev taken : List ℕ
-      taken = set seats h (i + 1)
+      taken = set seats k (i + 1)
 
-      fits : h < length seats
-      fits = omega (arith, y .small .long)
+      own : item taken k ≡ i + 1
+      own = getD-set-same seats k (i + 1) 0 (omega (arith, y .seated .small .long))
 
-      mine : item taken h ≡ i + 1
-      mine = getD-set-same seats h (i + 1) 0 fits
-
-      -- a seat of n that is free still is one that it tries later
-      later : (u : ℕ) → item taken (seatOf n u) ≡ 0 → t < u
-      later u w = go (ltb t u) (ltb u t) refl refl
-        where
-          go : (a c : Bool) → ltb t u ≡ a → ltb u t ≡ c → t < u
-          go true c q o = ltb-true t u q
-          go false true q o = absurd (p u (ltb-true u t o) .0 (was-free seats h (i + 1) fits free (λ x. omega arith) (seatOf n u) w))
-          go false false q o =
-              let x : u ≡ t = omega (arith, ltb-false t u q, ltb-false u t o) in
-              absurd (let z : i + 1 ≡ 0 = sym mine ∙ (ap (item taken) (e ∙ ap (seatOf n) (sym x)) ∙ w) in omega arith)
-
-      seated : Seated nums (i + 1) taken
-      seated = record {
-        small = record {
-          long = length-set seats h (i + 1) ∙ y .small .long;
-          low = λ k. ⊎-elim
-              (λ q. let o : item taken k ≡ i + 1 = rw q mine in omega (arith, o))
-              (λ q. omega (arith, getD-set-other seats h k (i + 1) 0 q, y .small .low k))
-              (same-or k h);
-        };
-        held = λ j l z u c w. ⊎-elim
-            (λ q. let x : item nums j ≡ n = ap (item nums) q ∙ sym is in
-            let at : (v : ℕ) → item taken (seatOf (item nums j) v) ≡ item taken (seatOf n v) = λ v. ap (λ (m : ℕ). item taken (seatOf m v)) x in
-            (t, later u (sym (at u) ∙ w), at t ∙ (ap (item taken) (sym e) ∙ (mine ∙ ap (λ (m : ℕ). m + 1) (sym q)))))
-            (λ a. let f = y .held j a z u c (was-free seats h (i + 1) fits free (λ o. omega arith) (seatOf (item nums j) u) w) in
-            (f .0, f .1, still seats h (i + 1) fits free (λ o. omega arith) (seatOf (item nums j) (f .0)) (j + 1) (λ o. omega arith) (f .2)))
-            (last-or j i l);
+      pub sat-free : Sat f i true placed taken
+      sat-free = record {
+        entered = entered-more
+            (record {
+              long = length-set seats k (i + 1) ∙ y .seated .small .long;
+              low = λ g. ⊎-elim
+                  (λ q. let o : item taken g ≡ i + 1 = rw q own in omega (arith, o))
+                  (λ q. omega (arith, getD-set-other seats k g (i + 1) 0 q, y .seated .small .low g))
+                  (same-or g k);
+            })
+            (λ g e. ⊎-elim (λ q. rw q free) (λ q. sym (getD-set-other seats k g (i + 1) 0 q) ∙ e) (same-or g k))
+            (λ z e. let o : i + 1 ≡ 0 = sym own ∙ (ap (item taken) at ∙ e) in omega (arith, o));
+        new = λ r. new-used f i n is used ∙ all-every (λ j. not (eqb (f j) n)) i (λ j l. ap not (ne-eqb (f j) n (unlike j l)));
       }
 
-      pub turn-free : Turn true taken
-      turn-free = (sym (new-used (item nums) i n is used ∙ all-every (λ j. not (eqb (item nums j) n)) i (λ j k. ap not (ne-eqb (item nums j) n (before j k)))), λ r. seated)
-
-    pub turn-seated : {h : ℕ} → Sought nums seats n h → (h ≡ seatCount → ⊥) → item seats h ≡ 0 → Turn true (set seats h (i + 1))
-    turn-seated (full p) w z = absurd (w refl)
-    turn-seated (stop {t} {h} b e l p o) w z = turn-free b e l p z
-
--- ---- the first seat alone
-
-pub tried-took : {nums seats : List ℕ} {i : ℕ} → (true ≡ newAt (item nums) i) × (true ≡ true → Seated nums (i + 1) seats) → FirstTried nums i true seats
-tried-took t = record { took = λ r. (sym (t .0), t .1 refl); left = λ r. clash true refl r }
-
-pub tried-left : {nums seats : List ℕ} {i : ℕ} → (item nums i ≡ 0 → ⊥) → Seated nums i seats → FirstTried nums i false seats
-tried-left z y = record { took = λ r. clash false r refl; left = λ r. (z, y) }
+-- a turn of a loop that keeps whether each number found its seat free
+pub sat-more : {f : ℕ → ℕ} {i : ℕ} {r all : Bool} {nums seats : List ℕ} → (all ≡ true → distinct f i ≡ true) → Sat f i r nums seats → all && r ≡ true → distinct f (i + 1) ≡ true
+sat-more {f} {i} {r} {all} d y e = let o = and-yes all r e in distinct-more f i (d (o .0)) (y .new (o .1))

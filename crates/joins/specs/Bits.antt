@@ -4,6 +4,10 @@ use mathlib.Core.Bool.{Bool}
 use lib.Bits.{bitOr}
 use lib.Dec.{eqb}
 
+-- the bits of a word
+abbrev pub wordBits : ℕ
+wordBits = 64
+
 abbrev pub hasBit : ℕ → ℕ → Bool
 hasBit m b = eqb (m / 2 ^ b % 2) 1
 

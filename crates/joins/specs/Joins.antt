@@ -1,14 +1,15 @@
 -- The conditions that join records, as tests of the bytes where they lie.
-use Prim.Native.Nat.{ℕ, zero, suc, _+_, _*_, _-_, _/_, _%_, _≤_, _<_}
+use Prim.Native.Nat.{ℕ, _+_, _*_, _-_, _/_, _%_, _≤_, _<_}
 use mathlib.Core.Path.{_≡_}
 use mathlib.Core.Bool.{Bool, true, false, not, _&&_, _||_}
 use mathlib.Core.List.{List}
-use lib.ListN.{length, getD}
+use lib.ListN.{length, getD, set}
 use lib.Dec.{eqb, ltb}
-use Rattle.joins.specs.Bits.{hasBit}
+use Rattle.joins.specs.Bits.{wordBits, hasBit, withBit}
 use Rattle.lent.specs.Bytes.{le32}
 use Rattle.lent.specs.Tables.{if_then_else_, every, some, first}
 use Rattle.machine.specs.Sound.{newAt, distinct}
+use Rattle.machine.specs.Words.{INVALIDATE}
 use Rattle.machine.specs.Sizes.{keyCount, keysFrom, keyWidth, rowsFrom, rowWidth, sessionCount, sessionsFrom, sessionWidth}
 
 -- the number at +0 of record i of a table of records of w bytes from off
@@ -38,11 +39,11 @@ rowKind s i = getD s (rowsFrom + i * rowWidth + 5) 0
 unfoldable pub isLive : List ℕ → ℕ → Bool
 isLive s n = some (λ j. eqb (sessionNumbers s j) n) sessionCount
 
--- row j, if it is used and on key k, is of another session than n, and both rows are of kind 1
+-- row j, if it is used and on key k, is of another session than n, and both rows are of kind INVALIDATE
 unfoldable pub pairOk : List ℕ → ℕ → ℕ → ℕ → ℕ → Bool
 pairOk s n k d j =
     if eqb (rowSession s j) 0 then true
-    else if eqb (rowKey s j) k then not (eqb (rowSession s j) n) && (eqb (rowKind s j) 1 && eqb d 1)
+    else if eqb (rowKey s j) k then not (eqb (rowSession s j) n) && (eqb (rowKind s j) INVALIDATE && eqb d INVALIDATE)
     else true
 
 -- row i, if it is used: its key has no lease, its session is live, and it agrees with each row before it
@@ -86,68 +87,74 @@ pub record Stood (nums : List ℕ) (n r : ℕ) : Type 0 where
 abbrev pub OnlyPlace : List ℕ → ℕ → ℕ → ℕ → Type 0
 OnlyPlace nums m n r = (j : ℕ) → j < m → item nums j ≡ n → ((k : ℕ) → k < m → item nums k ≡ n → k ≡ j) → r ≡ j + 1
 
+-- Marks: a number has one bit, by its low twelve bits
+
+abbrev pub markWords : ℕ
+markWords = 64
+
+abbrev pub hasMark : List ℕ → ℕ → Bool
+hasMark marks n = hasBit (item marks (n / wordBits % markWords)) (n % wordBits)
+
+-- bit b of word k is set
+abbrev pub setBit : List ℕ → ℕ → ℕ → List ℕ
+setBit marks k b = set marks k (withBit (item marks k) b)
+
+-- each of the first k of the numbers f that is not 0 has its mark
+pub record Marked (f : ℕ → ℕ) (k : ℕ) (marks : List ℕ) : Type 0 where
+  pub long : length marks ≡ markWords
+  pub has : (j : ℕ) → j < k → (f j ≡ 0 → ⊥) → hasMark marks (f j) ≡ true
+
+-- number k has its mark too, and it is new if r says that it met no other's
+pub record Met (f : ℕ → ℕ) (k : ℕ) (r : Bool) (marks : List ℕ) : Type 0 where
+  pub marked : Marked f (k + 1) marks
+  pub new : r ≡ false → newAt f k ≡ true
+
 -- Seats: each has a place, plus 1, or 0 if it is free
 
 abbrev pub seatCount : ℕ
 seatCount = 1024
 
--- how many seats a number tries
-abbrev pub tries : ℕ
-tries = 16
-
--- the 32 low bits of the product with 2^32 over the golden ratio, plus 1, so that a multiple of a power of two does not stay one
-unfoldable pub spun : ℕ → ℕ
-spun x = (x * 2654435769 + 1) % 4294967296
-
--- n spun t times
-unfoldable pub spread : ℕ → ℕ → ℕ
-spread n zero = n
-spread n (suc t) = spun (spread n t)
-
--- the seat of the ten high bits of x
-unfoldable pub seatBy : ℕ → ℕ
-seatBy x = x / 4194304 % 1024
-
--- the seat that n tries at turn t: that of its low bits, and then those of n spun
-unfoldable pub seatOf : ℕ → ℕ → ℕ
-seatOf n zero = n % 1024
-seatOf n (suc t) = seatBy (spread n (suc t))
+-- the seat of n, by its low ten bits
+abbrev pub seatOf : ℕ → ℕ
+seatOf n = n % seatCount
 
 -- the seats have places below m
 pub record Small (m : ℕ) (seats : List ℕ) : Type 0 where
   pub long : length seats ≡ seatCount
   pub low : (h : ℕ) → item seats h ≤ m
 
--- others than n have the seats that it tries before turn t
-abbrev pub Passed : List ℕ → List ℕ → ℕ → ℕ → Type 0
-Passed nums seats n t = (u : ℕ) → u < t → (item seats (seatOf n u) ≡ 0 → ⊥) × (item nums (item seats (seatOf n u) - 1) ≡ n → ⊥)
-
--- the first seat that n tries and that is free or has n in it, or none
-pub data Sought (nums seats : List ℕ) (n : ℕ) : ℕ → Type 0 where
-  stop : {t h : ℕ} → t < tries → h ≡ seatOf n t → h < seatCount → Passed nums seats n t → ((item seats h ≡ 0 → ⊥) → item nums (item seats h - 1) ≡ n) → Sought nums seats n h
-  full : Passed nums seats n tries → Sought nums seats n seatCount
-
--- each number before place i that is not 0 has its seat before any that it tries and that is free
+-- the seat of each number before place i that is not 0 is taken
 pub record Seated (nums : List ℕ) (i : ℕ) (seats : List ℕ) : Type 0 where
   pub small : Small i seats
-  pub held : (j : ℕ) → j < i → (item nums j ≡ 0 → ⊥) → (u : ℕ) → u < tries → item seats (seatOf (item nums j) u) ≡ 0 → (t : ℕ) × (t < u) × (item seats (seatOf (item nums j) t) ≡ j + 1)
+  pub held : (j : ℕ) → j < i → (item nums j ≡ 0 → ⊥) → item seats (seatOf (item nums j)) ≡ 0 → ⊥
 
--- the number at place i is 0 or took its first seat, and is new; or it is left to take another
-pub record FirstTried (nums : List ℕ) (i : ℕ) (r : Bool) (seats : List ℕ) : Type 0 where
-  pub took : r ≡ true → (newAt (item nums) i ≡ true) × Seated nums (i + 1) seats
-  pub left : r ≡ false → (item nums i ≡ 0 → ⊥) × Seated nums i seats
-
--- the first i of the numbers f stand side by side, each that is not 0 once and with its seat
+-- the first i of the numbers f stand side by side, and their seats are taken
 pub record Entered (f : ℕ → ℕ) (i : ℕ) (nums seats : List ℕ) : Type 0 where
   pub gathered : Gathered f i nums
-  pub once : distinct f i ≡ true
   pub seated : Seated nums i seats
+
+-- number i entered too, and it is new if r says that its seat was free
+pub record Sat (f : ℕ → ℕ) (i : ℕ) (r : Bool) (nums seats : List ℕ) : Type 0 where
+  pub entered : Entered f (i + 1) nums seats
+  pub new : r ≡ true → newAt f i ≡ true
+
+-- the number at place j is 0, sits in its seat, or is loose: there is another number in its seat. x is the number if it is loose, or 0
+pub data Stand (nums seats : List ℕ) (j x : ℕ) : Type 0 where
+  no-number : item nums j ≡ 0 → x ≡ 0 → Stand nums seats j x
+  in-seat : item seats (seatOf (item nums j)) ≡ j + 1 → x ≡ 0 → Stand nums seats j x
+  at-large : (item nums (item seats (seatOf (item nums j)) - 1) ≡ item nums j → ⊥) → x ≡ item nums j → Stand nums seats j x
+
+-- of the numbers before place i the loose ones, each at its place, and zeros
+pub record Loosened (nums seats : List ℕ) (i : ℕ) (loose : List ℕ) : Type 0 where
+  pub long : length loose ≡ side
+  pub stands : (j : ℕ) → j < i → Stand nums seats j (item loose j)
+  pub rest : (j : ℕ) → i ≤ j → item loose j ≡ 0
 
 -- One pass over the rows
 
--- the mark of key k and session place q: bit q of the key's word in `near`, or bit q - 64 of that in `far`
+-- the mark of key k and session place q: bit q of the key's word in `near`, or bit q - wordBits of that in `far`
 abbrev pub pairBit : List ℕ → List ℕ → ℕ → ℕ → Bool
-pairBit near far k q = if ltb q 64 then hasBit (item near k) q else hasBit (item far k) (q - 64)
+pairBit near far k q = if ltb q wordBits then hasBit (item near k) q else hasBit (item far k) (q - wordBits)
 
 -- a word for each key
 pub record Sized (near far : List ℕ) : Type 0 where
@@ -160,11 +167,21 @@ pub record Noted (near far : List ℕ) (k q : ℕ) (r : Bool) (near′ far′ : 
   pub is : r ≡ pairBit near far k q
   pub bits : (a v : ℕ) → pairBit near′ far′ a v ≡ (pairBit near far a v || (eqb a k && eqb v q))
 
--- a row of kind d - 1 may stand on a key on which the kind `seen - 1` was seen, or none if that is 0: both are of kind 1, and the session has no mark there
+-- what stands on a key where a row is of kind d: rows of kind INVALIDATE, or this row alone
+abbrev pub SHARED : ℕ
+SHARED = 1
+
+abbrev pub ALONE : ℕ
+ALONE = 2
+
+abbrev pub standing : ℕ → ℕ
+standing d = if eqb d INVALIDATE then SHARED else ALONE
+
+-- what stands as d may come to a key on which `was` stands, or nothing if that is 0: both are of kind INVALIDATE, and the session has no mark there
 abbrev pub mayShare : ℕ → ℕ → Bool → Bool
-mayShare seen d marked =
-    if eqb seen 0 then true
-    else if eqb seen 2 then (if eqb d 2 then not marked else false)
+mayShare was d marked =
+    if eqb was 0 then true
+    else if eqb was SHARED then (if eqb d SHARED then not marked else false)
     else false
 
 -- row j is before row i, used, and on key k
@@ -173,10 +190,10 @@ pub record On (s : List ℕ) (i k j : ℕ) : Type 0 where
   pub used : rowSession s j ≡ 0 → ⊥
   pub key : rowKey s j ≡ k
 
--- what the kinds seen and the marks say of the rows before i; P is the place of a session's number, plus 1
+-- what stands on the keys, `seen`, and the marks say of the rows before i; P is the place of a session's number, plus 1
 pub record Seen (s : List ℕ) (P : ℕ → ℕ) (i : ℕ) (seen : List ℕ) (bit : ℕ → ℕ → Bool) : Type 0 where
   pub wide : length seen ≡ keyCount
-  pub kinds : (k j : ℕ) → On s i k j → item seen k ≡ rowKind s j + 1
+  pub kinds : (k j : ℕ) → On s i k j → item seen k ≡ standing (rowKind s j)
   pub found : (k : ℕ) → (item seen k ≡ 0 → ⊥) → (j : ℕ) × On s i k j
   pub placed : (k j : ℕ) → On s i k j → P (rowSession s j) ≡ 0 → ⊥
   pub marks : (k j : ℕ) → On s i k j → bit k (P (rowSession s j) - 1) ≡ true

@@ -1,11 +1,10 @@
 -- The records of the state that bytes decode to, by place, and those of their fields that the conditions across records read: they are what
 -- stands in the bytes, whatever the bytes are, since a number that is read as 0 is 0.
-use Prim.Native.Nat.{ℕ, _+_, _*_, _≤_, _<_}
+use Prim.Native.Nat.{ℕ, _+_, _*_, _<_}
 use mathlib.Core.Path.{_≡_, refl, sym, ap, _∙_}
 use mathlib.Core.Bool.{Bool, true, false}
 use mathlib.Core.List.{List}
 use mathlib.Core.Option.{none, some}
-use native.Mathlib.Nat.{add-zero}
 use native.Mathlib.Omega.{arith}
 use lib.Dec.{eqb}
 use borrow.Author.Tests.{eqb-true}
@@ -17,24 +16,21 @@ use Rattle.lent.proofs.Tables.{read-tab-at}
 use Rattle.machine.specs.Sizes.{keyCount, keysFrom, keyWidth, rowCount, rowsFrom, rowWidth, sessionCount, sessionsFrom, sessionWidth}
 use Rattle.machine.specs.State.{Key, Row, noRow, row, noSession, session, blank, keyOf, rowAt, sessionAt}
 use Rattle.machine.specs.Sound.{tokenIn, numberIn, numberAt, tokenAt}
+use Rattle.layout.proofs.Held.{le32-first}
 use Rattle.layout.specs.Layout.{decKey, decRow, decStaged, sessionFrom, decSession, decode}
-use Rattle.joins.specs.Joins.{numbers, rowSession, rowKey, rowKind}
+use Rattle.joins.specs.Joins.{sessionNumbers, rowSession, rowKey, rowKind}
 
--- the number at the front of a record
-le32-front : (s : List ℕ) (a n : ℕ) → 4 ≤ n → le32 (win s a n) 0 ≡ le32 s a
-le32-front s a n h = le32-win s a n 0 h ∙ rw add-zero
-
-number-is : (x : List ℕ) → numberIn (decSession x) ≡ le32 x 0
+number-decoded : (x : List ℕ) → numberIn (decSession x) ≡ le32 x 0
 unfolding decSession
-number-is x = go (eqb (le32 x 0) 0) refl
+number-decoded x = go (eqb (le32 x 0) 0) refl
   where
     go : (t : Bool) → eqb (le32 x 0) 0 ≡ t → numberIn (if t then noSession else session (sessionFrom x)) ≡ le32 x 0
     go true e = sym (eqb-true (le32 x 0) 0 e)
     go false e = refl
 
-token-is : (x : List ℕ) → tokenIn (decKey x .lease) ≡ le32 x 4
+token-decoded : (x : List ℕ) → tokenIn (decKey x .lease) ≡ le32 x 4
 unfolding decKey
-token-is x = go (eqb (le32 x 4) 0) refl
+token-decoded x = go (eqb (le32 x 4) 0) refl
   where
     go : (t : Bool) → eqb (le32 x 4) 0 ≡ t → tokenIn (if t then none else some (record { token = le32 x 4; until = le64 x 8 })) ≡ le32 x 4
     go true e = sym (eqb-true (le32 x 4) 0 e)
@@ -63,11 +59,11 @@ module _ (s : List ℕ) where
   unfolding decode
   session-at j h = read-tab-at decSession sessionWidth sessionCount s sessionsFrom noSession j h
 
-  pub number-at : (j : ℕ) → j < sessionCount → numberAt (decode s) j ≡ numbers s sessionsFrom sessionWidth j
-  number-at j h = ap numberIn (session-at j h) ∙ number-is (sessionBytes j) ∙ le32-front s (sessionsFrom + j * sessionWidth) sessionWidth (omega arith)
+  pub number-at : (j : ℕ) → j < sessionCount → numberAt (decode s) j ≡ sessionNumbers s j
+  number-at j h = ap numberIn (session-at j h) ∙ number-decoded (sessionBytes j) ∙ sym (le32-first s (sessionsFrom + j * sessionWidth) sessionWidth _ refl (omega arith))
 
   pub token-at : (k : ℕ) → k < keyCount → tokenAt (decode s) k ≡ le32 s (keysFrom + k * keyWidth + 4)
-  token-at k h = ap (λ (y : Key). tokenIn (y .lease)) (key-at k h) ∙ token-is (keyBytes k) ∙ le32-win s (keysFrom + k * keyWidth) keyWidth 4 (omega arith)
+  token-at k h = ap (λ (y : Key). tokenIn (y .lease)) (key-at k h) ∙ token-decoded (keyBytes k) ∙ le32-win s (keysFrom + k * keyWidth) keyWidth 4 (omega arith)
 
   -- row i, free or not
   abbrev pub rowOr : Bool → ℕ → Row
@@ -77,4 +73,4 @@ module _ (s : List ℕ) where
   unfolding decRow
   row-is i h =
       row-at i h
-      ∙ rw (le32-front s (rowsFrom + i * rowWidth) rowWidth (omega arith), getD-win s (rowsFrom + i * rowWidth) rowWidth 4 (omega arith), getD-win s (rowsFrom + i * rowWidth) rowWidth 5 (omega arith))
+      ∙ rw (← le32-first s (rowsFrom + i * rowWidth) rowWidth _ refl (omega arith), getD-win s (rowsFrom + i * rowWidth) rowWidth 4 (omega arith), getD-win s (rowsFrom + i * rowWidth) rowWidth 5 (omega arith))

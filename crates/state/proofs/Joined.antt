@@ -9,11 +9,12 @@ use lib.Dec.{eqb}
 use Rattle.lent.specs.Bytes.{Bytes, le32}
 use Rattle.lent.specs.Tables.{if_then_else_, every, some}
 use Rattle.lent.proofs.Walks.{all-every, every-both, every-cong, some-cong}
-use Rattle.machine.specs.Sizes.{keyCount, keysFrom, keyWidth, rowCount, rowsFrom, rowWidth, sessionCount, sessionsFrom, sessionWidth}
+use Rattle.machine.specs.Sizes.{keyCount, keysFrom, keyWidth, rowCount, rowsFrom, rowWidth, sessionCount}
+use Rattle.machine.specs.Words.{INVALIDATE}
 use Rattle.machine.specs.State.{Staged, Row, noRow, row, State, rowAt}
 use Rattle.machine.specs.Sound.{newAt, distinct, numberAt, tokenAt, numbersDistinct, tokensDistinct, liveRow, rowsLive, once, rowsOnce, shares, rowsAlone, leaseless, rowsLeaseless, joined}
 use Rattle.layout.specs.Layout.{decStaged, decode}
-use Rattle.joins.specs.Joins.{numbers, rowSession, rowKey, rowKind, isLive, pairOk, joinOk}
+use Rattle.joins.specs.Joins.{tokens, sessionNumbers, rowSession, rowKey, rowKind, isLive, pairOk, joinOk}
 use Rattle.state.proofs.Fields.{rowBytes, number-at, token-at, rowOr, row-is}
 
 distinct-cong : (f g : ℕ → ℕ) (n : ℕ) → ((i : ℕ) → i < n → f i ≡ g i) → distinct f n ≡ distinct g n
@@ -35,24 +36,24 @@ module _ (s : List ℕ) where
   abbrev σ : State
   σ = decode s
 
-  numbers-law : numbersDistinct σ ≡ distinct (numbers s sessionsFrom sessionWidth) sessionCount
+  numbers-by-bytes : numbersDistinct σ ≡ distinct (sessionNumbers s) sessionCount
   unfolding numbersDistinct
-  numbers-law = distinct-cong (numberAt σ) (numbers s sessionsFrom sessionWidth) sessionCount (number-at s)
+  numbers-by-bytes = distinct-cong (numberAt σ) (sessionNumbers s) sessionCount (number-at s)
 
-  tokens-law : tokensDistinct σ ≡ distinct (numbers s (keysFrom + 4) keyWidth) keyCount
+  tokens-by-bytes : tokensDistinct σ ≡ distinct (tokens s) keyCount
   unfolding tokensDistinct
-  tokens-law =
-      distinct-cong (tokenAt σ) (numbers s (keysFrom + 4) keyWidth) keyCount
+  tokens-by-bytes =
+      distinct-cong (tokenAt σ) (tokens s) keyCount
       (λ k h. let q : keysFrom + k * keyWidth + 4 ≡ keysFrom + 4 + k * keyWidth = omega arith in token-at s k h ∙ ap (le32 s) q)
 
-  live-law : (n : ℕ) → some (λ j. eqb (numberAt σ j) n) sessionCount ≡ isLive s n
+  live-by-bytes : (n : ℕ) → some (λ j. eqb (numberAt σ j) n) sessionCount ≡ isLive s n
   unfolding isLive
-  live-law n = some-cong _ _ sessionCount (λ j h. ap (λ (m : ℕ). eqb m n) (number-at s j h))
+  live-by-bytes n = some-cong _ _ sessionCount (λ j h. ap (λ (m : ℕ). eqb m n) (number-at s j h))
 
   -- row j beside one of session n on key k
-  pair-law : (n k d : ℕ) (u : Staged) (j : ℕ) → pairOk s n k d j ≡ once (rowOr s (eqb (rowSession s j) 0) j) (row n k d u) && shares (rowOr s (eqb (rowSession s j) 0) j) (row n k d u)
+  pair-by-bytes : (n k d : ℕ) (u : Staged) (j : ℕ) → pairOk s n k d j ≡ once (rowOr s (eqb (rowSession s j) 0) j) (row n k d u) && shares (rowOr s (eqb (rowSession s j) 0) j) (row n k d u)
   unfolding pairOk
-  pair-law n k d u j = go (eqb (rowSession s j) 0)
+  pair-by-bytes n k d u j = go (eqb (rowSession s j) 0)
     where
       mix : (a b c : Bool) → (if b then not a && c else true) ≡ not (a && b) && (if b then c else true)
       mix true true c = refl
@@ -60,19 +61,19 @@ module _ (s : List ℕ) where
       mix false true c = refl
       mix false false c = refl
 
-      go : (t : Bool) → (if t then true else if eqb (rowKey s j) k then not (eqb (rowSession s j) n) && (eqb (rowKind s j) 1 && eqb d 1) else true)
+      go : (t : Bool) → (if t then true else if eqb (rowKey s j) k then not (eqb (rowSession s j) n) && (eqb (rowKind s j) INVALIDATE && eqb d INVALIDATE) else true)
           ≡ once (rowOr s t j) (row n k d u) && shares (rowOr s t j) (row n k d u)
       go true = refl
-      go false = mix (eqb (rowSession s j) n) (eqb (rowKey s j) k) (eqb (rowKind s j) 1 && eqb d 1)
+      go false = mix (eqb (rowSession s j) n) (eqb (rowKey s j) k) (eqb (rowKind s j) INVALIDATE && eqb d INVALIDATE)
 
   -- row r, at place i, beside the sessions, the rows before it and its key
   abbrev agrees : ℕ → Row → Bool
   agrees i r = liveRow σ r && (every (λ j. once (rowAt σ j) r) i && (every (λ j. shares (rowAt σ j) r) i && leaseless σ r))
 
   module _ (f : Bytes s) where
-    row-law : (i : ℕ) → i < rowCount → agrees i (rowAt σ i) ≡ joinOk s i
+    row-joins : (i : ℕ) → i < rowCount → agrees i (rowAt σ i) ≡ joinOk s i
     unfolding joinOk
-    row-law i h = rw (row-is s i h) (go (eqb (rowSession s i) 0))
+    row-joins i h = rw (row-is s i h) (go (eqb (rowSession s i) 0))
       where
         mix : (a o b c : Bool) → a && (o && (b && c)) ≡ (if c then if a then o && b else false else false)
         mix true o b true = ap (λ (t : Bool). o && t) (and-true b)
@@ -82,7 +83,7 @@ module _ (s : List ℕ) where
 
         pairs : every (pairOk s (rowSession s i) (rowKey s i) (rowKind s i)) i ≡ every (λ j. once (rowAt σ j) (rowOr s false i)) i && every (λ j. shares (rowAt σ j) (rowOr s false i)) i
         pairs =
-            every-cong _ _ i (λ j b. pair-law (rowSession s i) (rowKey s i) (rowKind s i) (decStaged (rowBytes s i)) j ∙ rw (row-is s j (omega arith)))
+            every-cong _ _ i (λ j b. pair-by-bytes (rowSession s i) (rowKey s i) (rowKind s i) (decStaged (rowBytes s i)) j ∙ rw (row-is s j (omega arith)))
             ∙ sym (every-both _ _ i)
 
         go : (t : Bool) → agrees i (rowOr s t i)
@@ -90,15 +91,15 @@ module _ (s : List ℕ) where
         go true =
             rw (all-every (λ j. once (rowAt σ j) noRow) i (λ j b. once-free (rowAt σ j)), all-every (λ j. shares (rowAt σ j) noRow) i (λ j b. shares-free (rowAt σ j)))
         go false =
-            rw (live-law (rowSession s i), token-at s (rowKey s i) (f (rowsFrom + i * rowWidth + 4)), pairs)
+            rw (live-by-bytes (rowSession s i), token-at s (rowKey s i) (f (rowsFrom + i * rowWidth + 4)), pairs)
             (mix (isLive s (rowSession s i)) (every (λ j. once (rowAt σ j) (rowOr s false i)) i) (every (λ j. shares (rowAt σ j) (rowOr s false i)) i) (eqb (le32 s (keysFrom + rowKey s i * keyWidth + 4)) 0))
 
-    rows-law : rowsLive σ && (rowsOnce σ && (rowsAlone σ && rowsLeaseless σ)) ≡ every (joinOk s) rowCount
+    rows-join : rowsLive σ && (rowsOnce σ && (rowsAlone σ && rowsLeaseless σ)) ≡ every (joinOk s) rowCount
     unfolding rowsLive rowsOnce rowsAlone rowsLeaseless
-    rows-law =
+    rows-join =
         rw (every-both (λ i. every (λ j. shares (rowAt σ j) (rowAt σ i)) i) (λ i. leaseless σ (rowAt σ i)) rowCount, every-both (λ i. every (λ j. once (rowAt σ j) (rowAt σ i)) i) (λ i. every (λ j. shares (rowAt σ j) (rowAt σ i)) i && leaseless σ (rowAt σ i)) rowCount, every-both (λ i. liveRow σ (rowAt σ i)) (λ i. every (λ j. once (rowAt σ j) (rowAt σ i)) i && (every (λ j. shares (rowAt σ j) (rowAt σ i)) i && leaseless σ (rowAt σ i))) rowCount)
-        (every-cong (λ i. agrees i (rowAt σ i)) (joinOk s) rowCount row-law)
+        (every-cong (λ i. agrees i (rowAt σ i)) (joinOk s) rowCount row-joins)
 
-    pub joined-law : joined σ ≡ distinct (numbers s sessionsFrom sessionWidth) sessionCount && (distinct (numbers s (keysFrom + 4) keyWidth) keyCount && every (joinOk s) rowCount)
+    pub joined-by-bytes : joined σ ≡ distinct (sessionNumbers s) sessionCount && (distinct (tokens s) keyCount && every (joinOk s) rowCount)
     unfolding joined
-    joined-law = rw (numbers-law, tokens-law, rows-law)
+    joined-by-bytes = rw (numbers-by-bytes, tokens-by-bytes, rows-join)

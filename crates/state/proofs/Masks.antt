@@ -6,8 +6,9 @@ use mathlib.Core.List.{List}
 use native.Mathlib.Omega.{arith}
 use lib.ListN.{getD, length, set, length-set, replicate, length-replicate}
 use lib.Seq.{getD-set-same, getD-set-other}
+use Rattle.machine.proofs.Views.{getD-same}
 use Rattle.machine.specs.Sizes.{valueMax}
-use Rattle.joins.proofs.Numbers.{last-or, item-zeros}
+use Rattle.joins.proofs.Numbers.{last-or}
 use Rattle.state.specs.Forms.{Masks}
 
 pub record Filled (i : ℕ) (masks : List ℕ) : Type 0 where
@@ -18,7 +19,7 @@ pub record Filled (i : ℕ) (masks : List ℕ) : Type 0 where
 pub filled-none : (masks : List ℕ) → masks ≡ replicate (valueMax + valueMax) 0 → Filled valueMax masks
 filled-none masks e = rw e (record {
   long = length-replicate {A = ℕ} (valueMax + valueMax) 0;
-  zeros = λ j h. item-zeros (valueMax + valueMax) j;
+  zeros = λ j h. getD-same {A = ℕ} (valueMax + valueMax) j 0;
   ones = λ j h l. absurd (omega arith);
 })
 

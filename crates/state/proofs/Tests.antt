@@ -1,29 +1,25 @@
--- What a call says of its definition's test, by the branch on its result: of the test itself, or of a test of one record of a table.
-use Prim.Native.Nat.{ℕ, _+_, _-_}
-use mathlib.Core.Path.{_≡_, refl, sym, ap, _∙_}
-use mathlib.Core.Bool.{Bool, true, false, not, _&&_}
+-- What the calls in a walk over a table's records say of the test of each: the record is lent as `&s[at..at + w]`, which is its window.
+use Prim.Native.Nat.{ℕ, _+_, _*_, _-_, _<_}
+use mathlib.Core.Path.{_≡_, ap, _∙_}
+use mathlib.Core.Bool.{Bool, true, false, not}
 use mathlib.Core.List.{List}
 use lib.ListN.{take, drop}
-use borrow.Author.Tests.{not-true, not-false}
 use Rattle.lent.specs.Bytes.{win}
-use Rattle.lent.specs.Tables.{if_then_else_}
+use Rattle.lent.specs.Tables.{every}
+use Rattle.lent.proofs.Choices.{test-failed, test-passed}
 use Rattle.lent.proofs.Splice.{part-win}
+use Rattle.lent.proofs.Walks.{every-fails, every-more}
 
-pub failed : {r t : Bool} → r ≡ t → not r ≡ true → t ≡ false
-failed {r} e n = sym e ∙ not-true r n
+-- record i of records of w bytes from off; r is what the call says of it
+module _ (test : List ℕ → Bool) (s : List ℕ) (off w i : ℕ) {r : Bool} (e : r ≡ test (take (off + i * w + w - (off + i * w)) (drop (off + i * w) s))) where
+  abbrev Passes : ℕ → Bool
+  Passes j = test (win s (off + j * w) w)
 
-pub passed : {r t : Bool} → r ≡ t → not r ≡ false → t ≡ true
-passed {r} e n = sym e ∙ not-false r n
+  here : r ≡ Passes i
+  here = e ∙ ap test (part-win s (off + i * w) w)
 
--- a test that both ways end with
-pub if-both : (t a b z : Bool) → (if t then a && z else b && z) ≡ (if t then a else b) && z
-if-both true a b z = refl
-if-both false a b z = refl
+  pub records-failed : (n : ℕ) → i < n → not r ≡ true → every Passes n ≡ false
+  records-failed n h t = every-fails Passes n i h (test-failed here t)
 
--- the record is lent as `&s[at..at + w]`
-module _ (test : List ℕ → Bool) (s : List ℕ) (at w : ℕ) {r : Bool} (e : r ≡ test (take (at + w - at) (drop at s))) where
-  pub record-failed : not r ≡ true → test (win s at w) ≡ false
-  record-failed n = failed (e ∙ ap test (part-win s at w)) n
-
-  pub record-passed : not r ≡ false → test (win s at w) ≡ true
-  record-passed n = passed (e ∙ ap test (part-win s at w)) n
+  pub records-passed : not r ≡ false → every Passes i ≡ true → every Passes (i + 1) ≡ true
+  records-passed t h = every-more Passes i h (test-passed here t)

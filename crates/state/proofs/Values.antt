@@ -29,9 +29,9 @@ module _ (x : List ℕ) (f : Bytes x) (word : ℕ) (is : word ≡ le32 x 0) wher
   pub value-mark : 1 < word % 256 → valueFormed x ≡ false
   value-mark h = value-unmarked (λ e. omega (arith, e, h)) (λ e. omega (arith, e, mark-is, h))
 
-  pub value-long : word % 256 * valueMax < word / 256 → valueFormed x ≡ false
+  pub value-too-long : word % 256 * valueMax < word / 256 → valueFormed x ≡ false
   unfolding valueFormed fitted
-  value-long h =
+  value-too-long h =
       let u : word ≡ 0 → ⊥ = λ e. omega (arith, e, h) in
       ⊎-elim
       (λ m. ⊎-elim

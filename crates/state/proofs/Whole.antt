@@ -10,7 +10,7 @@ use lib.Seq.{take-all}
 use borrow.Author.Tests.{eq-eqb, ne-eqb}
 use Rattle.lent.specs.Bytes.{Bytes, win, zeros}
 use Rattle.lent.specs.Tables.{every, allZero, same, tabOf, readTab}
-use Rattle.lent.proofs.Choices.{and-swap}
+use Rattle.lent.proofs.Choices.{and-swap, and-ahead}
 use Rattle.lent.proofs.Equal.{same-split, same-zeros}
 use Rattle.lent.proofs.Splice.{bytes-win, length-win}
 use Rattle.lent.proofs.Tables.{length-read, same-tab-at}
@@ -20,12 +20,12 @@ use Rattle.machine.specs.State.{Head, State, keyOf, rowAt, sessionAt}
 use Rattle.machine.specs.Sound.{headSound, keySound, rowSound, sessionSound, distinct, joined, sized, sound}
 use Rattle.layout.specs.Layout.{encHead, decHead, encKey, decKey, encRow, decRow, encSession, decSession, encode, decode}
 use Rattle.layout.specs.WellFormed.{wellFormed}
-use Rattle.joins.specs.Joins.{numbers, joinOk}
+use Rattle.joins.specs.Joins.{tokens, sessionNumbers, joinOk}
 use Rattle.state.specs.Forms.{headFormed, keysFormed, rowsFormed, sessionsFormed, keysFit, sessionsFit, rowsFit, tablesFit, stateFormed}
 use Rattle.state.proofs.Widths.{key-wide, row-wide, session-wide}
-use Rattle.state.proofs.Records.{head-law, key-law, row-law, session-law}
+use Rattle.state.proofs.Records.{head-is-formed, key-is-formed, row-is-formed, session-is-formed}
 use Rattle.state.proofs.Fields.{keyBytes, rowBytes, sessionBytes, key-at, row-at, session-at}
-use Rattle.state.proofs.Joined.{joined-law}
+use Rattle.state.proofs.Joined.{joined-by-bytes}
 
 pub wrong-length : (s : List ℕ) → (length s ≡ stateSize → ⊥) → wellFormed s ≡ false
 unfolding wellFormed
@@ -47,78 +47,72 @@ module _ (s : List ℕ) (h : length s ≡ stateSize) (f : Bytes s) where
   unfolding win
   front = refl
 
-  rest-law : same (drop restFrom s) (zeros restSize) ≡ allZero (win s restFrom restSize)
+  rest-zero : same (drop restFrom s) (zeros restSize) ≡ allZero (win s restFrom restSize)
   unfolding win
-  rest-law =
+  rest-zero =
       let l : length (drop restFrom s) ≡ restSize = simp length-drop (omega arith) in
       same-zeros (drop restFrom s) restSize l ∙ ap allZero (sym (take-all restSize (drop restFrom s) (omega arith)))
 
-  bytes-law : same s (encode σ) ≡
+  same-by-records : same s (encode σ) ≡
       same (win s 0 headSize) (encHead hd)
       && (every (λ k. same (keyBytes s k) (encKey (decKey (keyBytes s k)))) keyCount
       && (every (λ i. same (rowBytes s i) (encRow (decRow (rowBytes s i)))) rowCount
       && (every (λ j. same (sessionBytes s j) (encSession (decSession (sessionBytes s j)))) sessionCount
       && allZero (win s restFrom restSize))))
   unfolding encode decode
-  bytes-law =
+  same-by-records =
       let q2 : List ℕ = tabOf encSession (readTab decSession sessionWidth sessionCount (drop sessionsFrom s)) ++ zeros restSize in
       let q1 : List ℕ = tabOf encRow (readTab decRow rowWidth rowCount (drop rowsFrom s)) ++ q2 in
       let q0 : List ℕ = tabOf encKey (readTab decKey keyWidth keyCount (drop keysFrom s)) ++ q1 in
       same-split s (encHead hd) q0 headSize head-long (omega arith)
-      ∙ rw (front, same-tab-at encKey decKey keyWidth key-wide keyCount s keysFrom q1 (omega arith), same-tab-at encRow decRow rowWidth row-wide rowCount s rowsFrom q2 (omega arith), same-tab-at encSession decSession sessionWidth session-wide sessionCount s sessionsFrom (zeros restSize) (omega arith), rest-law)
+      ∙ rw (front, same-tab-at encKey decKey keyWidth key-wide keyCount s keysFrom q1 (omega arith), same-tab-at encRow decRow rowWidth row-wide rowCount s rowsFrom q2 (omega arith), same-tab-at encSession decSession sessionWidth session-wide sessionCount s sessionsFrom (zeros restSize) (omega arith), rest-zero)
 
   -- ---- sound, record by record
-  sized-law : sized σ ≡ true
+  sized-yes : sized σ ≡ true
   unfolding sized decode
-  sized-law =
+  sized-yes =
       rw (length-read decKey keyWidth keyCount (drop keysFrom s), length-read decSession sessionWidth sessionCount (drop sessionsFrom s), length-read decRow rowWidth rowCount (drop rowsFrom s))
 
-  sound-law : sound σ ≡
+  sound-by-records : sound σ ≡
       headSound hd
       && (every (λ k. keySound hd (decKey (keyBytes s k))) keyCount
       && (every (λ i. rowSound (decRow (rowBytes s i))) rowCount
       && (every (λ j. sessionSound hd (decSession (sessionBytes s j))) sessionCount
       && joined σ)))
   unfolding sound decode
-  sound-law =
+  sound-by-records =
       let k : every (λ i. keySound hd (keyOf σ i)) keyCount ≡ every (λ i. keySound hd (decKey (keyBytes s i))) keyCount = every-cong _ _ keyCount (λ i l. ap (keySound hd) (key-at s i l)) in
       let r : every (λ i. rowSound (rowAt σ i)) rowCount ≡ every (λ i. rowSound (decRow (rowBytes s i))) rowCount = every-cong _ _ rowCount (λ i l. ap rowSound (row-at s i l)) in
       let j : every (λ i. sessionSound hd (sessionAt σ i)) sessionCount ≡ every (λ i. sessionSound hd (decSession (sessionBytes s i))) sessionCount = every-cong _ _ sessionCount (λ i l. ap (sessionSound hd) (session-at s i l)) in
-      rw (sized-law, k, r, j)
+      rw (sized-yes, k, r, j)
 
   -- ---- the two together, table by table
-  keys-law : every (λ k. same (keyBytes s k) (encKey (decKey (keyBytes s k)))) keyCount && every (λ k. keySound hd (decKey (keyBytes s k))) keyCount ≡ keysFormed s
+  keys-are-formed : every (λ k. same (keyBytes s k) (encKey (decKey (keyBytes s k)))) keyCount && every (λ k. keySound hd (decKey (keyBytes s k))) keyCount ≡ keysFormed s
   unfolding keysFormed
-  keys-law =
+  keys-are-formed =
       every-both _ _ keyCount
-      ∙ every-cong _ _ keyCount (λ k l. key-law (keyBytes s k) (bytes-win s (keysFrom + k * keyWidth) keyWidth (omega arith) f) (length-win s (keysFrom + k * keyWidth) keyWidth (omega arith)) hd)
+      ∙ every-cong _ _ keyCount (λ k l. key-is-formed (keyBytes s k) (bytes-win s (keysFrom + k * keyWidth) keyWidth (omega arith) f) (length-win s (keysFrom + k * keyWidth) keyWidth (omega arith)) hd)
 
-  rows-law : every (λ i. same (rowBytes s i) (encRow (decRow (rowBytes s i)))) rowCount && every (λ i. rowSound (decRow (rowBytes s i))) rowCount ≡ rowsFormed s
+  rows-are-formed : every (λ i. same (rowBytes s i) (encRow (decRow (rowBytes s i)))) rowCount && every (λ i. rowSound (decRow (rowBytes s i))) rowCount ≡ rowsFormed s
   unfolding rowsFormed
-  rows-law =
+  rows-are-formed =
       every-both _ _ rowCount
-      ∙ every-cong _ _ rowCount (λ i l. row-law (rowBytes s i) (bytes-win s (rowsFrom + i * rowWidth) rowWidth (omega arith) f) (length-win s (rowsFrom + i * rowWidth) rowWidth (omega arith)))
+      ∙ every-cong _ _ rowCount (λ i l. row-is-formed (rowBytes s i) (bytes-win s (rowsFrom + i * rowWidth) rowWidth (omega arith) f) (length-win s (rowsFrom + i * rowWidth) rowWidth (omega arith)))
 
-  sessions-law : every (λ j. same (sessionBytes s j) (encSession (decSession (sessionBytes s j)))) sessionCount && every (λ j. sessionSound hd (decSession (sessionBytes s j))) sessionCount ≡ sessionsFormed s
+  sessions-are-formed : every (λ j. same (sessionBytes s j) (encSession (decSession (sessionBytes s j)))) sessionCount && every (λ j. sessionSound hd (decSession (sessionBytes s j))) sessionCount ≡ sessionsFormed s
   unfolding sessionsFormed
-  sessions-law =
+  sessions-are-formed =
       every-both _ _ sessionCount
-      ∙ every-cong _ _ sessionCount (λ j l. session-law (sessionBytes s j) (bytes-win s (sessionsFrom + j * sessionWidth) sessionWidth (omega arith) f) (length-win s (sessionsFrom + j * sessionWidth) sessionWidth (omega arith)) hd)
+      ∙ every-cong _ _ sessionCount (λ j l. session-is-formed (sessionBytes s j) (bytes-win s (sessionsFrom + j * sessionWidth) sessionWidth (omega arith) f) (length-win s (sessionsFrom + j * sessionWidth) sessionWidth (omega arith)) hd)
 
   -- each table's records with what joins them
   line : (h k r q z n t j : Bool) → h && (k && (r && (q && (z && (n && (t && j)))))) ≡ h && (z && ((k && t) && ((q && n) && (r && j))))
   line h k r q z n t j =
-      rw (ahead q z (n && (t && j)), ahead r z (q && (n && (t && j))), ahead k z (r && (q && (n && (t && j)))), ahead n t j, ahead q t (n && j), ahead r t (q && (n && j)), ahead r q (n && j), ahead r n j, and-assoc k t ((q && n) && (r && j)), and-assoc q n (r && j))
-    where
-      ahead : (a b c : Bool) → a && (b && c) ≡ b && (a && c)
-      ahead true true c = refl
-      ahead true false c = refl
-      ahead false true c = refl
-      ahead false false c = refl
+      rw (and-ahead q z (n && (t && j)), and-ahead r z (q && (n && (t && j))), and-ahead k z (r && (q && (n && (t && j)))), and-ahead n t j, and-ahead q t (n && j), and-ahead r t (q && (n && j)), and-ahead r q (n && j), and-ahead r n j, and-assoc k t ((q && n) && (r && j)), and-assoc q n (r && j))
 
-  pub whole : stateFormed s ≡ wellFormed s
+  pub formed-is-well-formed : stateFormed s ≡ wellFormed s
   unfolding stateFormed tablesFit keysFit sessionsFit rowsFit wellFormed
-  whole =
+  formed-is-well-formed =
       sym
-      (rw (eq-eqb (length s) stateSize h, bytes-law, sound-law, and-swap, head-law s f h, and-swap, keys-law, and-swap, rows-law, and-swap, sessions-law, joined-law s f)
-      (line (headFormed s) (keysFormed s) (rowsFormed s) (sessionsFormed s) (allZero (win s restFrom restSize)) (distinct (numbers s sessionsFrom sessionWidth) sessionCount) (distinct (numbers s (keysFrom + 4) keyWidth) keyCount) (every (joinOk s) rowCount)))
+      (rw (eq-eqb (length s) stateSize h, same-by-records, sound-by-records, and-swap, head-is-formed s f h, and-swap, keys-are-formed, and-swap, rows-are-formed, and-swap, sessions-are-formed, joined-by-bytes s f)
+      (line (headFormed s) (keysFormed s) (rowsFormed s) (sessionsFormed s) (allZero (win s restFrom restSize)) (distinct (sessionNumbers s) sessionCount) (distinct (tokens s) keyCount) (every (joinOk s) rowCount)))

@@ -13,17 +13,17 @@ use Rattle.machine.specs.Sizes.{keyWidth, rowWidth, sessionWidth}
 use Rattle.machine.specs.State.{noSession, session, nothing, staged, DROP, noRow, row}
 use Rattle.layout.specs.Layout.{valueMark, valueBytes, leaseBytes, encKey, decKey, encRow, decRow, sessionFrom, encSession, decSession}
 
-short : (x : List ℕ) (a n : ℕ) → length (win x a n) ≤ length x - a
+win-short : (x : List ℕ) (a n : ℕ) → length (win x a n) ≤ length x - a
 unfolding win
-short x a n = simp (length-take, length-drop) (omega arith)
+win-short x a n = simp (length-take, length-drop) (omega arith)
 
 pub key-wide : (x : List ℕ) → length x ≡ keyWidth → length (encKey (decKey x)) ≡ keyWidth
 unfolding encKey decKey
 key-wide x h = go (eqb (getD x 0 0) 1) (eqb (le32 x 4) 0)
   where
     go : (t u : Bool) → length (valueMark (if t then some (win x 16 (getD x 1 0)) else none) ++ (leaseBytes (if u then none else some (record { token = le32 x 4; until = le64 x 8 })) ++ valueBytes (if t then some (win x 16 (getD x 1 0)) else none))) ≡ keyWidth
-    go true true = simp (length-append, length-replicate) (omega (arith, short x 16 (getD x 1 0)))
-    go true false = simp (length-append, length-replicate) (omega (arith, short x 16 (getD x 1 0)))
+    go true true = simp (length-append, length-replicate) (omega (arith, win-short x 16 (getD x 1 0)))
+    go true false = simp (length-append, length-replicate) (omega (arith, win-short x 16 (getD x 1 0)))
     go false true = refl
     go false false = refl
 
@@ -33,7 +33,7 @@ row-wide x h = go (eqb (le32 x 0) 0) (eqb (getD x 6 0) 1) (eqb (getD x 6 0) 2)
   where
     go : (t u v : Bool) → length (encRow (if t then noRow else row (le32 x 0) (getD x 4 0) (getD x 5 0) (if u then staged (win x 8 (getD x 7 0)) else if v then DROP else nothing))) ≡ rowWidth
     go true u v = refl
-    go false true v = simp (length-append, length-replicate) (omega (arith, short x 8 (getD x 7 0)))
+    go false true v = simp (length-append, length-replicate) (omega (arith, win-short x 8 (getD x 7 0)))
     go false false true = refl
     go false false false = refl
 

@@ -11,10 +11,10 @@ use Rattle.lent.specs.Bytes.{le16, le32, le64, win}
 use Rattle.lent.specs.Tables.{if_then_else_, every, allZero}
 use Rattle.machine.specs.Sizes.{keyCount, sessionCount, rowCount, valueMax, stepMax, keysFrom, keyWidth, rowsFrom, rowWidth, sessionsFrom, sessionWidth, restFrom, restSize}
 use Rattle.machine.specs.State.{Head}
-use Rattle.machine.specs.Words.{isKind}
+use Rattle.machine.specs.Words.{REFRESH, INCREMENTAL, isKind}
 use Rattle.machine.specs.Sound.{headSound, distinct}
 use Rattle.layout.specs.Layout.{decHead}
-use Rattle.joins.specs.Joins.{numbers, joinOk}
+use Rattle.joins.specs.Joins.{tokens, sessionNumbers, joinOk}
 
 -- One record
 
@@ -40,9 +40,9 @@ keyFormed limit next x = valueFormed x && leaseFormed limit next x
 -- what a row of kind d stages: a value, DROP, or nothing
 unfoldable pub stagedFormed : ℕ → List ℕ → Bool
 stagedFormed d x =
-    if eqb (getD x 6 0) 1 then leb 2 d && fitted x 8 (getD x 7 0)
-    else if eqb (getD x 6 0) 2 then eqb d 3 && allZero (win x 7 65)
-    else eqb (getD x 6 0) 0 && allZero (win x 7 65)
+    if eqb (getD x 6 0) 1 then leb REFRESH d && fitted x 8 (getD x 7 0)
+    else if eqb (getD x 6 0) 2 then eqb d INCREMENTAL && allZero (win x 7 (1 + valueMax))
+    else eqb (getD x 6 0) 0 && allZero (win x 7 (1 + valueMax))
 
 unfoldable pub rowFormed : List ℕ → Bool
 rowFormed x = if eqb (le32 x 0) 0 then allZero x else isKind (getD x 5 0) && stagedFormed (getD x 5 0) x
@@ -75,11 +75,11 @@ sessionsFormed s = every (λ j. sessionFormed (writeLimit (decHead s)) (decHead 
 
 -- tokens are distinct
 unfoldable pub keysFit : List ℕ → Bool
-keysFit s = keysFormed s && distinct (numbers s (keysFrom + 4) keyWidth) keyCount
+keysFit s = keysFormed s && distinct (tokens s) keyCount
 
 -- session numbers are distinct
 unfoldable pub sessionsFit : List ℕ → Bool
-sessionsFit s = sessionsFormed s && distinct (numbers s sessionsFrom sessionWidth) sessionCount
+sessionsFit s = sessionsFormed s && distinct (sessionNumbers s) sessionCount
 
 -- each row agrees with the sessions, its key and the rows before it
 unfoldable pub rowsFit : List ℕ → Bool

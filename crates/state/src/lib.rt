@@ -6,10 +6,11 @@ ghost use lib.ListN.{length, replicate};
 ghost use lib.Dec.{eqb};
 ghost use Rattle.lent.specs.Bytes.{le64, le32, win};
 ghost use Rattle.lent.specs.Tables.{if_then_else_, allZero};
-ghost use Rattle.machine.specs.Sizes.{stateSize, keyWidth, rowWidth, sessionCount, sessionsFrom, sessionWidth, valueMax, timeMax};
+ghost use Rattle.machine.specs.Sizes.{stateSize, keyWidth, rowWidth, sessionCount, sessionWidth, valueMax, timeMax};
+ghost use Rattle.machine.specs.Words.{INCREMENTAL};
 ghost use Rattle.machine.specs.Sound.{lifetime};
 ghost use Rattle.layout.specs.WellFormed.{wellFormed};
-ghost use Rattle.joins.specs.Joins.{numbers, Entered};
+ghost use Rattle.joins.specs.Joins.{sessionNumbers, Small, Entered, Sessions};
 ghost use Rattle.state.specs.Forms.{headFormed, fitted, valueFormed, leaseFormed, keyFormed, stagedFormed, rowFormed, lifeFormed, sessionFormed, Masks, keysFit, sessionsFit, rowsFit, tablesFit, stateFormed};
 
 // The header's bytes that are used, and those behind them.
@@ -141,7 +142,7 @@ fn key_formed(r: &[u8], limit: u64, next: u32, masks: &[u8; MASKS]) -> bool
 // No value in a row: length and bytes are 0.
 fn is_plain(r: &[u8]) -> bool
     requires { ⌜ length (now r) ≡ rowWidth ⌝ }
-    ensures { λ b. ⌜ b ≡ allZero (win (now (r .entry)) 7 65) ⌝ }
+    ensures { λ b. ⌜ b ≡ allZero (win (now (r .entry)) 7 (1 + valueMax)) ⌝ }
 {
     if r[layout::ROW_LENGTH] != 0 {
         return false;
@@ -151,7 +152,7 @@ fn is_plain(r: &[u8]) -> bool
 
 // Whether a row of this kind may have the mark of a row without a value: nothing, or DROP.
 fn is_marked(mark: u8, kind: u8) -> bool
-    ensures { λ b. ⌜ b ≡ (if eqb mark 2 then eqb kind 3 else eqb mark 0) ⌝ }
+    ensures { λ b. ⌜ b ≡ (if eqb mark 2 then eqb kind INCREMENTAL else eqb mark 0) ⌝ }
 {
     if mark == layout::DROPPED {
         return kind == machine::INCREMENTAL;
@@ -243,44 +244,52 @@ fn limit(s: &[u8], life: usize) -> u64
     lent::load_u64(s, layout::CLOCK) + lent::load_u32(s, life) as u64
 }
 
-// Each key by itself, and tokens distinct.
+// Each key by itself, and tokens distinct: none met the mark of another, or they are put in order.
 fn keys_fit(s: &[u8], masks: &[u8; MASKS]) -> bool
     requires { ⌜ (length (now s) ≡ stateSize) × ((le64 (now s) 0 ≤ timeMax) × Masks (now masks)) ⌝ }
     ensures { λ r. ⌜ r ≡ keysFit (now (s .entry)) ⌝ }
 {
     let until = limit(s, layout::READ_LIFE);
     let next = lent::load_u32(s, layout::NEXT_TOKEN);
-    let mut nums: [u32; joins::SIDE] = [0; joins::SIDE];
-    let mut seats: [u16; joins::SEATS] = [0; joins::SEATS];
+    let mut marks: [u64; joins::MARK_WORDS] = [0; joins::MARK_WORDS];
+    let mut met = false;
     for k in 0..layout::KEY_COUNT {
         let at = layout::KEYS_FROM + k * layout::KEY_WIDTH;
         if !key_formed(&s[at..at + layout::KEY_WIDTH], until, next, masks) {
             return false;
         }
-        if !joins::token_enters(s, k, &mut nums, &mut seats) {
-            return false;
-        }
+        met = met | joins::token_meets(s, k, &mut marks);
     }
-    true
+    if !met {
+        return true;
+    }
+    joins::tokens_differ(s)
 }
 
-// Each session by itself, and numbers distinct; all then have their seats.
-fn sessions_fit(s: &[u8], nums: &mut [u32; joins::SIDE], seats: &mut [u16; joins::SEATS]) -> bool
-    requires { ⌜ (length (now s) ≡ stateSize) × ((le64 (now s) 0 ≤ timeMax) × Entered (numbers (now s) sessionsFrom sessionWidth) 0 (now nums) (now seats)) ⌝ }
-    ensures { λ r. ⌜ (r ≡ sessionsFit (now (s .entry))) × (r ≡ true → Entered (numbers (now (s .entry)) sessionsFrom sessionWidth) sessionCount (now (nums .exit)) (now (seats .exit))) ⌝ }
+// Each session by itself, and numbers distinct: each found its seat free, or those that did not are put in order.
+fn sessions_fit(
+    s: &[u8],
+    nums: &mut [u32; joins::SIDE],
+    seats: &mut [u8; joins::SEATS],
+    order: &mut [u8; joins::SIDE],
+) -> bool
+    requires { ⌜ (length (now s) ≡ stateSize) × ((le64 (now s) 0 ≤ timeMax) × Entered (sessionNumbers (now s)) 0 (now nums) (now seats)) ⌝ }
+    ensures { λ r. ⌜ (r ≡ sessionsFit (now (s .entry))) × (r ≡ true → Sessions (now (s .entry)) (now (nums .exit)) × Small sessionCount (now (seats .exit))) ⌝ }
 {
     let until = limit(s, layout::WRITE_LIFE);
     let next = lent::load_u32(s, layout::NEXT_SESSION);
+    let mut all = true;
     for j in 0..layout::SESSION_COUNT {
         let at = layout::SESSIONS_FROM + j * layout::SESSION_WIDTH;
         if !session_formed(&s[at..at + layout::SESSION_WIDTH], until, next) {
             return false;
         }
-        if !joins::session_enters(s, j, nums, seats) {
-            return false;
-        }
+        all = all & joins::session_sits(s, j, nums, seats);
     }
-    true
+    if all {
+        return true;
+    }
+    joins::sessions_differ(nums, seats, order)
 }
 
 // Each row by itself, and beside the sessions, its key and the rows before it.
@@ -288,13 +297,13 @@ fn rows_fit(
     s: &[u8],
     masks: &[u8; MASKS],
     nums: &[u32; joins::SIDE],
-    seats: &[u16; joins::SEATS],
+    seats: &[u8; joins::SEATS],
+    order: &[u8; joins::SIDE],
 ) -> bool
-    requires { ⌜ (length (now s) ≡ stateSize) × (Masks (now masks) × Entered (numbers (now s) sessionsFrom sessionWidth) sessionCount (now nums) (now seats)) ⌝ }
+    requires { ⌜ (length (now s) ≡ stateSize) × (Masks (now masks) × (Sessions (now s) (now nums) × Small sessionCount (now seats))) ⌝ }
     ensures { λ r. ⌜ r ≡ rowsFit (now (s .entry)) ⌝ }
 {
-    let mut crowd: [u64; layout::SESSION_COUNT] = [0; layout::SESSION_COUNT];
-    let mut seen: [u32; layout::KEY_COUNT] = [0; layout::KEY_COUNT];
+    let mut seen: [u8; layout::KEY_COUNT] = [0; layout::KEY_COUNT];
     let mut near: [u64; layout::KEY_COUNT] = [0; layout::KEY_COUNT];
     let mut far: [u64; layout::KEY_COUNT] = [0; layout::KEY_COUNT];
     for i in 0..layout::ROW_COUNT {
@@ -302,16 +311,7 @@ fn rows_fit(
         if !row_formed(&s[at..at + layout::ROW_WIDTH], masks) {
             return false;
         }
-        if !joins::join(
-            s,
-            i,
-            nums,
-            seats,
-            &mut crowd,
-            &mut seen,
-            &mut near,
-            &mut far,
-        ) {
+        if !joins::join(s, i, nums, seats, order, &mut seen, &mut near, &mut far) {
             return false;
         }
     }
@@ -332,11 +332,12 @@ fn tables_fit(s: &[u8]) -> bool
         return false;
     }
     let mut nums: [u32; joins::SIDE] = [0; joins::SIDE];
-    let mut seats: [u16; joins::SEATS] = [0; joins::SEATS];
-    if !sessions_fit(s, &mut nums, &mut seats) {
+    let mut seats: [u8; joins::SEATS] = [0; joins::SEATS];
+    let mut order: [u8; joins::SIDE] = [0; joins::SIDE];
+    if !sessions_fit(s, &mut nums, &mut seats, &mut order) {
         return false;
     }
-    rows_fit(s, &masks, &nums, &seats)
+    rows_fit(s, &masks, &nums, &seats, &order)
 }
 
 fn state_formed(s: &[u8]) -> bool

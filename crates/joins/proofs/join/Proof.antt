@@ -1,7 +1,6 @@
--- A free row passes; a leased key and a session that is not there fail; else the kinds seen and the marks decide. Each return is a law of `Joins`.
-use Prim.Native.Nat.{ℕ, _+_}
-use mathlib.Core.Path.{sym, ap, _∙_}
-use Rattle.joins.proofs.Joins.{join-free, join-leased, join-dead, place-low, join-shared}
+-- A free row passes; a leased key and a session that is not there fail; else what stands on the key and the marks decide. Each return is a law of `Joins`.
+use mathlib.Core.Path.{sym, _∙_}
+use Rattle.joins.proofs.Joins.{join-free, join-leased, join-dead, join-shared}
 use Rattle.joins.proofs.Lookup.{once-alone}
 use borrow.Author.Needs.{needs}
 use Rattle.joins.proofs.join.Statement.{statement}
@@ -44,31 +43,23 @@ returns-2 : tie.Need-returns-2
 returns-2 c = join-leased (c .before .before .before .before .before .before .before .pre .1 .1 .1) (c .before .before .before .before .before .load-u32 .ensures) (c .before .before .index .ensures .0) (c .before .before .before .before .if1 .left) (λ e. c .if2 .taken (c .before .load-u322 .ensures ∙ e))
 
 place-requires : tie.Need-place-requires
-place-requires c κs = (once-alone (c .before .before .before .before .before .before .before .before .args .nums .now) (c .before .before .before .before .before .before .load-u32 .result) (c .before .before .before .before .before .before .before .before .pre .1 .1 .1 .sessions .once) (c .before .before .before .before .before .if1 .left), c .before .before .before .before .before .before .before .before .pre .1 .1 .0)
+place-requires c κs = let a = c .before .before .before .before .before .before .before in (once-alone (a .args .nums .now) (c .before .before .before .before .before .load-u32 .result) (a .pre .1 .1 .1 .sessions .once) (c .before .before .before .before .if1 .left), a .pre .1 .1 .0)
 
 returns-3 : tie.Need-returns-3
-returns-3 c = join-dead (c .before .before .before .before .before .before .before .before .before .before .pre .1 .1 .1) (c .before .before .before .before .before .before .before .before .load-u32 .ensures) (c .before .before .before .before .before .index .ensures .0) (c .before .before .before .before .before .before .before .if1 .left) (c .before .place .ensures .0) (sym (c .before .before .before .before .load-u322 .ensures) ∙ c .before .before .before .if2 .left) (c .if3 .taken)
+returns-3 c = let a = c .before .before in let b = a .before .before in let e = b .before .before in
+    join-dead (c .before .before .before .before .before .before .before .before .before .pre .1 .1 .1) (e .before .load-u32 .ensures) (b .index .ensures .0) (e .if1 .left) (c .before .place .ensures .0) (sym (a .before .load-u322 .ensures) ∙ a .if2 .left) (c .if3 .taken)
 
-add-wide : tie.Need-add-wide
-add-wide c = search needs
+add-stands-as : tie.Need-add-stands-as
+add-stands-as c = search needs
 
-shared-slice-read-wide : tie.Need-shared-slice-read-wide
-shared-slice-read-wide c = search needs
+shared-slice-read-stands-as : tie.Need-shared-slice-read-stands-as
+shared-slice-read-stands-as c = search needs
 
-wide-requires : tie.Need-wide-requires
-wide-requires c κs = search needs
-
-add-d : tie.Need-add-d
-add-d c = search needs
-
-mul-was : tie.Need-mul-was
-mul-was c = search needs
+stands-as-requires : tie.Need-stands-as-requires
+stands-as-requires c κs = search needs
 
 element-copy-out-was : tie.Need-element-copy-out-was
 element-copy-out-was c = search needs
-
-mul-seen : tie.Need-mul-seen
-mul-seen c = search needs
 
 element-write-seen : tie.Need-element-write-seen
 element-write-seen c = search needs
@@ -77,13 +68,14 @@ sub-note-pair : tie.Need-sub-note-pair
 sub-note-pair c = search needs
 
 note-pair-requires : tie.Need-note-pair-requires
-note-pair-requires c κs = (c .before .before .before .before .before .before .before .before .before .before .index .ensures .1, (place-low (c .before .before .before .before .before .before .before .before .before .before .before .before .before .before .before .pre .1 .1 .1) (c .before .before .before .before .before .before .before .before .before .before .before .before .before .load-u32 .ensures) (c .before .before .before .before .before .before .before .before .before .before .index .ensures .0) (c .before .before .before .before .before .before .before .before .before .before .before .before .if1 .left) (c .before .before .before .before .before .before .place .ensures .0) (sym (c .before .before .before .before .before .before .before .before .before .load-u322 .ensures) ∙ c .before .before .before .before .before .before .before .before .if2 .left) (c .before .before .before .before .before .if3 .left), c .before .before .before .before .before .before .before .before .before .before .before .before .before .before .before .pre .1 .1 .1 .sized))
+note-pair-requires c κs = search needs
 
 may-share-requires : tie.Need-may-share-requires
 may-share-requires c κs = search needs
 
 returns-4 : tie.Need-returns-4
-returns-4 c = join-shared (c .before .before .before .before .before .before .before .before .before .before .before .before .before .before .before .before .before .pre .1 .1 .1) (c .before .before .before .before .before .before .before .before .before .before .before .before .before .before .before .load-u32 .ensures) (c .before .before .before .before .before .before .before .before .before .before .before .before .index .ensures .0) (c .before .before .before .before .before .before .before .before .before .before .before .before .before .before .if1 .left) (c .before .before .before .before .before .before .before .before .place .ensures .0) (sym (c .before .before .before .before .before .before .before .before .before .before .before .load-u322 .ensures) ∙ c .before .before .before .before .before .before .before .before .before .before .if2 .left) (c .before .before .before .before .before .before .before .if3 .left) (ap (λ (v : ℕ). v + 1) (c .before .before .before .before .before .wide .ensures .0)) (c .before .before .before .before .before .before .before .before .before .before .before .before .index .ensures .1) (c .before .note-pair .ensures) (c .may-share .ensures)
+returns-4 c = let d = c .before .before .before .before .before in let p = c .before .before .before .before .before .before .before .before in let a = p .before in let b = a .before .before in let e = b .before .before in
+    join-shared (c .before .before .before .before .before .before .before .before .before .before .before .before .before .before .before .before .pre .1 .1 .1) (e .before .load-u32 .ensures) (b .index .ensures .0) (e .if1 .left) (p .place .ensures .0) (sym (a .before .load-u322 .ensures) ∙ a .if2 .left) (c .before .before .before .before .before .before .before .if3 .left) (d .stands-as .ensures) (b .index .ensures .1) (c .before .note-pair .ensures) (c .may-share .ensures)
 
 pub join-spec : {M : Type 1} → statement M
 join-spec =
@@ -103,13 +95,10 @@ join-spec =
     returns-2
     place-requires
     returns-3
-    add-wide
-    shared-slice-read-wide
-    wide-requires
-    add-d
-    mul-was
+    add-stands-as
+    shared-slice-read-stands-as
+    stands-as-requires
     element-copy-out-was
-    mul-seen
     element-write-seen
     sub-note-pair
     note-pair-requires

@@ -4,17 +4,14 @@ use borrow.Author.Needs.{needs}
 use Rattle.joins.proofs.note_pair.Statement.{statement}
 use Rattle.joins.proofs.note_pair.Tie as tie
 
-cast-note-bit : tie.Need-cast-note-bit
-cast-note-bit c = search needs
+cast-b : tie.Need-cast-b
+cast-b c = search needs
 
 note-bit-requires : tie.Need-note-bit-requires
 note-bit-requires c κs = search needs
 
 returns : tie.Need-returns
 returns c = noted-near _ _ (c .before .before .before .pre .1 .1) _ _ (c .before .before .before .pre .0) (c .before .before .if1 .taken) _ _ (c .note-bit .ensures .0) (c .note-bit .ensures .1)
-
-cast-note-bit-2 : tie.Need-cast-note-bit-2
-cast-note-bit-2 c = search needs
 
 note-bit-requires-2 : tie.Need-note-bit-requires-2
 note-bit-requires-2 c κs = search needs
@@ -24,5 +21,4 @@ returns-2 c = noted-far _ _ (c .before .before .before .pre .1 .1) _ _ (c .befor
 
 pub note-pair-spec : {M : Type 1} → statement M
 note-pair-spec =
-    tie.close
-    (tie.spec cast-note-bit note-bit-requires returns cast-note-bit-2 note-bit-requires-2 returns-2)
+    tie.close (tie.spec cast-b note-bit-requires returns note-bit-requires-2 returns-2)

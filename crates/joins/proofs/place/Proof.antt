@@ -4,43 +4,24 @@ use borrow.Author.Needs.{needs}
 use Rattle.joins.proofs.place.Statement.{statement}
 use Rattle.joins.proofs.place.Tie as tie
 
-first-seat-requires : tie.Need-first-seat-requires
-first-seat-requires c κs = search needs
-
 sits-requires : tie.Need-sits-requires
 sits-requires c κs = search needs
 
 returns : tie.Need-returns
-returns c = (first-stood (c .before .before .before .args .nums .now) (c .before .before .before .args .n) (c .before .before .before .pre .0) (c .before .sits .ensures) (c .if1 .taken), c .before .sits .ensures .low)
+returns c = let a = c .before .before in let q = c .before .sits .ensures in (first-stood (a .args .nums .now) (a .args .n) (a .pre .0) q (c .if1 .taken), q .low)
 
-spin-requires : tie.Need-spin-requires
-spin-requires c κs = search needs
-
-seat-requires : tie.Need-seat-requires
-seat-requires c κs = search needs
-
-sits-requires-2 : tie.Need-sits-requires-2
-sits-requires-2 c κs = search needs
+ordered-requires : tie.Need-ordered-requires
+ordered-requires c κs = search needs
 
 returns-2 : tie.Need-returns-2
-returns-2 c = (first-stood (c .before .before .before .before .before .before .before .args .nums .now) (c .before .before .before .before .before .before .before .args .n) (c .before .before .before .before .before .before .before .pre .0) (c .before .sits2 .ensures) (c .if2 .taken), c .before .sits2 .ensures .low)
+returns-2 c = let a = c .before .before .before .before in let q = c .before .ordered .ensures in (first-stood (a .args .nums .now) (a .args .n) (a .pre .0) q (c .if2 .taken), q .low)
 
-outside-requires : tie.Need-outside-requires
-outside-requires c κs = search needs
+find-requires : tie.Need-find-requires
+find-requires c κs = search needs
 
 returns-3 : tie.Need-returns-3
 returns-3 c = search needs
 
 pub place-spec : {M : Type 1} → statement M
 place-spec =
-    tie.close
-    (tie.spec
-    first-seat-requires
-    sits-requires
-    returns
-    spin-requires
-    seat-requires
-    sits-requires-2
-    returns-2
-    outside-requires
-    returns-3)
+    tie.close (tie.spec sits-requires returns ordered-requires returns-2 find-requires returns-3)

@@ -4,14 +4,14 @@ use borrow.Author.Needs.{needs}
 use Rattle.joins.proofs.sits.Statement.{statement}
 use Rattle.joins.proofs.sits.Tie as tie
 
-mul-widen : tie.Need-mul-widen
-mul-widen c = search needs
+seat-requires : tie.Need-seat-requires
+seat-requires c κs = search needs
 
-element-copy-out-widen : tie.Need-element-copy-out-widen
-element-copy-out-widen c = search needs
+element-copy-out-index : tie.Need-element-copy-out-index
+element-copy-out-index c = search needs
 
-widen-requires : tie.Need-widen-requires
-widen-requires c κs = search needs
+index-requires : tie.Need-index-requires
+index-requires c κs = search needs
 
 returns : tie.Need-returns
 returns c = search needs
@@ -20,24 +20,24 @@ sub-if2 : tie.Need-sub-if2
 sub-if2 c = search needs
 
 mul-if2 : tie.Need-mul-if2
-mul-if2 c = omega (arith, c .before .before .before .pre .1 .low (c .before .before .before .args .h))
+mul-if2 c = search needs
 
 element-copy-out-if2 : tie.Need-element-copy-out-if2
-element-copy-out-if2 c = omega (arith, c .before .before .before .pre .1 .low (c .before .before .before .args .h))
+element-copy-out-if2 c = search needs
 
 returns-2 : tie.Need-returns-2
 returns-2 c = search needs
 
 returns-3 : tie.Need-returns-3
-returns-3 c = record { low = omega (arith, c .before .before .before .before .before .pre .1 .low (c .before .before .before .before .before .args .h)); here = λ z. c .if2 .left }
+returns-3 c = record { low = omega (arith, c .before .before .before .before .before .before .pre .low (c .before .before .before .before .before .seat .result)); here = λ z. c .if2 .left }
 
 pub sits-spec : {M : Type 1} → statement M
 sits-spec =
     tie.close
     (tie.spec
-    mul-widen
-    element-copy-out-widen
-    widen-requires
+    seat-requires
+    element-copy-out-index
+    index-requires
     returns
     sub-if2
     mul-if2

@@ -7,7 +7,7 @@ use Rattle.machine.specs.Sizes.{timeMax, numberMax}
 use Rattle.machine.specs.Sound.{headSound}
 use Rattle.layout.specs.Layout.{decHead}
 use Rattle.state.specs.Forms.{headFormed}
-use Rattle.state.proofs.Tests.{failed, passed}
+use Rattle.lent.proofs.Choices.{test-failed, test-passed}
 use Rattle.state.proofs.head_formed.Statement.{statement}
 use Rattle.state.proofs.head_formed.Tie as tie
 
@@ -23,35 +23,35 @@ lifetime-at-requires c κs = search needs
 
 returns-2 : tie.Need-returns-2
 unfolding headFormed headSound decHead
-returns-2 c = let s = c .before .before .before .before .before .args .s .now in rw (le-leb (le64 s 0) timeMax (omega arith), failed (c .before .lifetime-at .ensures) (c .if2 .taken))
+returns-2 c = let s = c .before .before .before .before .before .args .s .now in rw (le-leb (le64 s 0) timeMax (omega arith), test-failed (c .before .lifetime-at .ensures) (c .if2 .taken))
 
 lifetime-at-requires-2 : tie.Need-lifetime-at-requires-2
 lifetime-at-requires-2 c κs = search needs
 
 returns-3 : tie.Need-returns-3
 unfolding headFormed headSound decHead
-returns-3 c = let s = c .before .before .before .before .before .before .before .args .s .now in rw (le-leb (le64 s 0) timeMax (omega arith), passed (c .before .before .before .lifetime-at .ensures) (c .before .before .if2 .left), failed (c .before .lifetime-at2 .ensures) (c .if3 .taken))
+returns-3 c = let s = c .before .before .before .before .before .before .before .args .s .now in rw (le-leb (le64 s 0) timeMax (omega arith), test-passed (c .before .before .before .lifetime-at .ensures) (c .before .before .if2 .left), test-failed (c .before .lifetime-at2 .ensures) (c .if3 .taken))
 
 load-u32-requires : tie.Need-load-u32-requires
 load-u32-requires c κs = search needs
 
 returns-4 : tie.Need-returns-4
 unfolding headFormed headSound decHead
-returns-4 c = let s = c .before .before .before .before .before .before .before .before .before .args .s .now in rw (le-leb (le64 s 0) timeMax (omega arith), passed (c .before .before .before .before .before .lifetime-at .ensures) (c .before .before .before .before .if2 .left), passed (c .before .before .before .lifetime-at2 .ensures) (c .before .before .if3 .left), lt-leb 1 (le32 s 16) (omega arith))
+returns-4 c = let s = c .before .before .before .before .before .before .before .before .before .args .s .now in rw (le-leb (le64 s 0) timeMax (omega arith), test-passed (c .before .before .before .before .before .lifetime-at .ensures) (c .before .before .before .before .if2 .left), test-passed (c .before .before .before .lifetime-at2 .ensures) (c .before .before .if3 .left), lt-leb 1 (le32 s 16) (omega arith))
 
 load-u32-requires-2 : tie.Need-load-u32-requires-2
 load-u32-requires-2 c κs = search needs
 
 returns-5 : tie.Need-returns-5
 unfolding headFormed headSound decHead
-returns-5 c = let s = c .before .before .before .before .before .before .before .before .before .before .before .args .s .now in rw (le-leb (le64 s 0) timeMax (omega arith), passed (c .before .before .before .before .before .before .before .lifetime-at .ensures) (c .before .before .before .before .before .before .if2 .left), passed (c .before .before .before .before .before .lifetime-at2 .ensures) (c .before .before .before .before .if3 .left), le-leb 1 (le32 s 16) (omega arith), le-leb (le32 s 16) numberMax (omega arith), lt-leb 1 (le32 s 20) (omega arith))
+returns-5 c = let s = c .before .before .before .before .before .before .before .before .before .before .before .args .s .now in rw (le-leb (le64 s 0) timeMax (omega arith), test-passed (c .before .before .before .before .before .before .before .lifetime-at .ensures) (c .before .before .before .before .before .before .if2 .left), test-passed (c .before .before .before .before .before .lifetime-at2 .ensures) (c .before .before .before .before .if3 .left), le-leb 1 (le32 s 16) (omega arith), le-leb (le32 s 16) numberMax (omega arith), lt-leb 1 (le32 s 20) (omega arith))
 
 is-zero-requires : tie.Need-is-zero-requires
 is-zero-requires c κs = search needs
 
 returns-6 : tie.Need-returns-6
 unfolding headFormed headSound decHead
-returns-6 c = let s = c .before .before .before .before .before .before .before .before .before .before .before .before .args .s .now in rw (le-leb (le64 s 0) timeMax (omega arith), passed (c .before .before .before .before .before .before .before .before .lifetime-at .ensures) (c .before .before .before .before .before .before .before .if2 .left), passed (c .before .before .before .before .before .before .lifetime-at2 .ensures) (c .before .before .before .before .before .if3 .left), le-leb 1 (le32 s 16) (omega arith), le-leb (le32 s 16) numberMax (omega arith), le-leb 1 (le32 s 20) (omega arith), le-leb (le32 s 20) numberMax (omega arith)) (c .is-zero .ensures)
+returns-6 c = let s = c .before .before .before .before .before .before .before .before .before .before .before .before .args .s .now in rw (le-leb (le64 s 0) timeMax (omega arith), test-passed (c .before .before .before .before .before .before .before .before .lifetime-at .ensures) (c .before .before .before .before .before .before .before .if2 .left), test-passed (c .before .before .before .before .before .before .lifetime-at2 .ensures) (c .before .before .before .before .before .if3 .left), le-leb 1 (le32 s 16) (omega arith), le-leb (le32 s 16) numberMax (omega arith), le-leb 1 (le32 s 20) (omega arith), le-leb (le32 s 20) numberMax (omega arith)) (c .is-zero .ensures)
 
 pub head-formed-spec : {M : Type 1} → statement M
 head-formed-spec =

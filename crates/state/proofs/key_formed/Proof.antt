@@ -1,7 +1,7 @@
 -- A key is its value and its lease.
 use borrow.Author.Needs.{needs}
 use Rattle.state.specs.Forms.{keyFormed}
-use Rattle.state.proofs.Tests.{failed, passed}
+use Rattle.lent.proofs.Choices.{test-failed, test-passed}
 use Rattle.state.proofs.key_formed.Statement.{statement}
 use Rattle.state.proofs.key_formed.Tie as tie
 
@@ -10,14 +10,14 @@ value-formed-requires c κs = search needs
 
 returns : tie.Need-returns
 unfolding keyFormed
-returns c = rw (failed (c .before .value-formed .ensures) (c .if1 .taken))
+returns c = rw (test-failed (c .before .value-formed .ensures) (c .if1 .taken))
 
 lease-formed-requires : tie.Need-lease-formed-requires
 lease-formed-requires c κs = search needs
 
 returns-2 : tie.Need-returns-2
 unfolding keyFormed
-returns-2 c = rw (passed (c .before .before .value-formed .ensures) (c .before .if1 .left)) (c .lease-formed .ensures)
+returns-2 c = rw (test-passed (c .before .before .value-formed .ensures) (c .before .if1 .left)) (c .lease-formed .ensures)
 
 pub key-formed-spec : {M : Type 1} → statement M
 key-formed-spec =

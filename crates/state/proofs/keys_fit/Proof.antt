@@ -1,29 +1,29 @@
--- After k turns each of the first k keys is formed, and their tokens are distinct and have their seats.
-use mathlib.Core.Bool.{true, false, and-false}
+-- After k turns each of the first k keys is formed, their tokens have their marks, and unless one met the mark of another they are distinct.
+use mathlib.Core.Bool.{true, false}
 use Prim.Native.Nat.{_+_, _-_, _*_, _≤_}
 use mathlib.Core.Path.{_≡_}
 use native.Mathlib.Omega.{arith}
-use borrow.Author.Needs.{needs}
-use borrow.Author.Tests.{not-false}
+use borrow.Author.Tests.{not-true}
 use Rattle.lent.specs.Bytes.{win}
 use Rattle.lent.specs.Tables.{every}
-use Rattle.lent.proofs.Walks.{every-none, every-more, every-fails}
-use Rattle.lent.proofs.Choices.{test-failed}
+use Rattle.lent.proofs.Walks.{every-none}
 use Rattle.machine.specs.Sizes.{keyCount, keysFrom, keyWidth}
 use Rattle.machine.specs.Sound.{distinct}
 use Rattle.layout.specs.Layout.{decHead}
-use Rattle.joins.specs.Joins.{numbers, Entered}
-use Rattle.joins.proofs.Entered.{entered-none}
+use Rattle.joins.specs.Joins.{tokens, Marked}
+use Rattle.joins.proofs.Numbers.{distinct-none}
+use Rattle.joins.proofs.Marks.{marked-none, met-more}
 use Rattle.state.specs.Forms.{keyFormed, keysFormed, keysFit}
-use Rattle.state.proofs.Tests.{record-failed, record-passed}
+use Rattle.state.proofs.Tests.{records-failed, records-passed}
+use borrow.Author.Needs.{needs}
 use Rattle.state.proofs.keys_fit.Statement.{statement}
 use Rattle.state.proofs.keys_fit.Tie as tie
 
 abbrev Inv-loop : tie.InvT-loop
-Inv-loop s masks until next nums₀ seats₀ k₀ nums seats k = (k ≤ keyCount) × ((every (λ j. keyFormed until next (win s (keysFrom + j * keyWidth) keyWidth)) k ≡ true) × Entered (numbers s (keysFrom + 4) keyWidth) k nums seats)
+Inv-loop s masks until next marks₀ met₀ k₀ marks met k = (k ≤ keyCount) × ((every (λ j. keyFormed until next (win s (keysFrom + j * keyWidth) keyWidth)) k ≡ true) × (Marked (tokens s) k marks × (met ≡ false → distinct (tokens s) k ≡ true)))
 
 abbrev μ-loop : tie.MeasureT-loop
-μ-loop s masks until next nums₀ seats₀ k₀ nums seats k = keyCount - k
+μ-loop s masks until next marks₀ met₀ k₀ marks met k = keyCount - k
 
 limit-requires : tie.Need-limit-requires Inv-loop μ-loop
 limit-requires c κs = search needs
@@ -32,7 +32,7 @@ load-u32-requires : tie.Need-load-u32-requires Inv-loop μ-loop
 load-u32-requires c κs = search needs
 
 loop-holds : tie.Need-loop-holds Inv-loop μ-loop
-loop-holds c = (search needs, (every-none _, entered-none _))
+loop-holds c = (search needs, (every-none _, (marked-none _, λ e. distinct-none _)))
 
 mul-at : tie.Need-mul-at Inv-loop μ-loop
 mul-at c = search needs
@@ -57,14 +57,12 @@ key-formed-requires c κs = (search needs, c .before .before .before .before .be
 
 returns : tie.Need-returns Inv-loop μ-loop
 unfolding keysFit keysFormed decHead
-returns c = let f : every (λ a. keyFormed (c .before .before .before .before .before .before .limit .result) (c .before .before .before .before .before .load-u32 .result) (win (c .before .before .before .before .before .before .before .before .args .s .now) (keysFrom + a * keyWidth) keyWidth)) keyCount ≡ false = every-fails _ keyCount (c .before .before .before .before .loop .k) (search needs) (record-failed (keyFormed (c .before .before .before .before .before .before .limit .result) (c .before .before .before .before .before .load-u32 .result)) (c .before .before .before .before .before .before .before .before .args .s .now) _ keyWidth (c .before .key-formed .ensures) (c .if1 .taken)) in rw (← c .before .before .before .before .before .before .limit .ensures, ← c .before .before .before .before .before .load-u32 .ensures, f)
+returns c = let l = c .before .before .before .before in let n = l .before in let u = n .before in
+    let f = records-failed (keyFormed (u .limit .result) (n .load-u32 .result)) (c .before .before .before .before .before .before .before .before .args .s .now) keysFrom keyWidth (l .loop .k) (c .before .key-formed .ensures) keyCount (search needs) (c .if1 .taken) in
+    rw (← u .limit .ensures, ← n .load-u32 .ensures, f)
 
-token-enters-requires : tie.Need-token-enters-requires Inv-loop μ-loop
-token-enters-requires c κs = (search needs, (search needs, c .before .before .before .before .before .before .loop .inv .1 .1))
-
-returns-2 : tie.Need-returns-2 Inv-loop μ-loop
-unfolding keysFit distinct
-returns-2 c = let f : distinct (numbers (c .before .before .before .before .before .before .before .before .before .before .before .before .args .s .now) (keysFrom + 4) keyWidth) keyCount ≡ false = every-fails _ keyCount (c .before .before .before .before .before .before .before .before .loop .k) (search needs) (test-failed (c .before .token-enters .ensures .0) (c .if2 .taken)) in rw (f, and-false)
+token-meets-requires : tie.Need-token-meets-requires Inv-loop μ-loop
+token-meets-requires c κs = (search needs, (search needs, c .before .before .before .before .before .loop .inv .1 .1 .0))
 
 add-k : tie.Need-add-k Inv-loop μ-loop
 add-k c = search needs
@@ -73,11 +71,23 @@ loop-less : tie.Need-loop-less Inv-loop μ-loop
 loop-less c = search needs
 
 loop-again : tie.Need-loop-again Inv-loop μ-loop
-loop-again c = (search needs, (every-more _ _ (c .before .before .before .before .before .before .before .before .loop .inv .1 .0) (record-passed (keyFormed (c .before .before .before .before .before .before .before .before .before .before .limit .result) (c .before .before .before .before .before .before .before .before .before .load-u32 .result)) (c .before .before .before .before .before .before .before .before .before .before .before .before .args .s .now) _ keyWidth (c .before .before .before .before .before .key-formed .ensures) (c .before .before .before .before .if1 .left)), c .before .token-enters .ensures .1 (not-false _ (c .if2 .left))))
+loop-again c = let l = c .before .before .before .before .before .before in let n = l .before in let m = c .token-meets .ensures in
+    (search needs, (records-passed (keyFormed (n .before .limit .result) (n .load-u32 .result)) (c .before .before .before .before .before .before .before .before .before .before .args .s .now) keysFrom keyWidth (l .loop .k) (c .before .before .before .key-formed .ensures) (c .before .before .if1 .left) (l .loop .inv .1 .0), (m .marked, met-more (l .loop .inv .1 .1 .1) m)))
+
+returns-2 : tie.Need-returns-2 Inv-loop μ-loop
+unfolding keysFit keysFormed decHead
+returns-2 c = let l = c .before .before in let n = l .before in let u = n .before in
+    let e : l .loop .k ≡ keyCount = omega arith in
+    rw (← u .limit .ensures, ← n .load-u32 .ensures, rw e at (l .loop .inv .1 .0), rw e at (l .loop .inv .1 .1 .1 (not-true _ (c .if2 .taken))))
+
+tokens-differ-requires : tie.Need-tokens-differ-requires Inv-loop μ-loop
+tokens-differ-requires c κs = search needs
 
 returns-3 : tie.Need-returns-3 Inv-loop μ-loop
 unfolding keysFit keysFormed decHead
-returns-3 c = let e : c .before .loop .k ≡ keyCount = omega arith in let f : every (λ a. keyFormed (c .before .before .before .limit .result) (c .before .before .load-u32 .result) (win (c .before .before .before .before .before .args .s .now) (keysFrom + a * keyWidth) keyWidth)) keyCount ≡ true = rw e at (c .before .loop .inv .1 .0) in let g : distinct (numbers (c .before .before .before .before .before .args .s .now) (keysFrom + 4) keyWidth) keyCount ≡ true = rw e at (c .before .loop .inv .1 .1 .once) in rw (← c .before .before .before .limit .ensures, ← c .before .before .load-u32 .ensures, f, g)
+returns-3 c = let l = c .before .before .before in let n = l .before in let u = n .before in
+    let e : l .loop .k ≡ keyCount = omega arith in
+    rw (← u .limit .ensures, ← n .load-u32 .ensures, rw e at (l .loop .inv .1 .0)) (c .tokens-differ .ensures)
 
 pub keys-fit-spec : {M : Type 1} → statement M
 keys-fit-spec =
@@ -96,9 +106,10 @@ keys-fit-spec =
     part-key-formed-end
     key-formed-requires
     returns
-    token-enters-requires
-    returns-2
+    token-meets-requires
     add-k
     loop-less
     loop-again
+    returns-2
+    tokens-differ-requires
     returns-3)

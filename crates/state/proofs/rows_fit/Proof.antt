@@ -1,9 +1,8 @@
 -- After i turns each of the first i rows is formed and joins, and all is known at row i that `join` asks.
 use Prim.Native.Nat.{_+_, _-_, _*_, _≤_}
 use mathlib.Core.Path.{_≡_}
-use mathlib.Core.Bool.{true, false, and-false}
+use mathlib.Core.Bool.{true, and-false}
 use native.Mathlib.Omega.{arith}
-use borrow.Author.Needs.{needs}
 use borrow.Author.Tests.{not-false}
 use Rattle.lent.specs.Bytes.{win}
 use Rattle.lent.specs.Tables.{every}
@@ -11,20 +10,21 @@ use Rattle.lent.proofs.Walks.{every-none, every-more, every-fails}
 use Rattle.lent.proofs.Choices.{test-failed, test-passed}
 use Rattle.machine.specs.Sizes.{rowCount, rowsFrom, rowWidth}
 use Rattle.joins.specs.Joins.{joinOk, Ready}
-use Rattle.joins.proofs.Entered.{ready-none}
+use Rattle.joins.proofs.Joins.{ready-none}
 use Rattle.state.specs.Forms.{rowFormed, rowsFormed, rowsFit}
-use Rattle.state.proofs.Tests.{record-failed, record-passed}
+use Rattle.state.proofs.Tests.{records-failed, records-passed}
+use borrow.Author.Needs.{needs}
 use Rattle.state.proofs.rows_fit.Statement.{statement}
 use Rattle.state.proofs.rows_fit.Tie as tie
 
 abbrev Inv-loop : tie.InvT-loop
-Inv-loop s masks nums seats crowd₀ seen₀ near₀ far₀ i₀ crowd seen near far i = (i ≤ rowCount) × ((every (λ j. rowFormed (win s (rowsFrom + j * rowWidth) rowWidth)) i ≡ true) × ((every (joinOk s) i ≡ true) × Ready s i nums seen near far))
+Inv-loop s masks nums seats order seen₀ near₀ far₀ i₀ seen near far i = (i ≤ rowCount) × ((every (λ j. rowFormed (win s (rowsFrom + j * rowWidth) rowWidth)) i ≡ true) × ((every (joinOk s) i ≡ true) × Ready s i nums seen near far))
 
 abbrev μ-loop : tie.MeasureT-loop
-μ-loop s masks nums seats crowd₀ seen₀ near₀ far₀ i₀ crowd seen near far i = rowCount - i
+μ-loop s masks nums seats order seen₀ near₀ far₀ i₀ seen near far i = rowCount - i
 
 loop-holds : tie.Need-loop-holds Inv-loop μ-loop
-loop-holds c = (search needs, (every-none _, (every-none _, ready-none (c .before .pre .1 .1))))
+loop-holds c = (search needs, (every-none _, (every-none _, ready-none (c .before .pre .1 .1 .0))))
 
 mul-at : tie.Need-mul-at Inv-loop μ-loop
 mul-at c = search needs
@@ -49,14 +49,14 @@ row-formed-requires c κs = (search needs, c .before .before .before .before .pr
 
 returns : tie.Need-returns Inv-loop μ-loop
 unfolding rowsFit rowsFormed
-returns c = let f : every (λ a. rowFormed (win (c .before .before .before .before .before .before .args .s .now) (rowsFrom + a * rowWidth) rowWidth)) rowCount ≡ false = every-fails _ rowCount (c .before .before .before .before .loop .i) (search needs) (record-failed rowFormed (c .before .before .before .before .before .before .args .s .now) _ rowWidth (c .before .row-formed .ensures) (c .if1 .taken)) in rw f
+returns c = let f = records-failed rowFormed (c .before .before .before .before .before .before .args .s .now) rowsFrom rowWidth (c .before .before .before .before .loop .i) (c .before .row-formed .ensures) rowCount (search needs) (c .if1 .taken) in rw f
 
 join-requires : tie.Need-join-requires Inv-loop μ-loop
-join-requires c κs = (search needs, (search needs, (c .before .before .before .before .before .before .before .before .before .before .pre .1 .1 .seated .small, c .before .before .before .before .before .before .before .before .loop .inv .1 .1 .1)))
+join-requires c κs = (search needs, (search needs, (c .before .before .before .before .before .before .before .before .before .pre .1 .1 .1, c .before .before .before .before .before .before .before .loop .inv .1 .1 .1)))
 
 returns-2 : tie.Need-returns-2 Inv-loop μ-loop
 unfolding rowsFit
-returns-2 c = let f : every (joinOk (c .before .before .before .before .before .before .before .before .before .before .before .before .args .s .now)) rowCount ≡ false = every-fails _ rowCount (c .before .before .before .before .before .before .before .before .before .before .loop .i) (search needs) (test-failed (c .before .join .ensures .is) (c .if2 .taken)) in rw (f, and-false)
+returns-2 c = let f = every-fails (joinOk (c .before .before .before .before .before .before .before .before .before .before .before .args .s .now)) rowCount (c .before .before .before .before .before .before .before .before .before .loop .i) (search needs) (test-failed (c .before .join .ensures .is) (c .if2 .taken)) in rw (f, and-false)
 
 add-i : tie.Need-add-i Inv-loop μ-loop
 add-i c = search needs
@@ -65,11 +65,12 @@ loop-less : tie.Need-loop-less Inv-loop μ-loop
 loop-less c = search needs
 
 loop-again : tie.Need-loop-again Inv-loop μ-loop
-loop-again c = (search needs, (every-more _ _ (c .before .before .before .before .before .before .before .before .before .before .loop .inv .1 .0) (record-passed rowFormed (c .before .before .before .before .before .before .before .before .before .before .before .before .args .s .now) _ rowWidth (c .before .before .before .before .before .before .before .row-formed .ensures) (c .before .before .before .before .before .before .if1 .left)), (every-more _ _ (c .before .before .before .before .before .before .before .before .before .before .loop .inv .1 .1 .0) (test-passed (c .before .join .ensures .is) (c .if2 .left)), c .before .join .ensures .next (not-false _ (c .if2 .left)))))
+loop-again c = let l = c .before .before .before .before .before .before .before .before .before in let j = c .before .join .ensures in
+    (search needs, (records-passed rowFormed (c .before .before .before .before .before .before .before .before .before .before .before .args .s .now) rowsFrom rowWidth (l .loop .i) (c .before .before .before .before .before .before .row-formed .ensures) (c .before .before .before .before .before .if1 .left) (l .loop .inv .1 .0), (every-more _ _ (l .loop .inv .1 .1 .0) (test-passed (j .is) (c .if2 .left)), j .next (not-false _ (c .if2 .left)))))
 
 returns-3 : tie.Need-returns-3 Inv-loop μ-loop
 unfolding rowsFit rowsFormed
-returns-3 c = let e : c .before .loop .i ≡ rowCount = omega arith in let f : every (λ a. rowFormed (win (c .before .before .before .args .s .now) (rowsFrom + a * rowWidth) rowWidth)) rowCount ≡ true = rw e at (c .before .loop .inv .1 .0) in let g : every (joinOk (c .before .before .before .args .s .now)) rowCount ≡ true = rw e at (c .before .loop .inv .1 .1 .0) in rw (f, g)
+returns-3 c = let l = c .before in let e : l .loop .i ≡ rowCount = omega arith in rw (rw e at (l .loop .inv .1 .0), rw e at (l .loop .inv .1 .1 .0))
 
 pub rows-fit-spec : {M : Type 1} → statement M
 rows-fit-spec =

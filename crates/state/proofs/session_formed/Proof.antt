@@ -9,7 +9,7 @@ use borrow.Author.Needs.{needs}
 use Rattle.lent.specs.Bytes.{le16, le32, le64}
 use Rattle.machine.specs.Sizes.{stepMax}
 use Rattle.state.specs.Forms.{sessionFormed}
-use Rattle.state.proofs.Zeros.{session-free}
+use Rattle.state.proofs.Zeros.{session-zeros}
 use Rattle.state.proofs.session_formed.Statement.{statement}
 use Rattle.state.proofs.session_formed.Tie as tie
 
@@ -21,14 +21,14 @@ load-u64-requires c κs = search needs
 
 returns : tie.Need-returns
 unfolding sessionFormed
-returns c = let x = c .before .before .before .before .before .args .r .now in rw (eq-eqb (le32 x 0) 0 (omega arith), session-free x (omega arith), ne-eqb (le64 x 0) 0 (omega arith))
+returns c = let x = c .before .before .before .before .before .args .r .now in rw (eq-eqb (le32 x 0) 0 (omega arith), session-zeros x (omega arith), ne-eqb (le64 x 0) 0 (omega arith))
 
 load-u64-requires-2 : tie.Need-load-u64-requires-2
 load-u64-requires-2 c κs = search needs
 
 returns-2 : tie.Need-returns-2
 unfolding sessionFormed
-returns-2 c = let x = c .before .before .before .before .before .before .args .r .now in rw (eq-eqb (le32 x 0) 0 (omega arith), session-free x (omega arith), eq-eqb (le64 x 0) 0 (omega arith)) (ap (λ (v : ℕ). eqb v 0) (c .load-u642 .ensures))
+returns-2 c = let x = c .before .before .before .before .before .before .args .r .now in rw (eq-eqb (le32 x 0) 0 (omega arith), session-zeros x (omega arith), eq-eqb (le64 x 0) 0 (omega arith)) (ap (λ (v : ℕ). eqb v 0) (c .load-u642 .ensures))
 
 returns-3 : tie.Need-returns-3
 unfolding sessionFormed

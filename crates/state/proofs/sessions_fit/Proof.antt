@@ -1,28 +1,29 @@
--- After j turns each of the first j sessions is formed, and their numbers are distinct and have their seats.
-use mathlib.Core.Bool.{true, false, and-false}
+-- After j turns each of the first j sessions is formed, their seats are taken, and if each found its own free they are distinct.
+use mathlib.Core.Bool.{true, false}
 use Prim.Native.Nat.{_+_, _-_, _*_, _≤_}
-use mathlib.Core.Path.{_≡_, refl}
+use mathlib.Core.Path.{_≡_, refl, sym, _∙_}
 use native.Mathlib.Omega.{arith}
-use borrow.Author.Needs.{needs}
-use borrow.Author.Tests.{not-false}
 use Rattle.lent.specs.Bytes.{win}
 use Rattle.lent.specs.Tables.{every}
-use Rattle.lent.proofs.Walks.{every-none, every-more, every-fails}
+use Rattle.lent.proofs.Choices.{clash}
+use Rattle.lent.proofs.Walks.{every-none}
 use Rattle.machine.specs.Sizes.{sessionCount, sessionsFrom, sessionWidth}
 use Rattle.machine.specs.Sound.{distinct}
 use Rattle.layout.specs.Layout.{decHead}
-use Rattle.joins.specs.Joins.{numbers, Entered}
-use Rattle.lent.proofs.Choices.{clash, test-failed}
+use Rattle.joins.specs.Joins.{sessionNumbers, Entered}
+use Rattle.joins.proofs.Numbers.{distinct-none, distinct-gathered}
+use Rattle.joins.proofs.Seats.{sat-more}
 use Rattle.state.specs.Forms.{sessionFormed, sessionsFormed, sessionsFit}
-use Rattle.state.proofs.Tests.{record-failed, record-passed}
+use Rattle.state.proofs.Tests.{records-failed, records-passed}
+use borrow.Author.Needs.{needs}
 use Rattle.state.proofs.sessions_fit.Statement.{statement}
 use Rattle.state.proofs.sessions_fit.Tie as tie
 
 abbrev Inv-loop : tie.InvT-loop
-Inv-loop s nums₀ seats₀ until next j₀ nums seats j = (j ≤ sessionCount) × ((every (λ i. sessionFormed until next (win s (sessionsFrom + i * sessionWidth) sessionWidth)) j ≡ true) × Entered (numbers s sessionsFrom sessionWidth) j nums seats)
+Inv-loop s nums₀ seats₀ order until next all₀ j₀ nums seats all j = (j ≤ sessionCount) × ((every (λ i. sessionFormed until next (win s (sessionsFrom + i * sessionWidth) sessionWidth)) j ≡ true) × (Entered (sessionNumbers s) j nums seats × (all ≡ true → distinct (sessionNumbers s) j ≡ true)))
 
 abbrev μ-loop : tie.MeasureT-loop
-μ-loop s nums₀ seats₀ until next j₀ nums seats j = sessionCount - j
+μ-loop s nums₀ seats₀ order until next all₀ j₀ nums seats all j = sessionCount - j
 
 limit-requires : tie.Need-limit-requires Inv-loop μ-loop
 limit-requires c κs = search needs
@@ -31,7 +32,7 @@ load-u32-requires : tie.Need-load-u32-requires Inv-loop μ-loop
 load-u32-requires c κs = search needs
 
 loop-holds : tie.Need-loop-holds Inv-loop μ-loop
-loop-holds c = (search needs, (every-none _, c .before .before .before .pre .1 .1))
+loop-holds c = (search needs, (every-none _, (c .before .before .before .pre .1 .1, λ e. distinct-none _)))
 
 mul-at : tie.Need-mul-at Inv-loop μ-loop
 mul-at c = search needs
@@ -56,14 +57,12 @@ session-formed-requires c κs = search needs
 
 returns : tie.Need-returns Inv-loop μ-loop
 unfolding sessionsFit sessionsFormed decHead
-returns c = let f : every (λ a. sessionFormed (c .before .before .before .before .before .before .limit .result) (c .before .before .before .before .before .load-u32 .result) (win (c .before .before .before .before .before .before .before .before .args .s .now) (sessionsFrom + a * sessionWidth) sessionWidth)) sessionCount ≡ false = every-fails _ sessionCount (c .before .before .before .before .loop .j) (search needs) (record-failed (sessionFormed (c .before .before .before .before .before .before .limit .result) (c .before .before .before .before .before .load-u32 .result)) (c .before .before .before .before .before .before .before .before .args .s .now) _ sessionWidth (c .before .session-formed .ensures) (c .if1 .taken)) in (rw (← c .before .before .before .before .before .before .limit .ensures, ← c .before .before .before .before .before .load-u32 .ensures, f), λ o. clash false o refl)
+returns c = let l = c .before .before .before .before in let n = l .before in let u = n .before in
+    let f = records-failed (sessionFormed (u .limit .result) (n .load-u32 .result)) (c .before .before .before .before .before .before .before .before .args .s .now) sessionsFrom sessionWidth (l .loop .j) (c .before .session-formed .ensures) sessionCount (search needs) (c .if1 .taken) in
+    (rw (← u .limit .ensures, ← n .load-u32 .ensures, f), λ o. clash false o refl)
 
-session-enters-requires : tie.Need-session-enters-requires Inv-loop μ-loop
-session-enters-requires c κs = (search needs, (search needs, c .before .before .before .before .before .before .loop .inv .1 .1))
-
-returns-2 : tie.Need-returns-2 Inv-loop μ-loop
-unfolding sessionsFit distinct
-returns-2 c = let f : distinct (numbers (c .before .before .before .before .before .before .before .before .before .before .before .before .args .s .now) sessionsFrom sessionWidth) sessionCount ≡ false = every-fails _ sessionCount (c .before .before .before .before .before .before .before .before .loop .j) (search needs) (test-failed (c .before .session-enters .ensures .0) (c .if2 .taken)) in (rw (f, and-false), λ o. clash false o refl)
+session-sits-requires : tie.Need-session-sits-requires Inv-loop μ-loop
+session-sits-requires c κs = (search needs, (search needs, c .before .before .before .before .before .before .loop .inv .1 .1 .0))
 
 add-j : tie.Need-add-j Inv-loop μ-loop
 add-j c = search needs
@@ -72,11 +71,27 @@ loop-less : tie.Need-loop-less Inv-loop μ-loop
 loop-less c = search needs
 
 loop-again : tie.Need-loop-again Inv-loop μ-loop
-loop-again c = (search needs, (every-more _ _ (c .before .before .before .before .before .before .before .before .loop .inv .1 .0) (record-passed (sessionFormed (c .before .before .before .before .before .before .before .before .before .before .limit .result) (c .before .before .before .before .before .before .before .before .before .load-u32 .result)) (c .before .before .before .before .before .before .before .before .before .before .before .before .args .s .now) _ sessionWidth (c .before .before .before .before .before .session-formed .ensures) (c .before .before .before .before .if1 .left)), c .before .session-enters .ensures .1 (not-false _ (c .if2 .left))))
+loop-again c = let l = c .before .before .before .before .before .before .before in let n = l .before in let m = c .session-sits .ensures in
+    (search needs, (records-passed (sessionFormed (n .before .limit .result) (n .load-u32 .result)) (c .before .before .before .before .before .before .before .before .before .before .before .args .s .now) sessionsFrom sessionWidth (l .loop .j) (c .before .before .before .before .session-formed .ensures) (c .before .before .before .if1 .left) (l .loop .inv .1 .0), (m .entered, sat-more (l .loop .inv .1 .1 .1) m)))
+
+returns-2 : tie.Need-returns-2 Inv-loop μ-loop
+unfolding sessionsFit sessionsFormed decHead
+returns-2 c = let l = c .before .before in let n = l .before in let u = n .before in
+    let e : l .loop .j ≡ sessionCount = omega arith in
+    let y = rw e at (l .loop .inv .1 .1 .0) in
+    let d = rw e at (l .loop .inv .1 .1 .1 (c .if2 .taken)) in
+    (rw (← u .limit .ensures, ← n .load-u32 .ensures, rw e at (l .loop .inv .1 .0), d), λ o. (record { gathered = y .gathered; once = distinct-gathered _ _ _ (y .gathered) ∙ d }, y .seated .small))
+
+sessions-differ-requires : tie.Need-sessions-differ-requires Inv-loop μ-loop
+sessions-differ-requires c κs = let l = c .before .before .before .before .before in let e : l .loop .j ≡ sessionCount = omega arith in rw e at (l .loop .inv .1 .1 .0 .seated)
 
 returns-3 : tie.Need-returns-3 Inv-loop μ-loop
 unfolding sessionsFit sessionsFormed decHead
-returns-3 c = let e : c .before .loop .j ≡ sessionCount = omega arith in let f : every (λ a. sessionFormed (c .before .before .before .limit .result) (c .before .before .load-u32 .result) (win (c .before .before .before .before .before .args .s .now) (sessionsFrom + a * sessionWidth) sessionWidth)) sessionCount ≡ true = rw e at (c .before .loop .inv .1 .0) in let g : distinct (numbers (c .before .before .before .before .before .args .s .now) sessionsFrom sessionWidth) sessionCount ≡ true = rw e at (c .before .loop .inv .1 .1 .once) in (rw (← c .before .before .before .limit .ensures, ← c .before .before .load-u32 .ensures, f, g), λ o. rw e at (c .before .loop .inv .1 .1))
+returns-3 c = let l = c .before .before .before .before .before .before in let n = l .before in let u = n .before in
+    let e : l .loop .j ≡ sessionCount = omega arith in
+    let y = rw e at (l .loop .inv .1 .1 .0) in
+    let d = c .sessions-differ .ensures in
+    (rw (← u .limit .ensures, ← n .load-u32 .ensures, rw e at (l .loop .inv .1 .0)) (d ∙ distinct-gathered _ _ _ (y .gathered)), λ o. (record { gathered = y .gathered; once = sym d ∙ o }, y .seated .small))
 
 pub sessions-fit-spec : {M : Type 1} → statement M
 sessions-fit-spec =
@@ -95,9 +110,10 @@ sessions-fit-spec =
     part-session-formed-end
     session-formed-requires
     returns
-    session-enters-requires
-    returns-2
+    session-sits-requires
     add-j
     loop-less
     loop-again
+    returns-2
+    sessions-differ-requires
     returns-3)

@@ -1,4 +1,5 @@
 -- The mark picks the case, and mark and kind are tested before the bytes.
+use Prim.Native.Nat.{_+_}
 use native.Mathlib.Omega.{arith}
 use lib.Dec.{eqb}
 use lib.ListN.{getD}
@@ -6,8 +7,10 @@ use borrow.Author.Tests.{eq-eqb, ne-eqb, le-leb, lt-leb}
 use borrow.Author.Needs.{needs}
 use Rattle.lent.specs.Bytes.{win}
 use Rattle.lent.specs.Tables.{allZero}
+use Rattle.machine.specs.Sizes.{valueMax}
+use Rattle.machine.specs.Words.{REFRESH, INCREMENTAL}
 use Rattle.state.specs.Forms.{stagedFormed}
-use Rattle.state.proofs.Tests.{failed, passed, if-both}
+use Rattle.lent.proofs.Choices.{test-failed, test-passed, if-both}
 use Rattle.state.proofs.staged_formed.Statement.{statement}
 use Rattle.state.proofs.staged_formed.Tie as tie
 
@@ -16,7 +19,7 @@ shared-slice-read-mark c = search needs
 
 returns : tie.Need-returns
 unfolding stagedFormed
-returns c = let x = c .before .before .before .before .args .r .now in rw (eq-eqb (getD x 6 0) 1 (omega arith), lt-leb 2 (c .before .before .before .before .args .kind) (omega arith))
+returns c = let x = c .before .before .before .before .args .r .now in rw (eq-eqb (getD x 6 0) 1 (omega arith), lt-leb REFRESH (c .before .before .before .before .args .kind) (omega arith))
 
 shared-slice-read-index : tie.Need-shared-slice-read-index
 shared-slice-read-index c = search needs
@@ -29,21 +32,21 @@ is-fitted-requires c κs = search needs
 
 returns-2 : tie.Need-returns-2
 unfolding stagedFormed
-returns-2 c = let x = c .before .before .before .before .before .before .before .args .r .now in rw (eq-eqb (getD x 6 0) 1 (omega arith), le-leb 2 (c .before .before .before .before .before .before .before .args .kind) (omega arith), ← c .before .index .ensures .0) (c .is-fitted .ensures)
+returns-2 c = let x = c .before .before .before .before .before .before .before .args .r .now in rw (eq-eqb (getD x 6 0) 1 (omega arith), le-leb REFRESH (c .before .before .before .before .before .before .before .args .kind) (omega arith), ← c .before .index .ensures .0) (c .is-fitted .ensures)
 
 is-marked-requires : tie.Need-is-marked-requires
 is-marked-requires c κs = search needs
 
 returns-3 : tie.Need-returns-3
 unfolding stagedFormed
-returns-3 c = let x = c .before .before .before .before .before .args .r .now in rw (ne-eqb (getD x 6 0) 1 (omega arith), if-both (eqb (getD x 6 0) 2) (eqb (c .before .before .before .before .before .args .kind) 3) (eqb (getD x 6 0) 0) (allZero (win x 7 65)), failed (c .before .is-marked .ensures) (c .if3 .taken))
+returns-3 c = let x = c .before .before .before .before .before .args .r .now in rw (ne-eqb (getD x 6 0) 1 (omega arith), if-both (eqb (getD x 6 0) 2) (eqb (c .before .before .before .before .before .args .kind) INCREMENTAL) (eqb (getD x 6 0) 0) (allZero (win x 7 (1 + valueMax))), test-failed (c .before .is-marked .ensures) (c .if3 .taken))
 
 is-plain-requires : tie.Need-is-plain-requires
 is-plain-requires c κs = search needs
 
 returns-4 : tie.Need-returns-4
 unfolding stagedFormed
-returns-4 c = let x = c .before .before .before .before .before .before .args .r .now in rw (ne-eqb (getD x 6 0) 1 (omega arith), if-both (eqb (getD x 6 0) 2) (eqb (c .before .before .before .before .before .before .args .kind) 3) (eqb (getD x 6 0) 0) (allZero (win x 7 65)), passed (c .before .before .is-marked .ensures) (c .before .if3 .left)) (c .is-plain .ensures)
+returns-4 c = let x = c .before .before .before .before .before .before .args .r .now in rw (ne-eqb (getD x 6 0) 1 (omega arith), if-both (eqb (getD x 6 0) 2) (eqb (c .before .before .before .before .before .before .args .kind) INCREMENTAL) (eqb (getD x 6 0) 0) (allZero (win x 7 (1 + valueMax))), test-passed (c .before .before .is-marked .ensures) (c .before .if3 .left)) (c .is-plain .ensures)
 
 pub staged-formed-spec : {M : Type 1} → statement M
 staged-formed-spec =

@@ -1,8 +1,8 @@
--- A mark over 1 (`value-mark`) and a length over what the mark allows (`value-long`) fail; else only the bytes behind count (`value-fits`).
+-- A mark over 1 (`value-mark`) and a length over what the mark allows (`value-too-long`) fail; else only the bytes behind count (`value-fits`).
 use mathlib.Core.Path.{sym, _∙_}
 use native.Mathlib.Omega.{arith}
 use borrow.Author.Needs.{needs}
-use Rattle.state.proofs.Values.{value-mark, value-long, value-fits}
+use Rattle.state.proofs.Values.{value-mark, value-too-long, value-fits}
 use Rattle.state.proofs.value_formed.Statement.{statement}
 use Rattle.state.proofs.value_formed.Tie as tie
 
@@ -22,7 +22,7 @@ mul-if2 : tie.Need-mul-if2
 mul-if2 c = search needs
 
 returns-2 : tie.Need-returns-2
-returns-2 c = sym (value-long (c .before .before .before .before .args .r .now) (λ i. c .before .before .before .shared-slice-known .given i .fits) (c .before .before .load-u32 .result) (c .before .before .load-u32 .ensures) (c .if2 .taken))
+returns-2 c = sym (value-too-long (c .before .before .before .before .args .r .now) (λ i. c .before .before .before .shared-slice-known .given i .fits) (c .before .before .load-u32 .result) (c .before .before .load-u32 .ensures) (c .if2 .taken))
 
 is-bare-requires : tie.Need-is-bare-requires
 is-bare-requires c κs = (search needs, (omega (arith, c .before .before .load-u32 .ensures), c .before .before .before .before .pre .1))

@@ -1,0 +1,106 @@
+-- Numbers that stand in no seat. Two places with the same number have one seat: if one of them sits there, the other meets its number in the
+-- seat; if neither does, both are loose. So where none meets its number, all are distinct if the loose ones are.
+use mathlib.Core.Path.{_≡_, refl, sym, ap, _∙_}
+use mathlib.Core.Bool.{true, false}
+use mathlib.Core.Logic.{⊎-elim}
+use mathlib.Core.List.{List}
+use Prim.Native.Nat.{ℕ, _+_, _-_, _≤_, _<_}
+use native.Mathlib.Omega.{arith}
+use lib.ListN.{set, length-set, length-replicate, replicate}
+use lib.Seq.{getD-set-same, getD-set-other}
+use Rattle.lent.proofs.Choices.{case-of, clash}
+use Rattle.machine.proofs.Every.{distinct-same}
+use Rattle.machine.proofs.Views.{getD-same}
+use Rattle.machine.specs.Sound.{distinct}
+use Rattle.joins.specs.Joins.{side, item, seatOf, Seated, Stand, no-number, in-seat, at-large, Loosened}
+use Rattle.joins.proofs.Numbers.{last-or, all-new, twice-same}
+
+module _ {nums seats : List ℕ} where
+  -- h is the seat of the number at place j, which is not 0, and q what it has
+  module _ {m j h q : ℕ} (y : Seated nums m seats) (l : j < m) (used : item nums j ≡ 0 → ⊥) (at : h ≡ seatOf (item nums j)) (is : q ≡ item seats h) where
+    has : item seats (seatOf (item nums j)) ≡ q
+    has = ap (item seats) (sym at) ∙ sym is
+
+    pub seat-used : 1 ≤ q
+    seat-used = let z : q ≡ 0 → ⊥ = λ e. y .held j l used (has ∙ e) in omega arith
+
+    pub seat-own : q ≡ j + 1 → Stand nums seats j 0
+    seat-own e = in-seat (has ∙ e) refl
+
+    pub seat-met : (q ≡ j + 1 → ⊥) → item nums (q - 1) ≡ item nums j → distinct (item nums) m ≡ false
+    seat-met d e = twice-same (item nums) m j (q - 1) l (omega (arith, seat-used, is, y .small .low h)) (λ o. d (omega (arith, seat-used, o))) used (sym e)
+
+    pub seat-other : (item nums (q - 1) ≡ item nums j → ⊥) → Stand nums seats j (item nums j)
+    seat-other d = at-large (λ e. d (ap (λ (x : ℕ). item nums (x - 1)) (sym has) ∙ e)) refl
+
+  pub loosened-none : Loosened nums seats 0 (replicate side 0)
+  loosened-none = record {
+    long = length-replicate {A = ℕ} side 0;
+    stands = λ j h. absurd (omega arith);
+    rest = λ j h. getD-same {A = ℕ} side j 0;
+  }
+
+  pub loosened-skip : {i : ℕ} {loose : List ℕ} → Loosened nums seats i loose → Stand nums seats i 0 → Loosened nums seats (i + 1) loose
+  loosened-skip {i} {loose} y t = record {
+    long = y .long;
+    stands = λ j l. ⊎-elim (λ q. rw q (rw (y .rest i (omega arith)) t)) (λ a. y .stands j a) (last-or j i l);
+    rest = λ j l. y .rest j (omega arith);
+  }
+
+  pub loosened-more : {i n : ℕ} {loose : List ℕ} → i < side → Loosened nums seats i loose → Stand nums seats i n → Loosened nums seats (i + 1) (set loose i n)
+  loosened-more {i} {n} {loose} h y t = record {
+    long = length-set loose i n ∙ y .long;
+    stands = λ j l. ⊎-elim
+        (λ q. rw q (rw (getD-set-same loose i n 0 (omega (arith, y .long))) t))
+        (λ a. rw (getD-set-other loose i j n 0 (λ o. omega arith)) (y .stands j a))
+        (last-or j i l);
+    rest = λ j l. getD-set-other loose i j n 0 (λ o. omega arith) ∙ y .rest j (omega arith);
+  }
+
+  stand-is : {j x : ℕ} → Stand nums seats j x → (x ≡ 0 → ⊥) → item nums j ≡ x
+  stand-is (no-number z e) u = absurd (u e)
+  stand-is (in-seat z e) u = absurd (u e)
+  stand-is (at-large z e) u = sym e
+
+  -- of two that are the same, each is loose
+  stand-two : {i j x y : ℕ} → Stand nums seats i x → Stand nums seats j y → (i ≡ j → ⊥) → (item nums i ≡ 0 → ⊥) → item nums j ≡ item nums i → (x ≡ item nums i) × (y ≡ item nums j)
+  stand-two {i} {j} a b d u q = go a b
+    where
+      seat : item seats (seatOf (item nums j)) ≡ item seats (seatOf (item nums i))
+      seat = ap (λ (v : ℕ). item seats (seatOf v)) q
+
+      -- k meets g, which sits in the seat of both
+      met : (g k : ℕ) → item seats (seatOf (item nums g)) ≡ g + 1 → item seats (seatOf (item nums k)) ≡ item seats (seatOf (item nums g)) → item nums g ≡ item nums k → item nums (item seats (seatOf (item nums k)) - 1) ≡ item nums k
+      met g k s e r = let o : item seats (seatOf (item nums k)) - 1 ≡ g = omega (arith, s, e) in rw o r
+
+      go : {x y : ℕ} → Stand nums seats i x → Stand nums seats j y → (x ≡ item nums i) × (y ≡ item nums j)
+      go (no-number z e) w = absurd (u z)
+      go (in-seat z e) (no-number w f) = absurd (u (sym q ∙ w))
+      go (in-seat z e) (in-seat w f) = absurd (d (omega (arith, z, w, seat)))
+      go (in-seat z e) (at-large w f) = absurd (w (met i j z seat (sym q)))
+      go (at-large w f) (no-number z e) = absurd (u (sym q ∙ z))
+      go (at-large w f) (in-seat z e) = absurd (w (met j i z (sym seat) q))
+      go (at-large w f) (at-large z e) = (f, e)
+
+  module _ {m : ℕ} {loose : List ℕ} (y : Loosened nums seats m loose) where
+    distinct-there : distinct (item nums) m ≡ true → distinct (item loose) m ≡ true
+    distinct-there d =
+        all-new (item loose) m
+        (λ i j h l z q. let a : item nums i ≡ item loose i = stand-is (y .stands i h) z in
+        let b : item nums j ≡ item loose j = stand-is (y .stands j (omega arith)) (λ w. z (sym q ∙ w)) in
+        let e = distinct-same (item nums) m i j d h (omega arith) (omega arith) (a ∙ (sym q ∙ sym b)) in
+        omega (arith, e))
+
+    distinct-here : distinct (item loose) m ≡ true → distinct (item nums) m ≡ true
+    distinct-here d =
+        all-new (item nums) m
+        (λ i j h l z q. let a = stand-two (y .stands i h) (y .stands j (omega arith)) (λ w. omega arith) z q in
+        let e = distinct-same (item loose) m i j d h (omega arith) (omega (arith, a .0)) (a .0 ∙ (sym q ∙ sym (a .1))) in
+        omega (arith, e))
+
+    pub loosened-distinct : distinct (item loose) m ≡ distinct (item nums) m
+    loosened-distinct =
+        ⊎-elim
+        (λ t. t ∙ sym (distinct-here t))
+        (λ n. n ∙ sym (⊎-elim (λ u. clash (distinct (item loose) m) (distinct-there u) n) (λ u. u) (case-of (distinct (item nums) m))))
+        (case-of (distinct (item loose) m))

@@ -1,0 +1,67 @@
+-- Marks: setting one changes no other. So a number whose mark is not there before it sets it differs from each number that has one, since the
+-- same number has the same mark.
+use mathlib.Core.Path.{_≡_, refl, sym, ap, _∙_}
+use mathlib.Core.Bool.{Bool, true, false, not, _&&_, _||_, or-false, or-true}
+use mathlib.Core.Logic.{⊎-elim}
+use mathlib.Core.List.{List}
+use Prim.Native.Nat.{ℕ, _+_, _/_, _%_, _<_}
+use native.Mathlib.Omega.{arith}
+use lib.ListN.{length, replicate, length-set, length-replicate}
+use lib.Seq.{getD-set-same, getD-set-other}
+use lib.Dec.{eqb}
+use borrow.Author.Tests.{eq-eqb, ne-eqb}
+use Rattle.lent.proofs.Choices.{or-no, clash}
+use Rattle.lent.proofs.Walks.{all-every}
+use Rattle.machine.specs.Sound.{newAt, distinct}
+use Rattle.joins.specs.Bits.{wordBits, hasBit, withBit}
+use Rattle.joins.specs.Joins.{item, markWords, hasMark, setBit, Marked, Met}
+use Rattle.joins.proofs.Bits.{bit-with}
+use Rattle.joins.proofs.Numbers.{last-or, same-or, new-zero, new-used, distinct-more}
+
+pub set-bit : (marks : List ℕ) (k b : ℕ) → k < length marks → (a c : ℕ) → hasBit (item (setBit marks k b) a) c ≡ (hasBit (item marks a) c || (eqb a k && eqb c b))
+set-bit marks k b h a c =
+    ⊎-elim
+    (λ e. let g : item (setBit marks k b) a ≡ withBit (item marks k) b = rw e (getD-set-same marks k (withBit (item marks k) b) 0 h) in
+    rw (g, eq-eqb a k e, e) (bit-with (item marks k) b c))
+    (λ e. rw (getD-set-other marks k a (withBit (item marks k) b) 0 e, ne-eqb a k e, or-false))
+    (same-or a k)
+
+-- ---- the marks of numbers
+
+pub marked-none : (f : ℕ → ℕ) → Marked f 0 (replicate markWords 0)
+marked-none f = record { long = length-replicate {A = ℕ} markWords 0; has = λ j l. absurd (omega arith) }
+
+-- n is number k
+module _ {f : ℕ → ℕ} {k n : ℕ} {marks : List ℕ} (y : Marked f k marks) (is : n ≡ f k) where
+  pub met-none : n ≡ 0 → Met f k false marks
+  met-none e = record {
+    marked = record {
+      long = y .long;
+      has = λ j l z. ⊎-elim (λ q. absurd (z (ap f q ∙ (sym is ∙ e)))) (λ a. y .has j a z) (last-or j k l);
+    };
+    new = λ r. new-zero f k n is e;
+  }
+
+  module _ (used : n ≡ 0 → ⊥) where
+    unmet : hasMark marks n ≡ false → newAt f k ≡ true
+    unmet free =
+        new-used f k n is used
+        ∙ all-every (λ j. not (eqb (f j) n)) k
+        (λ j l. ap not (ne-eqb (f j) n (λ q. clash (hasMark marks n) (ap (hasMark marks) (sym q) ∙ y .has j l (λ z. used (sym q ∙ z))) free)))
+
+    pub met-marked : {r : Bool} {marks′ : List ℕ} → r ≡ hasMark marks n → marks′ ≡ setBit marks (n / wordBits % markWords) (n % wordBits) → Met f k r marks′
+    met-marked {r} {marks′} e o = record {
+      marked = record {
+        long = ap length o ∙ (length-set marks (n / wordBits % markWords) _ ∙ y .long);
+        has = λ j l z. rw o (set-bit marks (n / wordBits % markWords) (n % wordBits) (omega (arith, y .long)) (f j / wordBits % markWords) (f j % wordBits)
+            ∙ ⊎-elim (λ q. own (f j) (ap f q ∙ sym is)) (λ a. rw (y .has j a z)) (last-or j k l));
+      };
+      new = λ t. unmet (sym e ∙ t);
+    }
+      where
+        own : (m : ℕ) → m ≡ n → hasMark marks m || (eqb (m / wordBits % markWords) (n / wordBits % markWords) && eqb (m % wordBits) (n % wordBits)) ≡ true
+        own m q = rw (q, eq-eqb (n / wordBits % markWords) (n / wordBits % markWords) refl, eq-eqb (n % wordBits) (n % wordBits) refl) (or-true (hasMark marks n))
+
+-- a turn of a loop that keeps whether any number met the mark of another
+pub met-more : {f : ℕ → ℕ} {k : ℕ} {r met : Bool} {marks : List ℕ} → (met ≡ false → distinct f k ≡ true) → Met f k r marks → met || r ≡ false → distinct f (k + 1) ≡ true
+met-more {f} {k} {r} {met} d y e = let o = or-no met r e in distinct-more f k (d (o .0)) (y .new (o .1))

@@ -1,0 +1,67 @@
+-- After k turns the first k tokens stand side by side; distinct there is distinct in the table.
+use Prim.Native.Nat.{_-_, _≤_}
+use mathlib.Core.Path.{_≡_, _∙_}
+use native.Mathlib.Omega.{arith}
+use Rattle.machine.specs.Sizes.{keyCount}
+use Rattle.joins.specs.Joins.{tokens, Gathered}
+use Rattle.joins.proofs.Numbers.{gathered-none, gathered-more, distinct-gathered}
+use borrow.Author.Needs.{needs}
+use Rattle.joins.proofs.tokens_differ.Statement.{statement}
+use Rattle.joins.proofs.tokens_differ.Tie as tie
+
+abbrev Inv-loop : tie.InvT-loop
+Inv-loop s nums₀ k₀ nums k = (k ≤ keyCount) × Gathered (tokens s) k nums
+
+abbrev μ-loop : tie.MeasureT-loop
+μ-loop s nums₀ k₀ nums k = keyCount - k
+
+loop-holds : tie.Need-loop-holds Inv-loop μ-loop
+loop-holds c = (search needs, gathered-none _)
+
+mul-load-u32 : tie.Need-mul-load-u32 Inv-loop μ-loop
+mul-load-u32 c = search needs
+
+add-load-u32 : tie.Need-add-load-u32 Inv-loop μ-loop
+add-load-u32 c = search needs
+
+load-u32-requires : tie.Need-load-u32-requires Inv-loop μ-loop
+load-u32-requires c κs = search needs
+
+mul-nums : tie.Need-mul-nums Inv-loop μ-loop
+mul-nums c = search needs
+
+array-write-nums : tie.Need-array-write-nums Inv-loop μ-loop
+array-write-nums c = search needs
+
+add-k : tie.Need-add-k Inv-loop μ-loop
+add-k c = search needs
+
+loop-less : tie.Need-loop-less Inv-loop μ-loop
+loop-less c = search needs
+
+loop-again : tie.Need-loop-again Inv-loop μ-loop
+loop-again c = (search needs, gathered-more _ _ _ _ (omega arith) (c .before .before .loop .inv .1) (c .load-u32 .ensures))
+
+differ-requires : tie.Need-differ-requires Inv-loop μ-loop
+differ-requires c κs = search needs
+
+returns : tie.Need-returns Inv-loop μ-loop
+returns c = let e : c .before .before .before .before .loop .k ≡ keyCount = omega arith in c .differ .ensures ∙ distinct-gathered _ _ _ (rw e at (c .before .before .before .before .loop .inv .1))
+
+pub tokens-differ-spec : {M : Type 1} → statement M
+tokens-differ-spec =
+    tie.close
+    (tie.spec
+    Inv-loop
+    μ-loop
+    loop-holds
+    mul-load-u32
+    add-load-u32
+    load-u32-requires
+    mul-nums
+    array-write-nums
+    add-k
+    loop-less
+    loop-again
+    differ-requires
+    returns)
