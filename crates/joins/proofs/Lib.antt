@@ -5,3 +5,4 @@ pub mod Lookup
 pub mod Pairs
 pub mod Joins
 pub mod Entered
+pub mod Fallen

@@ -1,2 +1,3 @@
 pub mod Bits
 pub mod Joins
+pub mod Order
