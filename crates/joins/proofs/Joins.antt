@@ -18,9 +18,10 @@ use Rattle.lent.proofs.Walks.{all-every, every-all, every-fails}
 use Rattle.machine.proofs.Views.{getD-same}
 use Rattle.machine.specs.Words.{INVALIDATE}
 use Rattle.machine.specs.Sizes.{keyCount, keysFrom, keyWidth, sessionCount}
-use Rattle.joins.specs.Joins.{rowSession, rowKey, rowKind, isLive, pairOk, joinOk, item, firstPlace, pairBit, Noted, SHARED, ALONE, standing, mayShare, On, Seen, Sessions, Ready, Joined}
+use Rattle.order.specs.Order.{item}
+use Rattle.joins.specs.Joins.{rowSession, rowKey, rowKind, isLive, pairOk, joinOk, firstPlace, pairBit, Noted, SHARED, ALONE, standing, mayShare, On, Seen, Sessions, Ready, Joined}
 use Rattle.joins.proofs.Lookup.{Stands, place-dead, place-live}
-use Rattle.joins.proofs.Numbers.{last-or, same-or}
+use Rattle.order.proofs.Numbers.{last-or, same-or}
 use Rattle.joins.proofs.Pairs.{sized-none, no-pairs}
 
 -- ---- rows before another

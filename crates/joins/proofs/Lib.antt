@@ -1,5 +1,5 @@
 pub mod Bits
-pub mod Numbers
+pub mod Gathered
 pub mod Marks
 pub mod Seats
 pub mod Loose

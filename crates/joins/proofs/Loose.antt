@@ -12,8 +12,9 @@ use Rattle.lent.proofs.Choices.{case-of, clash}
 use Rattle.machine.proofs.Every.{distinct-same}
 use Rattle.machine.proofs.Views.{getD-same}
 use Rattle.machine.specs.Sound.{distinct}
-use Rattle.joins.specs.Joins.{side, item, seatOf, Seated, Stand, no-number, in-seat, at-large, Loosened}
-use Rattle.joins.proofs.Numbers.{last-or, all-new, twice-same}
+use Rattle.order.specs.Order.{side, item}
+use Rattle.joins.specs.Joins.{seatOf, Seated, Stand, no-number, in-seat, at-large, Loosened}
+use Rattle.order.proofs.Numbers.{last-or, all-new, twice-same}
 
 module _ {nums seats : List ℕ} where
   -- h is the seat of the number at place j, which is not 0, and q what it has

@@ -14,9 +14,10 @@ use Rattle.lent.proofs.Choices.{or-no, clash}
 use Rattle.lent.proofs.Walks.{all-every}
 use Rattle.machine.specs.Sound.{newAt, distinct}
 use Rattle.joins.specs.Bits.{wordBits, hasBit, withBit}
-use Rattle.joins.specs.Joins.{item, markWords, hasMark, setBit, Marked, Met}
+use Rattle.order.specs.Order.{item}
+use Rattle.joins.specs.Joins.{markWords, hasMark, setBit, Marked, Met}
 use Rattle.joins.proofs.Bits.{bit-with}
-use Rattle.joins.proofs.Numbers.{last-or, same-or, new-zero, new-used, distinct-more}
+use Rattle.order.proofs.Numbers.{last-or, same-or, new-zero, new-used, distinct-more}
 
 pub set-bit : (marks : List ℕ) (k b : ℕ) → k < length marks → (a c : ℕ) → hasBit (item (setBit marks k b) a) c ≡ (hasBit (item marks a) c || (eqb a k && eqb c b))
 set-bit marks k b h a c =

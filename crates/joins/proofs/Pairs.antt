@@ -14,8 +14,9 @@ use Rattle.joins.proofs.Bits.{bit-none}
 use Rattle.joins.proofs.Marks.{set-bit}
 use Rattle.machine.proofs.Views.{getD-same}
 use Rattle.machine.specs.Sizes.{keyCount}
-use Rattle.joins.specs.Joins.{item, setBit, pairBit, Sized, Noted}
-use Rattle.joins.proofs.Numbers.{same-or}
+use Rattle.order.specs.Order.{item}
+use Rattle.joins.specs.Joins.{setBit, pairBit, Sized, Noted}
+use Rattle.order.proofs.Numbers.{same-or}
 
 -- the same distance from the end of a word
 eqb-far : (v q : ℕ) → wordBits ≤ v → wordBits ≤ q → eqb (v - wordBits) (q - wordBits) ≡ eqb v q

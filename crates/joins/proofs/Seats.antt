@@ -14,8 +14,10 @@ use Rattle.lent.proofs.Choices.{and-yes, clash}
 use Rattle.lent.proofs.Walks.{all-every}
 use Rattle.machine.proofs.Views.{getD-same}
 use Rattle.machine.specs.Sound.{distinct}
-use Rattle.joins.specs.Joins.{side, item, seatCount, seatOf, Small, Entered, Sat}
-use Rattle.joins.proofs.Numbers.{last-or, same-or, gathered-none, gathered-more, new-zero, new-used, distinct-more}
+use Rattle.order.specs.Order.{side, item}
+use Rattle.joins.specs.Joins.{seatCount, seatOf, Small, Entered, Sat}
+use Rattle.order.proofs.Numbers.{last-or, same-or, new-zero, new-used, distinct-more}
+use Rattle.joins.proofs.Gathered.{gathered-none, gathered-more}
 
 pub entered-none : (f : ℕ → ℕ) → Entered f 0 (replicate side 0) (replicate seatCount 0)
 entered-none f = record {

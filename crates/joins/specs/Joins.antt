@@ -8,6 +8,7 @@ use lib.Dec.{eqb, ltb}
 use Rattle.joins.specs.Bits.{wordBits, hasBit, withBit}
 use Rattle.lent.specs.Bytes.{le32}
 use Rattle.lent.specs.Tables.{if_then_else_, every, some, first}
+use Rattle.order.specs.Order.{side, item}
 use Rattle.machine.specs.Sound.{newAt, distinct}
 use Rattle.machine.specs.Words.{INVALIDATE}
 use Rattle.machine.specs.Sizes.{keyCount, keysFrom, keyWidth, rowsFrom, rowWidth, sessionCount, sessionsFrom, sessionWidth}
@@ -56,14 +57,6 @@ joinOk s i =
 
 -- Numbers side by side
 
--- how many there are at most
-abbrev pub side : ℕ
-side = 256
-
--- the number at place j
-abbrev pub item : List ℕ → ℕ → ℕ
-item nums j = getD nums j 0
-
 -- the first m of the numbers f, and zeros behind them
 pub record Gathered (f : ℕ → ℕ) (m : ℕ) (nums : List ℕ) : Type 0 where
   pub long : length nums ≡ side
@@ -77,15 +70,6 @@ Alone nums n = (j k : ℕ) → j < sessionCount → k < sessionCount → item nu
 -- its first place, plus 1; 0 where there is none
 abbrev pub firstPlace : List ℕ → ℕ → ℕ
 firstPlace nums n = first (λ j. eqb (item nums j) n) (λ j. j + 1) 0 0 sessionCount
-
--- r is a place of n, plus 1, or 0
-pub record Stood (nums : List ℕ) (n r : ℕ) : Type 0 where
-  pub low : r ≤ sessionCount
-  pub here : (r ≡ 0 → ⊥) → item nums (r - 1) ≡ n
-
--- if n stands at one place only of those below m, r is that place, plus 1
-abbrev pub OnlyPlace : List ℕ → ℕ → ℕ → ℕ → Type 0
-OnlyPlace nums m n r = (j : ℕ) → j < m → item nums j ≡ n → ((k : ℕ) → k < m → item nums k ≡ n → k ≡ j) → r ≡ j + 1
 
 -- Marks: a number has one bit, by its low twelve bits
 

@@ -8,7 +8,7 @@ use lib.ListN.{getD, length, set, length-set, replicate, length-replicate}
 use lib.Seq.{getD-set-same, getD-set-other}
 use Rattle.machine.proofs.Views.{getD-same}
 use Rattle.machine.specs.Sizes.{valueMax}
-use Rattle.joins.proofs.Numbers.{last-or}
+use Rattle.order.proofs.Numbers.{last-or}
 use Rattle.state.specs.Forms.{Masks}
 
 pub record Filled (i : ℕ) (masks : List ℕ) : Type 0 where

@@ -11,7 +11,7 @@ use borrow.Author.Tests.{eq-eqb, ne-eqb, le-leb, lt-leb}
 use Rattle.lent.specs.Bytes.{Bytes, le16, le32, win}
 use Rattle.lent.specs.Tables.{allZero}
 use Rattle.machine.specs.Sizes.{valueMax}
-use Rattle.joins.proofs.Numbers.{same-or}
+use Rattle.order.proofs.Numbers.{same-or}
 use Rattle.state.specs.Forms.{fitted, valueFormed}
 
 module _ (x : List ℕ) (f : Bytes x) (word : ℕ) (is : word ≡ le32 x 0) where

@@ -269,9 +269,9 @@ fn keys_fit(s: &[u8], masks: &[u8; MASKS]) -> bool
 // Each session by itself, and numbers distinct: each found its seat free, or those that did not are put in order.
 fn sessions_fit(
     s: &[u8],
-    nums: &mut [u32; joins::SIDE],
+    nums: &mut [u32; order::SIDE],
     seats: &mut [u8; joins::SEATS],
-    order: &mut [u8; joins::SIDE],
+    order: &mut [u8; order::SIDE],
 ) -> bool
     requires { ⌜ (length (now s) ≡ stateSize) × ((le64 (now s) 0 ≤ timeMax) × Entered (sessionNumbers (now s)) 0 (now nums) (now seats)) ⌝ }
     ensures { λ r. ⌜ (r ≡ sessionsFit (now (s .entry))) × (r ≡ true → Sessions (now (s .entry)) (now (nums .exit)) × Small sessionCount (now (seats .exit))) ⌝ }
@@ -296,9 +296,9 @@ fn sessions_fit(
 fn rows_fit(
     s: &[u8],
     masks: &[u8; MASKS],
-    nums: &[u32; joins::SIDE],
+    nums: &[u32; order::SIDE],
     seats: &[u8; joins::SEATS],
-    order: &[u8; joins::SIDE],
+    order: &[u8; order::SIDE],
 ) -> bool
     requires { ⌜ (length (now s) ≡ stateSize) × (Masks (now masks) × (Sessions (now s) (now nums) × Small sessionCount (now seats))) ⌝ }
     ensures { λ r. ⌜ r ≡ rowsFit (now (s .entry)) ⌝ }
@@ -331,9 +331,9 @@ fn tables_fit(s: &[u8]) -> bool
     if !keys_fit(s, &masks) {
         return false;
     }
-    let mut nums: [u32; joins::SIDE] = [0; joins::SIDE];
+    let mut nums: [u32; order::SIDE] = [0; order::SIDE];
     let mut seats: [u8; joins::SEATS] = [0; joins::SEATS];
-    let mut order: [u8; joins::SIDE] = [0; joins::SIDE];
+    let mut order: [u8; order::SIDE] = [0; order::SIDE];
     if !sessions_fit(s, &mut nums, &mut seats, &mut order) {
         return false;
     }

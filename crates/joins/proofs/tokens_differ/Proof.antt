@@ -4,7 +4,7 @@ use mathlib.Core.Path.{_≡_, _∙_}
 use native.Mathlib.Omega.{arith}
 use Rattle.machine.specs.Sizes.{keyCount}
 use Rattle.joins.specs.Joins.{tokens, Gathered}
-use Rattle.joins.proofs.Numbers.{gathered-none, gathered-more, distinct-gathered}
+use Rattle.joins.proofs.Gathered.{gathered-none, gathered-more, distinct-gathered}
 use borrow.Author.Needs.{needs}
 use Rattle.joins.proofs.tokens_differ.Statement.{statement}
 use Rattle.joins.proofs.tokens_differ.Tie as tie

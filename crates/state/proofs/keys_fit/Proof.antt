@@ -11,7 +11,7 @@ use Rattle.machine.specs.Sizes.{keyCount, keysFrom, keyWidth}
 use Rattle.machine.specs.Sound.{distinct}
 use Rattle.layout.specs.Layout.{decHead}
 use Rattle.joins.specs.Joins.{tokens, Marked}
-use Rattle.joins.proofs.Numbers.{distinct-none}
+use Rattle.order.proofs.Numbers.{distinct-none}
 use Rattle.joins.proofs.Marks.{marked-none, met-more}
 use Rattle.state.specs.Forms.{keyFormed, keysFormed, keysFit}
 use Rattle.state.proofs.Tests.{records-failed, records-passed}

@@ -11,7 +11,8 @@ use Rattle.machine.specs.Sizes.{sessionCount, sessionsFrom, sessionWidth}
 use Rattle.machine.specs.Sound.{distinct}
 use Rattle.layout.specs.Layout.{decHead}
 use Rattle.joins.specs.Joins.{sessionNumbers, Entered}
-use Rattle.joins.proofs.Numbers.{distinct-none, distinct-gathered}
+use Rattle.order.proofs.Numbers.{distinct-none}
+use Rattle.joins.proofs.Gathered.{distinct-gathered}
 use Rattle.joins.proofs.Seats.{sat-more}
 use Rattle.state.specs.Forms.{sessionFormed, sessionsFormed, sessionsFit}
 use Rattle.state.proofs.Tests.{records-failed, records-passed}

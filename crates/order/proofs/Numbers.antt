@@ -1,23 +1,18 @@
--- Numbers side by side, and which of them are new: a number is new if it is 0 or none before it is the same, and all are distinct if each
+-- Numbers one after the other, and which of them are new: a number is new if it is 0 or none before it is the same, and all are distinct if each
 -- is new in its turn.
 use mathlib.Core.Path.{_≡_, refl, sym, ap, _∙_}
 use mathlib.Core.Bool.{Bool, true, false, not}
 use mathlib.Core.Logic.{_⊎_, ⊎-elim, inl, inr}
-use mathlib.Core.List.{List}
 use Prim.Native.Nat.{ℕ, _+_, _≤_, _<_}
 use native.Mathlib.Nat.{eq-or-lt-of-le}
 use native.Mathlib.Omega.{arith}
-use lib.ListN.{set, length-set, length-replicate, replicate}
-use lib.Seq.{getD-set-same, getD-set-other}
 use lib.Dec.{eqb}
 use borrow.Author.Tests.{eq-eqb, ne-eqb, eqb-true, eqb-false}
 use Rattle.lent.specs.Tables.{every}
 use Rattle.lent.proofs.Choices.{case-of}
 use Rattle.lent.proofs.Walks.{all-every, every-none, every-more, every-cong}
 use Rattle.machine.proofs.Every.{distinct-same}
-use Rattle.machine.proofs.Views.{getD-same}
 use Rattle.machine.specs.Sound.{newAt, distinct}
-use Rattle.joins.specs.Joins.{side, item, Gathered}
 
 -- below i + 1: at i, or below it
 pub last-or : (j i : ℕ) → j < i + 1 → (j ≡ i) ⊎ (j < i)
@@ -30,25 +25,6 @@ same-or a b = go (eqb a b) refl
     go : (t : Bool) → eqb a b ≡ t → (a ≡ b) ⊎ (a ≡ b → ⊥)
     go true e = inl (eqb-true a b e)
     go false e = inr (eqb-false a b e)
-
--- ---- numbers side by side
-
-pub gathered-none : (f : ℕ → ℕ) → Gathered f 0 (replicate side 0)
-gathered-none f = record {
-  long = length-replicate {A = ℕ} side 0;
-  is = λ j h. absurd (omega arith);
-  rest = λ j h. getD-same {A = ℕ} side j 0;
-}
-
-pub gathered-more : (f : ℕ → ℕ) (i : ℕ) (nums : List ℕ) (n : ℕ) → i < side → Gathered f i nums → n ≡ f i → Gathered f (i + 1) (set nums i n)
-gathered-more f i nums n h g e = record {
-  long = length-set nums i n ∙ g .long;
-  is = λ j l. ⊎-elim
-      (λ o. rw o (getD-set-same nums i n 0 (omega (arith, g .long)) ∙ e))
-      (λ a. getD-set-other nums i j n 0 (λ o. omega arith) ∙ g .is j a)
-      (last-or j i l);
-  rest = λ j l. getD-set-other nums i j n 0 (λ o. omega arith) ∙ g .rest j (omega arith);
-}
 
 -- ---- a number that is new
 
@@ -69,11 +45,11 @@ new-cong f g i e =
     = every-cong (λ j. not (eqb (f j) (g i))) (λ j. not (eqb (g j) (g i))) i (λ j h. ap (λ (x : ℕ). not (eqb x (g i))) (e j (omega arith))) in
     rw (e i (omega arith), q)
 
-pub distinct-gathered : (f : ℕ → ℕ) (m : ℕ) (nums : List ℕ) → Gathered f m nums → distinct (item nums) m ≡ distinct f m
-unfolding distinct
-distinct-gathered f m nums g = every-cong (newAt (item nums)) (newAt f) m (λ i h. new-cong (item nums) f i (λ j l. g .is j (omega arith)))
-
 -- ---- distinct numbers
+
+pub distinct-cong : (f g : ℕ → ℕ) (m : ℕ) → ((i : ℕ) → i < m → f i ≡ g i) → distinct f m ≡ distinct g m
+unfolding distinct
+distinct-cong f g m e = every-cong (newAt f) (newAt g) m (λ i h. new-cong f g i (λ j l. e j (omega arith)))
 
 pub distinct-none : (f : ℕ → ℕ) → distinct f 0 ≡ true
 unfolding distinct
