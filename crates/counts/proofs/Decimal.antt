@@ -118,7 +118,7 @@ module _ (n : ℕ) where
   -- 1 to 20 bytes, each a digit
   pub decimal-least : 1 ≤ length (decimal n)
   unfolding decimalLength
-  decimal-least = omega (arith, decimal-width, width-least 19 n)
+  decimal-least = omega (arith, decimal-width, width-least (digitsMax - 1) n)
 
   pub decimal-most : length (decimal n) ≤ digitsMax
   unfolding decimalLength
