@@ -91,8 +91,8 @@ row-of s n k e = let r = go (rowOf s n k) (Views.find-test (ofOn n k) noRow (s .
     go (row m j d v) (inl p) q = Views.no-row m j d v (sym p)
     go (row m j d v) (inr p) q = let r = Views.of-on-row n k (row m j d v) p in (r .1, r .2 ∙ cc)
 
-pub row-taken : (s : State) (n k : ℕ) → HasRow (s .rows) n k → freeRow (rowOf s n k) ≡ false
-row-taken s n k w = Views.of-on-taken n k (rowOf s n k) (Views.find-passes (ofOn n k) noRow (s .rows) (w .place) refl (rw (w .is, eq-eqb n n refl, eq-eqb k k refl)))
+pub found-row : (s : State) (n k : ℕ) → HasRow (s .rows) n k → freeRow (rowOf s n k) ≡ false
+found-row s n k w = Views.of-on-taken n k (rowOf s n k) (Views.find-passes (ofOn n k) noRow (s .rows) (w .place) refl (rw (w .is, eq-eqb n n refl, eq-eqb k k refl)))
 
 -- the lease of a token
 pub matched : (t : ℕ) (o : Option Lease) → matches t o ≡ true → (l : Lease) × (o ≡ some l) × (l .token ≡ t)

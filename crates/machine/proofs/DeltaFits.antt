@@ -13,7 +13,7 @@ use Rattle.lent.specs.Bytes.{Bytes}
 use Rattle.lent.proofs.Choices.{if-ind}
 use Rattle.counts.specs.Count.{decimal, readCount, raised, lowered}
 use Rattle.counts.specs.declared.Count.{Count}
-use Rattle.counts.proofs.Decimal.{decimal-most, decimal-digits, byte-at}
+use Rattle.counts.proofs.Decimal.{decimal-most, decimal-digits, digits-byte}
 use Rattle.machine.specs.Sizes.{valueMax}
 use Rattle.machine.specs.State.{Value, Staged, nothing, staged, DROP}
 use Rattle.machine.specs.Effects.{fits, counts, operate, orDrop, changed}
@@ -28,7 +28,7 @@ bytes-append (b ∷ v) x p q zero = p zero
 bytes-append (b ∷ v) x p q (suc i) = bytes-append v x (λ j. p (suc j)) q i
 
 decimal-fine : (n : ℕ) → Fine (decimal n)
-decimal-fine n = record { short = omega (arith, decimal-most n); bytes = λ i. byte-at (decimal n) i (decimal-digits n) }
+decimal-fine n = record { short = omega (arith, decimal-most n); bytes = λ i. digits-byte (decimal n) i (decimal-digits n) }
 
 fits-fine : (v : Value) → Bytes v → FineIfAny (fits v)
 fits-fine v p = if-ind FineIfAny (leb (length v) valueMax)

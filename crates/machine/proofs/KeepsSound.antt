@@ -57,7 +57,7 @@ module _ (s : State) (now : ℕ) (h : WellFormed s now) where
   unheld : (n k kind : ℕ) → Within INVALIDATE INCREMENTAL kind → eqb (kindOf (rowOf s n k)) kind ≡ false → grants (decide s k kind) ≡ true → (i d : ℕ) (v : Staged) → rowAt s i ≡ row n k d v → ⊥
   unheld n k kind range f p i d v q =
       let x = Accepted.sharing s (h .orderly) k kind range p i n d v q in
-      let r = Accepted.row-of s n k (Accepted.row-taken s n k (record { place = i; kind = d; what = v; is = q })) in
+      let r = Accepted.row-of s n k (Accepted.found-row s n k (record { place = i; kind = d; what = v; is = q })) in
       let y : i ≡ r .0 = h .rows .once i (r .0) q (r .2) in
       let z : row n k d v ≡ row n k (kindOf (rowOf s n k)) (r .1) = sym q ∙ ap (rowAt s) y ∙ r .2 in
       let w : d ≡ kindOf (rowOf s n k) = cc in

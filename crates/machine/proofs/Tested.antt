@@ -30,7 +30,7 @@ use Rattle.machine.specs.declared.Answer.{Answer}
 use Rattle.machine.specs.declared.Command.{Command}
 use Rattle.machine.specs.declared.Command.the-variants.{Begin, Get, Fill, Quar, Stage, Delta, Validate, Done, Undo, Evict, Tick}
 use Rattle.machine.proofs.Views
-use Rattle.machine.proofs.Accepted.{session-of, row-of, row-taken}
+use Rattle.machine.proofs.Accepted.{session-of, row-of, found-row}
 use Rattle.machine.proofs.Shape.{orderly-next}
 
 any-mem : (v : Value) (l : List Value) → any (same v) l ≡ true → List·Memᴰ v l
@@ -176,7 +176,7 @@ kept-unbroken w (command now (Done n) v) h rule = rule-kept (eqb (wordOf (step (
 kept-unbroken w (command now (Undo n) v) h rule = rule-kept (eqb (wordOf (step (w .state) now (Undo n) v .answer)) UNDONE) (w .wrote n) 3 (λ p. rule (says-undone (w .state) now v n p))
 kept-unbroken w (command now (Evict k) v) h rule = refl
 kept-unbroken w (command now Tick v) h rule = refl
-kept-unbroken w (write n k v) h rule = rw (is-sealed (w .state) n h (rule .0), row-taken (w .state) n k (rule .1))
+kept-unbroken w (write n k v) h rule = rw (is-sealed (w .state) n h (rule .0), found-row (w .state) n k (rule .1))
 
 -- Each run
 
