@@ -6,7 +6,9 @@ use lib.ListN.{length, getD, drop}
 use lib.Dec.{eqb}
 use Rattle.lent.specs.Bytes.{le16, bytes16, le32, bytes32, le64, bytes64, win, zeros}
 use Rattle.lent.specs.Tables.{if_then_else_, tabOf, readTab}
-use Rattle.machine.specs.Sizes.{keyCount, sessionCount, rowCount, valueMax, keysFrom, keyWidth, rowsFrom, rowWidth, sessionsFrom, sessionWidth, restSize, readLifeField, writeLifeField, nextSessionField, nextTokenField, keyLengthField, keyTokenField, keyUntilField, keyValueField, leaseWidth, rowKeyField, rowKindField, rowStagedField, rowLengthField, rowValueField, sessionLifeField, sessionStepsField, sessionUntilField}
+use Rattle.machine.specs.Sizes.{keyCount, sessionCount, rowCount, valueMax, keysFrom, keyWidth, rowsFrom, rowWidth, sessionsFrom, sessionWidth, restSize, leaseWidth}
+use Rattle.machine.specs.Sizes.{readLifeField, writeLifeField, nextSessionField, nextTokenField, keyLengthField, keyTokenField, keyUntilField, keyValueField}
+use Rattle.machine.specs.Sizes.{rowKeyField, rowKindField, rowStagedField, rowLengthField, rowValueField, sessionLifeField, sessionStepsField, sessionUntilField}
 use Rattle.machine.specs.State.{Value, Head, Lease, Key, Slot, noSession, session, Staged, nothing, staged, DROP, Row, noRow, row, State}
 use Rattle.machine.specs.declared.Life.{Life}
 use Rattle.machine.specs.declared.Session.{Session}

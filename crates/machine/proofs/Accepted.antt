@@ -82,7 +82,7 @@ session-of s n e = go (sessionOf s n) (Views.find-test (numbered n) noSession (s
 pub found-live : (s : State) (n i : ℕ) (x : Session) → sessionAt s i ≡ session x → x .number ≡ n → notLive s n ≡ false
 found-live s n i x e num = Views.numbered-live n (sessionOf s n) (Views.find-passes (numbered n) noSession (s .sessions) i refl (rw e (eq-eqb (x .number) n num)))
 
--- the row of session n on key k; and where there is one, it is found
+-- the row of session n on key k
 pub row-of : (s : State) (n k : ℕ) → freeRow (rowOf s n k) ≡ false → (i : ℕ) × (v : Staged) × (rowAt s i ≡ row n k (kindOf (rowOf s n k)) v)
 row-of s n k e = let r = go (rowOf s n k) (Views.find-test (ofOn n k) noRow (s .rows)) e in (rowPlace s n k, r .0, r .1)
   where
@@ -91,6 +91,7 @@ row-of s n k e = let r = go (rowOf s n k) (Views.find-test (ofOn n k) noRow (s .
     go (row m j d v) (inl p) q = Views.no-row m j d v (sym p)
     go (row m j d v) (inr p) q = let r = Views.of-on-row n k (row m j d v) p in (r .1, r .2 ∙ cc)
 
+-- and where there is one, it is found
 pub found-row : (s : State) (n k : ℕ) → HasRow (s .rows) n k → freeRow (rowOf s n k) ≡ false
 found-row s n k w = Views.of-on-taken n k (rowOf s n k) (Views.find-passes (ofOn n k) noRow (s .rows) (w .place) refl (rw (w .is, eq-eqb n n refl, eq-eqb k k refl)))
 

@@ -359,11 +359,36 @@ module _ (s : State) (h : WellFormed s (s .head .clock)) where
       (and-both (all-pairs (λ j i. shares (rowAt s j) (rowAt s i)) rowCount (λ i j l a. means-shares (rowAt s j) (rowAt s i) (λ m n k d e u v p q. both-one i j m n k d e u v a p q)))
       (all-every (λ i. leaseless s (rowAt s i)) rowCount (λ i l. bare i (rowAt s i) refl))))))
 
+  sized-sound : sized s ≡ true
+  unfolding sized
+  sized-sound =
+      and-both (eq-eqb (length (s .keys)) keyCount (h .keys .length))
+      (and-both (eq-eqb (length (s .sessions)) sessionCount (h .sessions .length)) (eq-eqb (length (s .rows)) rowCount (h .rows .length)))
+
+  head-sound : headSound (s .head) ≡ true
+  unfolding headSound
+  head-sound =
+      and-both (le-leb (s .head .clock) timeMax (h .head .time))
+      (and-both (means-within 1 lifeMax (s .head .readLife) (h .head .readLife))
+      (and-both (means-within 1 lifeMax (s .head .writeLife) (h .head .writeLife))
+      (and-both (means-within 1 numberMax (s .head .nextSession) (h .head .nextSession)) (means-within 1 numberMax (s .head .nextToken) (h .head .nextToken)))))
+
+  key-sound : (k : ℕ) → keySound (s .head) (keyOf s k) ≡ true
+  unfolding keySound LeaseOf
+  key-sound k = and-both (means-cached (keyOf s k .value) (λ v p. h .keys .values k p)) (means-lease (s .head) (leaseOn s k) (λ l p. (h .orderly .leases k l p .0, h .keys .leases k p)))
+
+  row-sound : (i : ℕ) → rowSound (rowAt s i) ≡ true
+  row-sound i = means-row (rowAt s i) (λ n k d u p. (named-by i n k d u p, h .orderly .kinds i n k d u p, h .rows .each i p))
+
+  session-sound : (j : ℕ) → sessionSound (s .head) (sessionAt s j) ≡ true
+  unfolding SessionOf
+  session-sound j = means-session (s .head) (sessionAt s j) (λ x p. (h .orderly .numbers j x p, h .sessions .each j p))
+
   pub means-sound : sound s ≡ true
-  unfolding sound sized headSound keySound LeaseOf SessionOf
+  unfolding sound
   means-sound =
-      and-both (and-both (eq-eqb (length (s .keys)) keyCount (h .keys .length)) (and-both (eq-eqb (length (s .sessions)) sessionCount (h .sessions .length)) (eq-eqb (length (s .rows)) rowCount (h .rows .length))))
-      (and-both (and-both (le-leb (s .head .clock) timeMax (h .head .time)) (and-both (means-within 1 lifeMax (s .head .readLife) (h .head .readLife)) (and-both (means-within 1 lifeMax (s .head .writeLife) (h .head .writeLife)) (and-both (means-within 1 numberMax (s .head .nextSession) (h .head .nextSession)) (means-within 1 numberMax (s .head .nextToken) (h .head .nextToken))))))
-      (and-both (all-every (λ k. keySound (s .head) (keyOf s k)) keyCount (λ k l. and-both (means-cached (keyOf s k .value) (λ v p. h .keys .values k p)) (means-lease (s .head) (leaseOn s k) (λ l p. (h .orderly .leases k l p .0, h .keys .leases k p)))))
-      (and-both (all-every (λ i. rowSound (rowAt s i)) rowCount (λ i l. means-row (rowAt s i) (λ n k d u p. (named-by i n k d u p, h .orderly .kinds i n k d u p, h .rows .each i p))))
-      (and-both (all-every (λ j. sessionSound (s .head) (sessionAt s j)) sessionCount (λ j l. means-session (s .head) (sessionAt s j) (λ x p. (h .orderly .numbers j x p, h .sessions .each j p)))) joined-sound))))
+      and-both sized-sound
+      (and-both head-sound
+      (and-both (all-every (λ k. keySound (s .head) (keyOf s k)) keyCount (λ k l. key-sound k))
+      (and-both (all-every (λ i. rowSound (rowAt s i)) rowCount (λ i l. row-sound i))
+      (and-both (all-every (λ j. sessionSound (s .head) (sessionAt s j)) sessionCount (λ j l. session-sound j)) joined-sound))))

@@ -47,14 +47,14 @@ mem-any v (x ∷ l) (List·Memᴰ·tail m) = rw (mem-any v l m) (or-true (same v
 
 -- A rule under its answer: b is the test of the answer, c that the rule is broken, n the rule's number
 
-kept-rule : (b c : Bool) (n : ℕ) → 0 < n → (if b && c then n else 0) ≡ 0 → b ≡ true → c ≡ false
-kept-rule true true n h e p = absurd (omega arith)
-kept-rule true false n h e p = refl
-kept-rule false c n h e p = clash false p refl
+rule-unbroken : (b c : Bool) (n : ℕ) → 0 < n → (if b && c then n else 0) ≡ 0 → b ≡ true → c ≡ false
+rule-unbroken true true n h e p = absurd (omega arith)
+rule-unbroken true false n h e p = refl
+rule-unbroken false c n h e p = clash false p refl
 
-rule-kept : (b c : Bool) (n : ℕ) → (b ≡ true → c ≡ false) → (if b && c then n else 0) ≡ 0
-rule-kept true c n f = rw (f refl)
-rule-kept false c n f = refl
+verdict-zero : (b c : Bool) (n : ℕ) → (b ≡ true → c ≡ false) → (if b && c then n else 0) ≡ 0
+verdict-zero true c n f = rw (f refl)
+verdict-zero false c n f = refl
 
 -- the word of FILL's, DONE's and UNDO's outcome is that of one answer
 Says : Answer → Outcome → Type 0
@@ -142,13 +142,13 @@ is-sealed s n h w = go (sessionOf s n) refl (Views.find-passes (numbered n) noSe
 rules-of : (w : World) (c : Command) (v : Value) (a : Answer) → brokenBy w c v a ≡ 0 → Rules w c v a
 rules-of w Begin v a e = tt
 rules-of w (Get n k) v a e = tt
-rules-of w (Fill t k) v a e = λ p. any-mem v (w .since t k) (not-false _ (kept-rule (eqb (wordOf a) STORED) (not (any (same v) (w .since t k))) 1 (omega arith) e (rw p)))
+rules-of w (Fill t k) v a e = λ p. any-mem v (w .since t k) (not-false _ (rule-unbroken (eqb (wordOf a) STORED) (not (any (same v) (w .since t k))) 1 (omega arith) e (rw p)))
 rules-of w (Quar n k d) v a e = tt
 rules-of w (Stage n i k) v a e = tt
 rules-of w (Delta n i k o) v a e = tt
 rules-of w (Validate n m) v a e = tt
-rules-of w (Done n) v a e = λ p. agreeing (w .register) n (w .state .rows) (kept-rule (eqb (wordOf a) DONE) (any (differs (w .register) n) (w .state .rows)) 4 (omega arith) e (rw p))
-rules-of w (Undo n) v a e = λ p. kept-rule (eqb (wordOf a) UNDONE) (w .wrote n) 3 (omega arith) e (rw p)
+rules-of w (Done n) v a e = λ p. agreeing (w .register) n (w .state .rows) (rule-unbroken (eqb (wordOf a) DONE) (any (differs (w .register) n) (w .state .rows)) 4 (omega arith) e (rw p))
+rules-of w (Undo n) v a e = λ p. rule-unbroken (eqb (wordOf a) UNDONE) (w .wrote n) 3 (omega arith) e (rw p)
 rules-of w (Evict k) v a e = tt
 rules-of w Tick v a e = tt
 
@@ -165,15 +165,15 @@ pub kept-unbroken : (w : World) (e : Event) → Orderly (w .state) → Kept w e 
 unfolding Says
 kept-unbroken w (command now Begin v) h rule = refl
 kept-unbroken w (command now (Get n k) v) h rule = refl
-kept-unbroken w (command now (Fill t k) v) h rule = rule-kept (eqb (wordOf (step (w .state) now (Fill t k) v .answer)) STORED) (not (any (same v) (w .since t k))) 1
+kept-unbroken w (command now (Fill t k) v) h rule = verdict-zero (eqb (wordOf (step (w .state) now (Fill t k) v .answer)) STORED) (not (any (same v) (w .since t k))) 1
     (λ p. rw (mem-any v (w .since t k) (rule (says-stored (w .state) now v t k p))))
 kept-unbroken w (command now (Quar n k d) v) h rule = refl
 kept-unbroken w (command now (Stage n i k) v) h rule = refl
 kept-unbroken w (command now (Delta n i k o) v) h rule = refl
 kept-unbroken w (command now (Validate n m) v) h rule = refl
-kept-unbroken w (command now (Done n) v) h rule = rule-kept (eqb (wordOf (step (w .state) now (Done n) v .answer)) DONE) (any (differs (w .register) n) (expire now (w .state) .rows)) 4
+kept-unbroken w (command now (Done n) v) h rule = verdict-zero (eqb (wordOf (step (w .state) now (Done n) v .answer)) DONE) (any (differs (w .register) n) (expire now (w .state) .rows)) 4
     (λ p. none-differs (w .register) n (expire now (w .state) .rows) (rule (says-done (w .state) now v n p)))
-kept-unbroken w (command now (Undo n) v) h rule = rule-kept (eqb (wordOf (step (w .state) now (Undo n) v .answer)) UNDONE) (w .wrote n) 3 (λ p. rule (says-undone (w .state) now v n p))
+kept-unbroken w (command now (Undo n) v) h rule = verdict-zero (eqb (wordOf (step (w .state) now (Undo n) v .answer)) UNDONE) (w .wrote n) 3 (λ p. rule (says-undone (w .state) now v n p))
 kept-unbroken w (command now (Evict k) v) h rule = refl
 kept-unbroken w (command now Tick v) h rule = refl
 kept-unbroken w (write n k v) h rule = rw (is-sealed (w .state) n h (rule .0), found-row (w .state) n k (rule .1))
