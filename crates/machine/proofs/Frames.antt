@@ -61,8 +61,8 @@ written-still rs ts wrote k f q =
     record { number = q .number; did = q .did; holds = record { place = x .place; kind = x .kind; what = r .0; is = r .1 } }
 
 -- so where none of them is freed
-still-written : (ns : List ℕ) (rs : List Row) (wrote : ℕ → Bool) (k : ℕ) → ((i n d : ℕ) (v : Staged) → getD rs i noRow ≡ row n k d v → wrote n ≡ true → mem n ns ≡ false) → Written rs wrote k → Written (map (freeIfOf ns) rs) wrote k
-still-written ns rs wrote k f = written-still rs (map (freeIfOf ns) rs) wrote k (λ i n d v e did. (v, OrderlyKept.still-row ns rs i n k d v e (f i n d v e did)))
+written-unfreed : (ns : List ℕ) (rs : List Row) (wrote : ℕ → Bool) (k : ℕ) → ((i n d : ℕ) (v : Staged) → getD rs i noRow ≡ row n k d v → wrote n ≡ true → mem n ns ≡ false) → Written rs wrote k → Written (map (freeIfOf ns) rs) wrote k
+written-unfreed ns rs wrote k f = written-still rs (map (freeIfOf ns) rs) wrote k (λ i n d v e did. (v, OrderlyKept.still-row ns rs i n k d v e (f i n d v e did)))
 
 -- the answer that stages grants no lease
 pub staged-quiet : (u : Staged) → eqb (wordOf (stagedAnswer u)) LEASE ≡ false
@@ -105,7 +105,7 @@ module _ (w : World) (g : Good w) where
   unfolding leave
   frame-ends a ns ks quiet fv fl = record {
     keeps = λ k v p q. fv k v p .0;
-    value = λ k v p. inr (fv k v p .0, still-written ns (w .state .rows) (w .wrote) k (fv k v p .1));
+    value = λ k v p. inr (fv k v p .0, written-unfreed ns (w .state .rows) (w .wrote) k (fv k v p .1));
     opens = λ i x p. inr (i, x, OrderlyKept.was-session ns (w .state .sessions) i x p .0, refl, λ q. q);
     grows = omega arith;
     unwritten = λ k l p u m. g .unwritten k l (fl k l p) u (rw quiet at m);
@@ -145,7 +145,7 @@ module _ (w : World) (g : Good w) where
       had k v h = h .is ∙ ap (row (h .number) k (h .kind)) (Views.to-cache (h .what) v (h .gives))
 
       value : (k : ℕ) (v : Value) → After k v → (v ≡ w .register k) ⊎ ((cached s k ≡ some v) × (Written (s .rows) (w .wrote) k → Written (map (freeIfOf (n ∷ [])) (s .rows)) (w .wrote) k))
-      value k v (inl h) = inr (h .0, still-written (n ∷ []) (s .rows) (w .wrote) k (λ i m d u r did. h .1 i m d u r))
+      value k v (inl h) = inr (h .0, written-unfreed (n ∷ []) (s .rows) (w .wrote) k (λ i m d u r did. h .1 i m d u r))
       value k v (inr h) = inl (rule (h .place) k (h .kind) v (had k v h ∙ ap (λ (x : ℕ). row x k (h .kind) (staged v)) (Views.mem-one (h .number) n (h .among))))
 
       keeps : (k : ℕ) (v : Value) → RowOn (map (freeIfOf (n ∷ [])) (s .rows)) k → After k v → cached s k ≡ some v
