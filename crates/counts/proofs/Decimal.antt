@@ -100,8 +100,8 @@ digit-at (b ∷ v) zero p h =
     (leb-true 48 b (q .0), leb-true b 57 (q .1))
 digit-at (b ∷ v) (suc i) p h = digit-at v i (and-eq-true-iff (digit b) (allDigits v) .0 p .1) (omega arith)
 
-pub byte-at : (v : List ℕ) (i : ℕ) → allDigits v ≡ true → getD v i 0 < 256
-byte-at v i p = by (ltb i (length v)) refl
+pub digits-byte : (v : List ℕ) (i : ℕ) → allDigits v ≡ true → getD v i 0 < 256
+digits-byte v i p = by (ltb i (length v)) refl
   where
     by : (t : Bool) → ltb i (length v) ≡ t → getD v i 0 < 256
     by true e = omega (arith, digit-at v i p (ltb-true i (length v) e) .1)
@@ -118,7 +118,7 @@ module _ (n : ℕ) where
   -- 1 to 20 bytes, each a digit
   pub decimal-least : 1 ≤ length (decimal n)
   unfolding decimalLength
-  decimal-least = omega (arith, decimal-width, width-least 19 n)
+  decimal-least = omega (arith, decimal-width, width-least (digitsMax - 1) n)
 
   pub decimal-most : length (decimal n) ≤ digitsMax
   unfolding decimalLength

@@ -5,10 +5,10 @@ use Prim.Native.Nat.{ℕ, _<_}
 use lib.Dec.{eqb}
 use lib.ListN.{length, getD, getD-replicate, List·getD-map}
 use Rattle.lent.specs.Tables.{if_then_else_}
-use Rattle.machine.specs.Decision.{decision}
+use Rattle.machine.specs.Decision.{heldCount, askedCount, decision}
 use Rattle.machine.specs.declared.Verdict.{Verdict}
 use Rattle.machine.specs.declared.Verdict.the-variants.{Grant, Void, BackOff, Abort}
-use Rattle.machine.proofs.Table.{getD-any}
+use Rattle.machine.proofs.Table.{at-map}
 
 abbrev pub numbers : List (List ℕ)
 numbers =
@@ -22,12 +22,11 @@ numbers =
 abbrev pub verdictOf : ℕ → Verdict
 verdictOf n = if eqb n 0 then Grant else if eqb n 1 then Void else if eqb n 2 then BackOff else Abort
 
-four : (held : ℕ) → held < 5 → length (getD numbers held []) ≡ 4
-four held h = sym (List·getD-map (λ (l : List ℕ). length l) numbers held []) ∙ getD-replicate 5 held 4 0 h
+row-long : (held : ℕ) → held < heldCount → length (getD numbers held []) ≡ askedCount
+row-long held h = sym (List·getD-map (λ (l : List ℕ). length l) numbers held []) ∙ getD-replicate heldCount held askedCount 0 h
 
-pub entry-decides : (held asked : ℕ) → held < 5 → asked < 4 → verdictOf (getD (getD numbers held []) asked 0) ≡ decision held asked
+pub entry-decides : (held asked : ℕ) → held < heldCount → asked < askedCount → verdictOf (getD (getD numbers held []) asked 0) ≡ decision held asked
 unfolding decision
 entry-decides held asked h a =
-    ap verdictOf (getD-any (getD numbers held []) asked 0 3 (rw (four held h) a))
-    ∙ sym (List·getD-map verdictOf (getD numbers held []) asked 3)
+    sym (at-map verdictOf (getD numbers held []) asked 0 Abort (rw (row-long held h) a))
     ∙ ap (λ (l : List Verdict). getD l asked Abort) (sym (List·getD-map (map verdictOf) numbers held []))

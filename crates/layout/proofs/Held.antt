@@ -15,6 +15,7 @@ use Rattle.lent.proofs.Splice.{getD-win, length-splice, splice-over, splice-sel
 use Rattle.lent.proofs.Tables.{each-at, each-set}
 use Rattle.lent.proofs.Choices.{zero-one}
 use Rattle.machine.specs.Sizes.{keyCount, sessionCount, rowCount, headSize, keysFrom, keyWidth, rowsFrom, rowWidth, sessionsFrom, sessionWidth, valueMax, valueAt, stagedAt}
+use Rattle.machine.specs.Sizes.{readLifeField, writeLifeField, nextSessionField, nextTokenField, keyLengthField, keyTokenField, keyUntilField, keyValueField, rowKeyField, rowKindField, rowStagedField, rowLengthField, rowValueField}
 use Rattle.machine.specs.Tables.{isNone}
 use Rattle.machine.specs.State.{Value, Head, Key, Slot, noSession, staged, Row, noRow, row, State, blank, keyOf, cached, leaseOn, sessionAt, rowAt, kindOf, stagedIn}
 use Rattle.machine.specs.Expiry.{withHead, withKeys, withSessions, withRows}
@@ -22,8 +23,8 @@ use Rattle.machine.specs.Sound.{tokenIn, numberIn}
 use Rattle.layout.specs.Layout.{encHead, decHead, encKey, encRow, encSession, sessionFrom}
 use Rattle.layout.specs.Fields.{valueLength, leaseUntil, rowSession, rowKey, stagedMark, stagedLength, sessionIn}
 use Rattle.layout.specs.Holds.{HeadFits, KeyFits, SlotFits, RowFits, Holds}
-use Rattle.layout.proofs.Records.{key-there, key-length, key-value, key-token, key-until, row-session, row-key, row-kind, row-mark, row-length, row-value, session-number, session-from}
-use Rattle.layout.proofs.Places.{head-at, heads, key-at, row-at, session-at, put-head, put-key, put-row, put-session}
+use Rattle.layout.proofs.Records.{key-there, key-length, key-value, key-token, key-until, row-session, row-key, row-kind-byte, row-mark, row-length, row-value, session-number-bytes, session-from}
+use Rattle.layout.proofs.Places.{head-at, head-decoded, key-at, row-at, session-at, put-head, put-key, put-row, put-session}
 
 -- ---- a field of a record that stands at a place
 
@@ -82,25 +83,25 @@ module _ {b : List ℕ} {s : State} (h : Holds b s) where
   head-held = rw (h .bytes) (head-at s (h .fits))
 
   pub head-is : decHead b ≡ s .head
-  head-is = ap decHead (h .bytes) ∙ heads s (h .fits)
+  head-is = ap decHead (h .bytes) ∙ head-decoded s (h .fits)
 
   pub clock-held : le64 b 0 ≡ s .head .clock
   unfolding decHead
   clock-held = ap (λ (x : Head). x .clock) head-is
 
-  pub read-held : le32 b 8 ≡ s .head .readLife
+  pub read-held : le32 b readLifeField ≡ s .head .readLife
   unfolding decHead
   read-held = ap (λ (x : Head). x .readLife) head-is
 
-  pub write-held : le32 b 12 ≡ s .head .writeLife
+  pub write-held : le32 b writeLifeField ≡ s .head .writeLife
   unfolding decHead
   write-held = ap (λ (x : Head). x .writeLife) head-is
 
-  pub session-next-held : le32 b 16 ≡ s .head .nextSession
+  pub session-next-held : le32 b nextSessionField ≡ s .head .nextSession
   unfolding decHead
   session-next-held = ap (λ (x : Head). x .nextSession) head-is
 
-  pub token-next-held : le32 b 20 ≡ s .head .nextToken
+  pub token-next-held : le32 b nextTokenField ≡ s .head .nextToken
   unfolding decHead
   token-next-held = ap (λ (x : Head). x .nextToken) head-is
 
@@ -127,19 +128,19 @@ module _ {b : List ℕ} {s : State} (h : Holds b s) where
     pub value-there : eqb (getD b (keysFrom + k * keyWidth) 0) 1 ≡ not (isNone (cached s k))
     value-there = rw (byte-first b (keysFrom + k * keyWidth) keyWidth (encKey (keyOf s k)) key-held (omega arith)) (key-there (keyOf s k))
 
-    pub value-long : getD b (keysFrom + k * keyWidth + 1) 0 ≡ valueLength (cached s k)
-    value-long = byte-at b (keysFrom + k * keyWidth) keyWidth (encKey (keyOf s k)) key-held 1 (omega arith) ∙ key-length (keyOf s k)
+    pub value-long : getD b (keysFrom + k * keyWidth + keyLengthField) 0 ≡ valueLength (cached s k)
+    value-long = byte-at b (keysFrom + k * keyWidth) keyWidth (encKey (keyOf s k)) key-held keyLengthField (omega arith) ∙ key-length (keyOf s k)
 
     pub value-stands : (v : Value) → cached s k ≡ some v → win b (valueAt k) (length v) ≡ v
     value-stands v e =
         let f : length v ≤ valueMax = rw e at (key-fits .value) in
-        win-at b (keysFrom + k * keyWidth) keyWidth (encKey (keyOf s k)) key-held 16 (length v) (omega arith) ∙ key-value (keyOf s k) v e
+        win-at b (keysFrom + k * keyWidth) keyWidth (encKey (keyOf s k)) key-held keyValueField (length v) (omega arith) ∙ key-value (keyOf s k) v e
 
-    pub token-held : le32 b (keysFrom + k * keyWidth + 4) ≡ tokenIn (leaseOn s k)
-    token-held = le32-at b (keysFrom + k * keyWidth) keyWidth (encKey (keyOf s k)) key-held 4 (omega arith) ∙ key-token (keyOf s k) key-fits
+    pub token-held : le32 b (keysFrom + k * keyWidth + keyTokenField) ≡ tokenIn (leaseOn s k)
+    token-held = le32-at b (keysFrom + k * keyWidth) keyWidth (encKey (keyOf s k)) key-held keyTokenField (omega arith) ∙ key-token (keyOf s k) key-fits
 
-    pub until-held : le64 b (keysFrom + k * keyWidth + 8) ≡ leaseUntil (leaseOn s k)
-    until-held = le64-at b (keysFrom + k * keyWidth) keyWidth (encKey (keyOf s k)) key-held 8 (omega arith) ∙ key-until (keyOf s k) key-fits
+    pub until-held : le64 b (keysFrom + k * keyWidth + keyUntilField) ≡ leaseUntil (leaseOn s k)
+    until-held = le64-at b (keysFrom + k * keyWidth) keyWidth (encKey (keyOf s k)) key-held keyUntilField (omega arith) ∙ key-until (keyOf s k) key-fits
 
   -- a row
   module _ (i : ℕ) (l : i < rowCount) where
@@ -158,22 +159,22 @@ module _ {b : List ℕ} {s : State} (h : Holds b s) where
     pub owner-held : le32 b (rowsFrom + i * rowWidth) ≡ rowSession (rowAt s i)
     owner-held = le32-first b (rowsFrom + i * rowWidth) rowWidth (encRow (rowAt s i)) row-held (omega arith) ∙ row-session (rowAt s i) row-fits
 
-    pub target-held : getD b (rowsFrom + i * rowWidth + 4) 0 ≡ rowKey (rowAt s i)
-    target-held = byte-at b (rowsFrom + i * rowWidth) rowWidth (encRow (rowAt s i)) row-held 4 (omega arith) ∙ row-key (rowAt s i)
+    pub target-held : getD b (rowsFrom + i * rowWidth + rowKeyField) 0 ≡ rowKey (rowAt s i)
+    target-held = byte-at b (rowsFrom + i * rowWidth) rowWidth (encRow (rowAt s i)) row-held rowKeyField (omega arith) ∙ row-key (rowAt s i)
 
-    pub kind-held : getD b (rowsFrom + i * rowWidth + 5) 0 ≡ kindOf (rowAt s i)
-    kind-held = byte-at b (rowsFrom + i * rowWidth) rowWidth (encRow (rowAt s i)) row-held 5 (omega arith) ∙ row-kind (rowAt s i)
+    pub kind-held : getD b (rowsFrom + i * rowWidth + rowKindField) 0 ≡ kindOf (rowAt s i)
+    kind-held = byte-at b (rowsFrom + i * rowWidth) rowWidth (encRow (rowAt s i)) row-held rowKindField (omega arith) ∙ row-kind-byte (rowAt s i)
 
-    pub mark-held : getD b (rowsFrom + i * rowWidth + 6) 0 ≡ stagedMark (stagedIn (rowAt s i))
-    mark-held = byte-at b (rowsFrom + i * rowWidth) rowWidth (encRow (rowAt s i)) row-held 6 (omega arith) ∙ row-mark (rowAt s i)
+    pub mark-held : getD b (rowsFrom + i * rowWidth + rowStagedField) 0 ≡ stagedMark (stagedIn (rowAt s i))
+    mark-held = byte-at b (rowsFrom + i * rowWidth) rowWidth (encRow (rowAt s i)) row-held rowStagedField (omega arith) ∙ row-mark (rowAt s i)
 
-    pub staged-long : getD b (rowsFrom + i * rowWidth + 7) 0 ≡ stagedLength (stagedIn (rowAt s i))
-    staged-long = byte-at b (rowsFrom + i * rowWidth) rowWidth (encRow (rowAt s i)) row-held 7 (omega arith) ∙ row-length (rowAt s i)
+    pub staged-long : getD b (rowsFrom + i * rowWidth + rowLengthField) 0 ≡ stagedLength (stagedIn (rowAt s i))
+    staged-long = byte-at b (rowsFrom + i * rowWidth) rowWidth (encRow (rowAt s i)) row-held rowLengthField (omega arith) ∙ row-length (rowAt s i)
 
     pub staged-stands : (v : Value) → stagedIn (rowAt s i) ≡ staged v → win b (stagedAt i) (length v) ≡ v
     staged-stands v e =
         let f : length v ≤ valueMax = staged-short (rowAt s i) v row-fits e in
-        win-at b (rowsFrom + i * rowWidth) rowWidth (encRow (rowAt s i)) row-held 8 (length v) (omega arith) ∙ row-value (rowAt s i) v e
+        win-at b (rowsFrom + i * rowWidth) rowWidth (encRow (rowAt s i)) row-held rowValueField (length v) (omega arith) ∙ row-value (rowAt s i) v e
 
   -- a session
   module _ (i : ℕ) (l : i < sessionCount) where
@@ -190,7 +191,7 @@ module _ {b : List ℕ} {s : State} (h : Holds b s) where
     }
 
     pub number-held : le32 b (sessionsFrom + i * sessionWidth) ≡ numberIn (sessionAt s i)
-    number-held = le32-first b (sessionsFrom + i * sessionWidth) sessionWidth (encSession (sessionAt s i)) session-held (omega arith) ∙ session-number (sessionAt s i) session-fits
+    number-held = le32-first b (sessionsFrom + i * sessionWidth) sessionWidth (encSession (sessionAt s i)) session-held (omega arith) ∙ session-number-bytes (sessionAt s i) session-fits
 
     pub session-is : sessionFrom (win b (sessionsFrom + i * sessionWidth) sessionWidth) ≡ sessionIn (sessionAt s i)
     session-is = ap sessionFrom session-held ∙ session-from (sessionAt s i) session-fits

@@ -11,7 +11,7 @@ use lib.ListN.{length, set, length-replicate}
 use Rattle.lent.specs.Bytes.{bytes32, bytes64, splice, win, zeros}
 use Rattle.lent.proofs.Choices.{clash}
 use Rattle.lent.proofs.Splice.{length-splice, length-win, splice-append, splice-front, splice-next, splice-whole}
-use Rattle.machine.specs.Sizes.{keyCount, rowCount, headSize, keysFrom, keyWidth, rowsFrom, rowWidth, valueMax}
+use Rattle.machine.specs.Sizes.{keyCount, rowCount, headSize, keysFrom, keyWidth, rowsFrom, rowWidth, valueMax, nextSessionField, nextTokenField, keyTokenField, keyValueField, leaseWidth, rowStagedField, valueAt}
 use Rattle.machine.specs.State.{Value, Head, Lease, Key, Staged, staged, Row, noRow, row, State, keyOf, rowAt, freeRow}
 use Rattle.machine.specs.Expiry.{withHead, withKeys, withRows, withClock, withNumbers, setValue, setLease}
 use Rattle.machine.specs.Effects.{restaged}
@@ -70,53 +70,50 @@ module _ (k : Key) (f : KeyFits k) where
       splice-front (valueMark (k .value)) (leaseBytes (k .lease) ++ valueBytes (k .value)) (valueTag o ∷ valueLength o ∷ []) 0 (rw (length-mark (k .value)) (omega arith))
       ∙ rw (mark-put (k .value) o)
 
-  key-valued : (o : Option Value) → ValueFits o → splice (splice (encKey k) 0 (valueTag o ∷ valueLength o ∷ [])) 16 (valueBytes o) ≡ encKey (record { value = o; lease = k .lease })
+  key-valued : (o : Option Value) → ValueFits o → splice (splice (encKey k) 0 (valueTag o ∷ valueLength o ∷ [])) keyValueField (valueBytes o) ≡ encKey (record { value = o; lease = k .lease })
   unfolding encKey
   key-valued o g =
       rw (key-marked o)
-      (splice-append (valueMark o) (leaseBytes (k .lease) ++ valueBytes (k .value)) (valueBytes o) 4 12 (length-mark o)
-      ∙ rw (splice-append (leaseBytes (k .lease)) (valueBytes (k .value)) (valueBytes o) 12 0 (length-lease (k .lease)))
+      (splice-append (valueMark o) (leaseBytes (k .lease) ++ valueBytes (k .value)) (valueBytes o) keyTokenField leaseWidth (length-mark o)
+      ∙ rw (splice-append (leaseBytes (k .lease)) (valueBytes (k .value)) (valueBytes o) leaseWidth 0 (length-lease (k .lease)))
       (rw (splice-whole (valueBytes (k .value)) (valueBytes o) (length-value (k .value) (f .value) ∙ sym (length-value o g)))))
 
-  key-leased : (o : Option Lease) → splice (encKey k) 4 (leaseBytes o) ≡ encKey (record { value = k .value; lease = o })
+  key-leased : (o : Option Lease) → splice (encKey k) keyTokenField (leaseBytes o) ≡ encKey (record { value = k .value; lease = o })
   unfolding encKey
   key-leased o =
-      splice-append (valueMark (k .value)) (leaseBytes (k .lease) ++ valueBytes (k .value)) (leaseBytes o) 4 0 (length-mark (k .value))
+      splice-append (valueMark (k .value)) (leaseBytes (k .lease) ++ valueBytes (k .value)) (leaseBytes o) keyTokenField 0 (length-mark (k .value))
       ∙ rw (splice-over-front (leaseBytes (k .lease)) (leaseBytes o) (valueBytes (k .value)) (length-lease (k .lease) ∙ sym (length-lease o)))
 
 module _ {b : List ℕ} {s : State} (h : Holds b s) (k : ℕ) (l : k < keyCount) where
-  abbrev keyFrom : ℕ
-  keyFrom = keysFrom + k * keyWidth
-
-  pub value-put : (o : Option Value) → ValueFits o → Holds (splice (splice b (keysFrom + k * keyWidth) (valueTag o ∷ valueLength o ∷ [])) (keysFrom + k * keyWidth + 16) (valueBytes o)) (withKeys s (setValue (s .keys) k o))
+  pub value-put : (o : Option Value) → ValueFits o → Holds (splice (splice b (keysFrom + k * keyWidth) (valueTag o ∷ valueLength o ∷ [])) (valueAt k) (valueBytes o)) (withKeys s (setValue (s .keys) k o))
   value-put o g =
-      let n : 16 + length (valueBytes o) ≤ keyWidth = rw (length-value o g) (omega arith) in
-      rw (parts-put b keyFrom keyWidth (encKey (keyOf s k)) (key-held h k l) (omega (arith, holds-size h)) (valueTag o ∷ valueLength o ∷ []) 16 (valueBytes o) (encKey (record { value = o; lease = keyOf s k .lease })) (omega arith) n (key-valued (keyOf s k) (key-fits h k l) o g))
+      let n : keyValueField + length (valueBytes o) ≤ keyWidth = rw (length-value o g) (omega arith) in
+      rw (parts-put b (keysFrom + k * keyWidth) keyWidth (encKey (keyOf s k)) (key-held h k l) (omega (arith, holds-size h)) (valueTag o ∷ valueLength o ∷ []) keyValueField (valueBytes o) (encKey (record { value = o; lease = keyOf s k .lease })) (omega arith) n (key-valued (keyOf s k) (key-fits h k l) o g))
       (store-key h k l (record { value = o; lease = keyOf s k .lease }) (record { value = g; lease = key-fits h k l .lease }))
 
-  pub lease-put : (o : Option Lease) → LeaseFits o → Holds (splice b (keysFrom + k * keyWidth + 4) (leaseBytes o)) (withKeys s (setLease (s .keys) k o))
+  pub lease-put : (o : Option Lease) → LeaseFits o → Holds (splice b (keysFrom + k * keyWidth + keyTokenField) (leaseBytes o)) (withKeys s (setLease (s .keys) k o))
   lease-put o g =
-      let n : 4 + length (leaseBytes o) ≤ keyWidth = rw (length-lease o) (omega arith) in
-      rw (part-put b keyFrom keyWidth (encKey (keyOf s k)) (key-held h k l) (omega (arith, holds-size h)) 4 (leaseBytes o) (encKey (record { value = keyOf s k .value; lease = o })) n (key-leased (keyOf s k) (key-fits h k l) o))
+      let n : keyTokenField + length (leaseBytes o) ≤ keyWidth = rw (length-lease o) (omega arith) in
+      rw (part-put b (keysFrom + k * keyWidth) keyWidth (encKey (keyOf s k)) (key-held h k l) (omega (arith, holds-size h)) keyTokenField (leaseBytes o) (encKey (record { value = keyOf s k .value; lease = o })) n (key-leased (keyOf s k) (key-fits h k l) o))
       (store-key h k l (record { value = keyOf s k .value; lease = o }) (record { value = key-fits h k l .value; lease = g }))
 
 -- ---- a row
 
-row-restaged : (n k d : ℕ) (u w : Staged) → StagedFits u → StagedFits w → splice (encRow (row n k d u)) 6 (stagedBytes w) ≡ encRow (row n k d w)
+row-restaged : (n k d : ℕ) (u w : Staged) → StagedFits u → StagedFits w → splice (encRow (row n k d u)) rowStagedField (stagedBytes w) ≡ encRow (row n k d w)
 unfolding encRow
 row-restaged n k d u w f g =
-    splice-append (bytes32 n ++ (k ∷ d ∷ [])) (stagedBytes u) (stagedBytes w) 6 0 refl
+    splice-append (bytes32 n ++ (k ∷ d ∷ [])) (stagedBytes u) (stagedBytes w) rowStagedField 0 refl
     ∙ rw (splice-whole (stagedBytes u) (stagedBytes w) (length-staged u f ∙ sym (length-staged w g)))
 
 module _ {b : List ℕ} {s : State} (h : Holds b s) (i : ℕ) (l : i < rowCount) where
-  pub staged-put : (u : Staged) → StagedFits u → freeRow (rowAt s i) ≡ false → Holds (splice b (rowsFrom + i * rowWidth + 6) (stagedBytes u)) (withRows s (set (s .rows) i (restaged u (rowAt s i))))
+  pub staged-put : (u : Staged) → StagedFits u → freeRow (rowAt s i) ≡ false → Holds (splice b (rowsFrom + i * rowWidth + rowStagedField) (stagedBytes u)) (withRows s (set (s .rows) i (restaged u (rowAt s i))))
   staged-put u g e =
-      let n : 6 + length (stagedBytes u) ≤ rowWidth = rw (length-staged u g) (omega arith) in
+      let n : rowStagedField + length (stagedBytes u) ≤ rowWidth = rw (length-staged u g) (omega arith) in
       let r = go (rowAt s i) (row-fits h i l) e in
-      rw (part-put b (rowsFrom + i * rowWidth) rowWidth (encRow (rowAt s i)) (row-held h i l) (omega (arith, holds-size h)) 6 (stagedBytes u) (encRow (restaged u (rowAt s i))) n (r .0))
+      rw (part-put b (rowsFrom + i * rowWidth) rowWidth (encRow (rowAt s i)) (row-held h i l) (omega (arith, holds-size h)) rowStagedField (stagedBytes u) (encRow (restaged u (rowAt s i))) n (r .0))
       (store-row h i l (restaged u (rowAt s i)) (r .1))
     where
-      go : (r : Row) → RowFits r → freeRow r ≡ false → (splice (encRow r) 6 (stagedBytes u) ≡ encRow (restaged u r)) × RowFits (restaged u r)
+      go : (r : Row) → RowFits r → freeRow r ≡ false → (splice (encRow r) rowStagedField (stagedBytes u) ≡ encRow (restaged u r)) × RowFits (restaged u r)
       go noRow f p = clash true refl p
       go (row n k d v) f p = (row-restaged n k d v u (f .staged) g, record { given = f .given; session = f .session; staged = g })
 
@@ -125,19 +122,19 @@ module _ {b : List ℕ} {s : State} (h : Holds b s) (i : ℕ) (l : i < rowCount)
 abbrev clocked : Head → ℕ → Head
 clocked x t = record { clock = t; readLife = x .readLife; writeLife = x .writeLife; nextSession = x .nextSession; nextToken = x .nextToken }
 
-abbrev numbered : Head → ℕ → ℕ → Head
-numbered x n t = record { clock = x .clock; readLife = x .readLife; writeLife = x .writeLife; nextSession = n; nextToken = t }
+abbrev renumbered : Head → ℕ → ℕ → Head
+renumbered x n t = record { clock = x .clock; readLife = x .readLife; writeLife = x .writeLife; nextSession = n; nextToken = t }
 
 module _ (x : Head) where
   head-clocked : (t : ℕ) → splice (encHead x) 0 (bytes64 t) ≡ encHead (clocked x t)
   unfolding encHead splice
   head-clocked t = refl
 
-  head-numbered : (n : ℕ) → splice (encHead x) 16 (bytes32 n) ≡ encHead (numbered x n (x .nextToken))
+  head-numbered : (n : ℕ) → splice (encHead x) nextSessionField (bytes32 n) ≡ encHead (renumbered x n (x .nextToken))
   unfolding encHead splice
   head-numbered n = refl
 
-  head-tokened : (t : ℕ) → splice (encHead x) 20 (bytes32 t) ≡ encHead (numbered x (x .nextSession) t)
+  head-tokened : (t : ℕ) → splice (encHead x) nextTokenField (bytes32 t) ≡ encHead (renumbered x (x .nextSession) t)
   unfolding encHead splice
   head-tokened t = refl
 
@@ -155,10 +152,10 @@ module _ {b : List ℕ} {s : State} (h : Holds b s) where
   clock-put t g = let f = h .fits .head in
       head-put 0 (bytes64 t) (clocked x t) (omega arith) (head-clocked x t) (record { clock = g; readLife = f .readLife; writeLife = f .writeLife; nextSession = f .nextSession; nextToken = f .nextToken })
 
-  pub session-next : (n : ℕ) → n < 2 ^ 32 → Holds (splice b 16 (bytes32 n)) (withNumbers s n (x .nextToken))
-  session-next n g = let f = h .fits .head in
-      head-put 16 (bytes32 n) (numbered x n (x .nextToken)) (omega arith) (head-numbered x n) (record { clock = f .clock; readLife = f .readLife; writeLife = f .writeLife; nextSession = g; nextToken = f .nextToken })
+  pub session-next-put : (n : ℕ) → n < 2 ^ 32 → Holds (splice b nextSessionField (bytes32 n)) (withNumbers s n (x .nextToken))
+  session-next-put n g = let f = h .fits .head in
+      head-put nextSessionField (bytes32 n) (renumbered x n (x .nextToken)) (omega arith) (head-numbered x n) (record { clock = f .clock; readLife = f .readLife; writeLife = f .writeLife; nextSession = g; nextToken = f .nextToken })
 
-  pub token-next : (t : ℕ) → t < 2 ^ 32 → Holds (splice b 20 (bytes32 t)) (withNumbers s (x .nextSession) t)
-  token-next t g = let f = h .fits .head in
-      head-put 20 (bytes32 t) (numbered x (x .nextSession) t) (omega arith) (head-tokened x t) (record { clock = f .clock; readLife = f .readLife; writeLife = f .writeLife; nextSession = f .nextSession; nextToken = g })
+  pub token-next-put : (t : ℕ) → t < 2 ^ 32 → Holds (splice b nextTokenField (bytes32 t)) (withNumbers s (x .nextSession) t)
+  token-next-put t g = let f = h .fits .head in
+      head-put nextTokenField (bytes32 t) (renumbered x (x .nextSession) t) (omega arith) (head-tokened x t) (record { clock = f .clock; readLife = f .readLife; writeLife = f .writeLife; nextSession = f .nextSession; nextToken = g })

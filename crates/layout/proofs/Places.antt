@@ -11,7 +11,7 @@ use Rattle.lent.specs.Tables.{readTab, tabOf}
 use Rattle.lent.proofs.Numbers.{le32-win, le64-win}
 use Rattle.lent.proofs.Splice.{splice-front, splice-whole, win-front, win-whole}
 use Rattle.lent.proofs.Tables.{each-map, put-tab-at, read-tab, win-tab-at}
-use Rattle.machine.specs.Sizes.{keyCount, sessionCount, rowCount, headSize, keysFrom, keyWidth, rowsFrom, rowWidth, sessionsFrom, sessionWidth, restSize}
+use Rattle.machine.specs.Sizes.{keyCount, sessionCount, rowCount, headSize, keysFrom, keyWidth, rowsFrom, rowWidth, sessionsFrom, sessionWidth, restSize, readLifeField, writeLifeField, nextSessionField, nextTokenField}
 use Rattle.machine.specs.State.{Head, Key, Slot, noSession, Row, noRow, State, blank, keyOf, sessionAt, rowAt}
 use Rattle.machine.specs.Expiry.{withHead, withKeys, withSessions, withRows}
 use Rattle.layout.specs.Layout.{encHead, decHead, encKey, decKey, encRow, decRow, encSession, decSession, encode, decode}
@@ -22,7 +22,7 @@ use Rattle.layout.proofs.Records.{head-read, key-read, row-read, sessio
 -- the header is read from its own bytes
 pub head-win : (b : List ℕ) → decHead (win b 0 headSize) ≡ decHead b
 unfolding decHead
-head-win b = rw (le64-win b 0 headSize 0 (omega arith), le32-win b 0 headSize 8 (omega arith), le32-win b 0 headSize 12 (omega arith), le32-win b 0 headSize 16 (omega arith), le32-win b 0 headSize 20 (omega arith))
+head-win b = rw (le64-win b 0 headSize 0 (omega arith), le32-win b 0 headSize readLifeField (omega arith), le32-win b 0 headSize writeLifeField (omega arith), le32-win b 0 headSize nextSessionField (omega arith), le32-win b 0 headSize nextTokenField (omega arith))
 
 -- ---- a table, what comes before it and what comes behind it
 
@@ -96,24 +96,24 @@ module _ (s : State) (f : Fits s) where
 
   -- ---- reading all
 
-  pub heads : decHead (encode s) ≡ s .head
-  heads = sym (head-win (encode s)) ∙ ap decHead head-at ∙ head-read (s .head) (f .head)
+  pub head-decoded : decHead (encode s) ≡ s .head
+  head-decoded = sym (head-win (encode s)) ∙ ap decHead head-at ∙ head-read (s .head) (f .head)
 
-  keys : readTab decKey keyWidth keyCount (drop keysFrom (encode s)) ≡ s .keys
-  keys =
+  keys-decoded : readTab decKey keyWidth keyCount (drop keysFrom (encode s)) ≡ s .keys
+  keys-decoded =
       rw (keys-in s, drop-at (encHead (s .head)) (tabOf encKey (s .keys) ++ behindKeys s) keysFrom (length-head (s .head)))
       (read-tab encKey decKey keyWidth (s .keys) (behindKeys s) keyCount (f .keys) (keys-wide s f) (each-map KeyFits (λ x. decKey (encKey x) ≡ x) (s .keys) key-read (f .eachKey)))
 
-  rows : readTab decRow rowWidth rowCount (drop rowsFrom (encode s)) ≡ s .rows
-  rows =
+  rows-decoded : readTab decRow rowWidth rowCount (drop rowsFrom (encode s)) ≡ s .rows
+  rows-decoded =
       rw (rows-in s, drop-at (beforeRows s) (tabOf encRow (s .rows) ++ behindRows s) rowsFrom rows-from)
       (read-tab encRow decRow rowWidth (s .rows) (behindRows s) rowCount (f .rows) (rows-wide s f) (each-map RowFits (λ x. decRow (encRow x) ≡ x) (s .rows) row-read (f .eachRow)))
 
-  sessions : readTab decSession sessionWidth sessionCount (drop sessionsFrom (encode s)) ≡ s .sessions
-  sessions =
+  sessions-decoded : readTab decSession sessionWidth sessionCount (drop sessionsFrom (encode s)) ≡ s .sessions
+  sessions-decoded =
       rw (sessions-in s, drop-at (beforeSessions s) (tabOf encSession (s .sessions) ++ behindSessions) sessionsFrom sessions-from)
       (read-tab encSession decSession sessionWidth (s .sessions) behindSessions sessionCount (f .sessions) (sessions-wide s f) (each-map SlotFits (λ x. decSession (encSession x) ≡ x) (s .sessions) session-read (f .eachSession)))
 
   pub decode-encode : decode (encode s) ≡ s
   unfolding decode
-  decode-encode = rw (heads, keys, rows, sessions)
+  decode-encode = rw (head-decoded, keys-decoded, rows-decoded, sessions-decoded)

@@ -15,6 +15,7 @@ use Rattle.lent.specs.Tables.{if_then_else_}
 use Rattle.lent.proofs.Numbers.{le16-bytes, le32-bytes, le64-bytes}
 use Rattle.lent.proofs.Choices.{zero-one}
 use Rattle.machine.specs.Tables.{isNone}
+use Rattle.machine.specs.Sizes.{keyLengthField, keyTokenField, keyUntilField, keyValueField, rowKeyField, rowKindField, rowStagedField, rowLengthField, rowValueField}
 use Rattle.machine.specs.State.{Value, Head, Lease, Key, Slot, noSession, session, Staged, nothing, staged, DROP, Row, noRow, row, kindOf, stagedIn}
 use Rattle.machine.specs.Sound.{tokenIn, numberIn}
 use Rattle.machine.specs.declared.Life.{Life}
@@ -51,26 +52,26 @@ head-read h f =
 abbrev keyBytes : Option Value → Option Lease → List ℕ
 keyBytes o l = valueMark o ++ (leaseBytes l ++ valueBytes o)
 
-value-there : (o : Option Value) (l : Option Lease) → eqb (getD (keyBytes o l) 0 0) 1 ≡ not (isNone o)
-value-there none l = refl
-value-there (some v) l = refl
+value-mark-byte : (o : Option Value) (l : Option Lease) → eqb (getD (keyBytes o l) 0 0) 1 ≡ not (isNone o)
+value-mark-byte none l = refl
+value-mark-byte (some v) l = refl
 
-value-long : (o : Option Value) (l : Option Lease) → getD (keyBytes o l) 1 0 ≡ valueLength o
-value-long none l = refl
-value-long (some v) l = refl
+value-length-byte : (o : Option Value) (l : Option Lease) → getD (keyBytes o l) keyLengthField 0 ≡ valueLength o
+value-length-byte none l = refl
+value-length-byte (some v) l = refl
 
-value-bytes : (v : Value) (l : Option Lease) → win (keyBytes (some v) l) 16 (length v) ≡ v
+value-bytes : (v : Value) (l : Option Lease) → win (keyBytes (some v) l) keyValueField (length v) ≡ v
 unfolding win
 value-bytes v none = take-at v _ (length v) refl
 value-bytes v (some l) = take-at v _ (length v) refl
 
-lease-token : (o : Option Value) (l : Option Lease) → LeaseFits l → le32 (keyBytes o l) 4 ≡ tokenIn l
+lease-token : (o : Option Value) (l : Option Lease) → LeaseFits l → le32 (keyBytes o l) keyTokenField ≡ tokenIn l
 lease-token none none f = refl
 lease-token none (some l) f = le32-bytes (l .token) (f .token)
 lease-token (some v) none f = refl
 lease-token (some v) (some l) f = le32-bytes (l .token) (f .token)
 
-lease-until : (o : Option Value) (l : Option Lease) → LeaseFits l → le64 (keyBytes o l) 8 ≡ leaseUntil l
+lease-until : (o : Option Value) (l : Option Lease) → LeaseFits l → le64 (keyBytes o l) keyUntilField ≡ leaseUntil l
 lease-until none none f = refl
 lease-until none (some l) f = le64-bytes (l .until) (f .until)
 lease-until (some v) none f = refl
@@ -90,21 +91,21 @@ lease-read o l f = rw (lease-token o l f, lease-until o l f) (go l f)
 module _ (k : Key) where
   pub key-there : eqb (getD (encKey k) 0 0) 1 ≡ not (isNone (k .value))
   unfolding encKey
-  key-there = value-there (k .value) (k .lease)
+  key-there = value-mark-byte (k .value) (k .lease)
 
-  pub key-length : getD (encKey k) 1 0 ≡ valueLength (k .value)
+  pub key-length : getD (encKey k) keyLengthField 0 ≡ valueLength (k .value)
   unfolding encKey
-  key-length = value-long (k .value) (k .lease)
+  key-length = value-length-byte (k .value) (k .lease)
 
-  pub key-value : (v : Value) → k .value ≡ some v → win (encKey k) 16 (length v) ≡ v
+  pub key-value : (v : Value) → k .value ≡ some v → win (encKey k) keyValueField (length v) ≡ v
   unfolding encKey
   key-value v e = rw e (value-bytes v (k .lease))
 
-  pub key-token : KeyFits k → le32 (encKey k) 4 ≡ tokenIn (k .lease)
+  pub key-token : KeyFits k → le32 (encKey k) keyTokenField ≡ tokenIn (k .lease)
   unfolding encKey
   key-token f = lease-token (k .value) (k .lease) (f .lease)
 
-  pub key-until : KeyFits k → le64 (encKey k) 8 ≡ leaseUntil (k .lease)
+  pub key-until : KeyFits k → le64 (encKey k) keyUntilField ≡ leaseUntil (k .lease)
   unfolding encKey
   key-until f = lease-until (k .value) (k .lease) (f .lease)
 
@@ -119,35 +120,35 @@ unfolding encRow
 row-session noRow f = refl
 row-session (row n k d u) f = le32-bytes n (f .session)
 
-pub row-key : (r : Row) → getD (encRow r) 4 0 ≡ rowKey r
+pub row-key : (r : Row) → getD (encRow r) rowKeyField 0 ≡ rowKey r
 unfolding encRow
 row-key noRow = refl
 row-key (row n k d u) = refl
 
-pub row-kind : (r : Row) → getD (encRow r) 5 0 ≡ kindOf r
+pub row-kind-byte : (r : Row) → getD (encRow r) rowKindField 0 ≡ kindOf r
 unfolding encRow
-row-kind noRow = refl
-row-kind (row n k d u) = refl
+row-kind-byte noRow = refl
+row-kind-byte (row n k d u) = refl
 
-pub row-mark : (r : Row) → getD (encRow r) 6 0 ≡ stagedMark (stagedIn r)
+pub row-mark : (r : Row) → getD (encRow r) rowStagedField 0 ≡ stagedMark (stagedIn r)
 unfolding encRow
 row-mark noRow = refl
 row-mark (row n k d nothing) = refl
 row-mark (row n k d (staged v)) = refl
 row-mark (row n k d DROP) = refl
 
-pub row-length : (r : Row) → getD (encRow r) 7 0 ≡ stagedLength (stagedIn r)
+pub row-length : (r : Row) → getD (encRow r) rowLengthField 0 ≡ stagedLength (stagedIn r)
 unfolding encRow
 row-length noRow = refl
 row-length (row n k d nothing) = refl
 row-length (row n k d (staged v)) = refl
 row-length (row n k d DROP) = refl
 
-staged-bytes : (n k d : ℕ) (v : Value) → win (encRow (row n k d (staged v))) 8 (length v) ≡ v
+staged-bytes : (n k d : ℕ) (v : Value) → win (encRow (row n k d (staged v))) rowValueField (length v) ≡ v
 unfolding encRow win
 staged-bytes n k d v = take-at v _ (length v) refl
 
-pub row-value : (r : Row) (v : Value) → stagedIn r ≡ staged v → win (encRow r) 8 (length v) ≡ v
+pub row-value : (r : Row) (v : Value) → stagedIn r ≡ staged v → win (encRow r) rowValueField (length v) ≡ v
 row-value noRow v e = zero-one cc
 row-value (row n k d u) v e = rw e (staged-bytes n k d v)
 
@@ -161,14 +162,14 @@ pub row-read : (r : Row) → RowFits r → decRow (encRow r) ≡ r
 unfolding decRow encRow
 row-read noRow f = refl
 row-read (row n k d u) f =
-    rw (row-session (row n k d u) f, given-not-zero n (f .given), row-key (row n k d u), row-kind (row n k d u), staged-read n k d u)
+    rw (row-session (row n k d u) f, given-not-zero n (f .given), row-key (row n k d u), row-kind-byte (row n k d u), staged-read n k d u)
 
 -- ---- a session
 
-pub session-number : (e : Slot) → SlotFits e → le32 (encSession e) 0 ≡ numberIn e
+pub session-number-bytes : (e : Slot) → SlotFits e → le32 (encSession e) 0 ≡ numberIn e
 unfolding encSession
-session-number noSession f = refl
-session-number (session x) f = le32-bytes (x .number) (f .number)
+session-number-bytes noSession f = refl
+session-number-bytes (session x) f = le32-bytes (x .number) (f .number)
 
 life-read : (n c : ℕ) (l : Life) → lifeTime l < 2 ^ 64 → decLife (encSession (session (record { number = n; life = l; count = c }))) ≡ l
 unfolding encSession
@@ -180,11 +181,11 @@ pub session-from : (e : Slot) → SlotFits e → sessionFrom (encSession e) ≡ 
 unfolding encSession
 session-from noSession f = refl
 session-from (session x) f =
-    rw (session-number (session x) f, life-read (x .number) (x .count) (x .life) (f .until), le16-bytes (x .count) (f .count))
+    rw (session-number-bytes (session x) f, life-read (x .number) (x .count) (x .life) (f .until), le16-bytes (x .count) (f .count))
 
 pub session-read : (e : Slot) → SlotFits e → decSession (encSession e) ≡ e
 unfolding decSession encSession
 session-read noSession f = refl
 session-read (session x) f =
-    let e : eqb (le32 (encSession (session x)) 0) 0 ≡ false = rw (session-number (session x) f) (given-not-zero (x .number) (f .given)) in
+    let e : eqb (le32 (encSession (session x)) 0) 0 ≡ false = rw (session-number-bytes (session x) f) (given-not-zero (x .number) (f .given)) in
     rw e (ap session (session-from (session x) f))

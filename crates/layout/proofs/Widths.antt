@@ -1,12 +1,12 @@
 -- How many bytes each record takes, and all of them: a value is padded to its 64, and every other part has a fixed width.
 use mathlib.Core.Path.{_≡_, refl, ap, _∙_}
 use mathlib.Core.Option.{Option, none, some}
-use Prim.Native.Nat.{ℕ, _*_, _≤_}
+use Prim.Native.Nat.{ℕ, _+_, _*_, _≤_}
 use native.Mathlib.Omega.{arith}
 use lib.ListN.{length, length-append, length-replicate}
 use Rattle.lent.specs.Tables.{Each, tabOf}
 use Rattle.lent.proofs.Tables.{each-map, length-tab}
-use Rattle.machine.specs.Sizes.{keyCount, sessionCount, rowCount, valueMax, stateSize, headSize, keyWidth, rowWidth, sessionWidth}
+use Rattle.machine.specs.Sizes.{keyCount, sessionCount, rowCount, valueMax, stateSize, headSize, keyWidth, rowWidth, sessionWidth, keyTokenField, leaseWidth}
 use Rattle.machine.specs.State.{Value, Head, Lease, Key, Slot, noSession, session, Staged, nothing, staged, DROP, Row, noRow, row, State}
 use Rattle.layout.specs.Layout.{padded, encHead, valueMark, valueBytes, leaseBytes, encKey, stagedBytes, encRow, encSession, encode}
 use Rattle.layout.specs.Holds.{ValueFits, KeyFits, SlotFits, StagedFits, RowFits, Fits}
@@ -18,11 +18,11 @@ pub length-head : (h : Head) → length (encHead h) ≡ headSize
 unfolding encHead
 length-head h = refl
 
-pub length-mark : (o : Option Value) → length (valueMark o) ≡ 4
+pub length-mark : (o : Option Value) → length (valueMark o) ≡ keyTokenField
 length-mark none = refl
 length-mark (some v) = refl
 
-pub length-lease : (o : Option Lease) → length (leaseBytes o) ≡ 12
+pub length-lease : (o : Option Lease) → length (leaseBytes o) ≡ leaseWidth
 length-lease none = refl
 length-lease (some l) = refl
 
@@ -35,7 +35,7 @@ unfolding encKey
 length-key k f =
     simp (length-append, length-mark (k .value), length-lease (k .lease), length-value (k .value) (f .value))
 
-pub length-staged : (u : Staged) → StagedFits u → length (stagedBytes u) ≡ 66
+pub length-staged : (u : Staged) → StagedFits u → length (stagedBytes u) ≡ valueMax + 2
 length-staged nothing f = refl
 length-staged (staged v) f = rw (length-padded v f)
 length-staged DROP f = refl

@@ -6,7 +6,9 @@ use lib.ListN.{length, getD, drop}
 use lib.Dec.{eqb}
 use Rattle.lent.specs.Bytes.{le16, bytes16, le32, bytes32, le64, bytes64, win, zeros}
 use Rattle.lent.specs.Tables.{if_then_else_, tabOf, readTab}
-use Rattle.machine.specs.Sizes.{keyCount, sessionCount, rowCount, valueMax, keysFrom, keyWidth, rowsFrom, rowWidth, sessionsFrom, sessionWidth, restSize}
+use Rattle.machine.specs.Sizes.{keyCount, sessionCount, rowCount, valueMax, keysFrom, keyWidth, rowsFrom, rowWidth, sessionsFrom, sessionWidth, restSize, leaseWidth}
+use Rattle.machine.specs.Sizes.{readLifeField, writeLifeField, nextSessionField, nextTokenField, keyLengthField, keyTokenField, keyUntilField, keyValueField}
+use Rattle.machine.specs.Sizes.{rowKeyField, rowKindField, rowStagedField, rowLengthField, rowValueField, sessionLifeField, sessionStepsField, sessionUntilField}
 use Rattle.machine.specs.State.{Value, Head, Lease, Key, Slot, noSession, session, Staged, nothing, staged, DROP, Row, noRow, row, State}
 use Rattle.machine.specs.declared.Life.{Life}
 use Rattle.machine.specs.declared.Session.{Session}
@@ -32,7 +34,7 @@ valueBytes (some v) = padded v
 
 -- token and deadline, both zero where there is no I lease
 abbrev pub leaseBytes : Option Lease → List ℕ
-leaseBytes none = zeros 12
+leaseBytes none = zeros leaseWidth
 leaseBytes (some l) = bytes32 (l .token) ++ bytes64 (l .until)
 
 unfoldable pub encKey : Key → List ℕ
@@ -72,28 +74,28 @@ encode s = encHead (s .head) ++ (tabOf encKey (s .keys) ++ (tabOf encRow (s .row
 -- From bytes
 
 unfoldable pub decHead : List ℕ → Head
-decHead x = record { clock = le64 x 0; readLife = le32 x 8; writeLife = le32 x 12; nextSession = le32 x 16; nextToken = le32 x 20 }
+decHead x = record { clock = le64 x 0; readLife = le32 x readLifeField; writeLife = le32 x writeLifeField; nextSession = le32 x nextSessionField; nextToken = le32 x nextTokenField }
 
 abbrev pub decValue : List ℕ → Option Value
-decValue x = if eqb (getD x 0 0) 1 then some (win x 16 (getD x 1 0)) else none
+decValue x = if eqb (getD x 0 0) 1 then some (win x keyValueField (getD x keyLengthField 0)) else none
 
 abbrev pub decLease : List ℕ → Option Lease
-decLease x = if eqb (le32 x 4) 0 then none else some (record { token = le32 x 4; until = le64 x 8 })
+decLease x = if eqb (le32 x keyTokenField) 0 then none else some (record { token = le32 x keyTokenField; until = le64 x keyUntilField })
 
 unfoldable pub decKey : List ℕ → Key
 decKey x = record { value = decValue x; lease = decLease x }
 
 abbrev pub decStaged : List ℕ → Staged
-decStaged x = if eqb (getD x 6 0) 1 then staged (win x 8 (getD x 7 0)) else if eqb (getD x 6 0) 2 then DROP else nothing
+decStaged x = if eqb (getD x rowStagedField 0) 1 then staged (win x rowValueField (getD x rowLengthField 0)) else if eqb (getD x rowStagedField 0) 2 then DROP else nothing
 
 unfoldable pub decRow : List ℕ → Row
-decRow x = if eqb (le32 x 0) 0 then noRow else row (le32 x 0) (getD x 4 0) (getD x 5 0) (decStaged x)
+decRow x = if eqb (le32 x 0) 0 then noRow else row (le32 x 0) (getD x rowKeyField 0) (getD x rowKindField 0) (decStaged x)
 
 abbrev pub decLife : List ℕ → Life
-decLife x = if eqb (getD x 4 0) 2 then Life.Sealed else Life.Open (le64 x 8)
+decLife x = if eqb (getD x sessionLifeField 0) 2 then Life.Sealed else Life.Open (le64 x sessionUntilField)
 
 abbrev pub sessionFrom : List ℕ → Session
-sessionFrom x = record { number = le32 x 0; life = decLife x; count = le16 x 6 }
+sessionFrom x = record { number = le32 x 0; life = decLife x; count = le16 x sessionStepsField }
 
 unfoldable pub decSession : List ℕ → Slot
 decSession x = if eqb (le32 x 0) 0 then noSession else session (sessionFrom x)

@@ -35,6 +35,13 @@ same-eq (x ∷ k) (y ∷ l) e =
 pub eq-same : (k l : List ℕ) → k ≡ l → same k l ≡ true
 eq-same k l e = rw e (same-refl l)
 
+pub same-lengths : (k l : List ℕ) → (length k ≡ length l → ⊥) → same k l ≡ false
+same-lengths k l n = go (same k l) refl
+  where
+    go : (t : Bool) → same k l ≡ t → t ≡ false
+    go true e = absurd (n (ap length (same-eq k l e)))
+    go false e = refl
+
 pub same-zeros : (l : List ℕ) (n : ℕ) → length l ≡ n → same l (zeros n) ≡ allZero l
 unfolding same allZero
 same-zeros [] n e = rw (← e)
@@ -97,10 +104,3 @@ same-turn a b i m h l e =
       same-append (take i a) (getD a i 0 ∷ []) (take i b) (getD b i 0 ∷ []) i (length-take-le i a (omega arith)) (length-take-le i b (omega arith)),
       and-true,
     )
-
-pub same-lengths : (k l : List ℕ) → (length k ≡ length l → ⊥) → same k l ≡ false
-same-lengths k l n = go (same k l) refl
-  where
-    go : (t : Bool) → same k l ≡ t → t ≡ false
-    go true e = absurd (n (ap length (same-eq k l e)))
-    go false e = refl

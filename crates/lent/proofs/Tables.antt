@@ -121,7 +121,7 @@ module _ {A : Type 0} (enc : A → List ℕ) (dec : List ℕ → A) (w : ℕ) wh
     again l i = same (win l (i * w) w) (enc (dec (win l (i * w) w)))
 
     pub same-tab : (n : ℕ) (l q : List ℕ) → n * w ≤ length l
-        → same l (tabOf enc (readTab dec w n l) ++ q) ≡ every (λ i. same (win l (i * w) w) (enc (dec (win l (i * w) w)))) n && same (drop (n * w) l) q
+        → same l (tabOf enc (readTab dec w n l) ++ q) ≡ every (λ i. again l i) n && same (drop (n * w) l) q
     unfolding tabOf readTab win
     same-tab zero l q h = rw (zero-mul, every-none)
     same-tab (suc n) l q h =

@@ -8,7 +8,7 @@ use mathlib.Core.List.{List, [], _∷_, _++_}
 use mathlib.Core.Option.{Option, none, some}
 use Prim.Native.Nat.{ℕ}
 use lib.Dec.{eqb}
-use Rattle.lent.proofs.Choices.{clash, if-ind, zero-one}
+use Rattle.lent.proofs.Choices.{clash, if-ind}
 use Rattle.machine.specs.Tables.{first}
 use Rattle.machine.specs.Words.{wordOf, HIT}
 use Rattle.machine.specs.State.{Value, Row, noRow, State, freeRow, rowOf, rowPlace, cached}
@@ -20,7 +20,7 @@ use Rattle.machine.specs.World.{Event, command, World, quarantined, fres
 use Rattle.machine.specs.declared.Answer.{Answer}
 use Rattle.machine.specs.declared.Command.the-variants.{Get}
 use Rattle.machine.proofs.Views
-use Rattle.machine.proofs.Invariant.{Good, fresh-good, quarantined-by, quarantining}
+use Rattle.machine.proofs.Invariant.{Good, fresh-good, row-on-quarantined, quarantined-row-on}
 use Rattle.machine.proofs.Promise.{next-good, run-good}
 
 -- without a row, what is in sight is the cached value
@@ -41,7 +41,7 @@ Handed n k at size r = r .answer ≡ Answer.Hit at size → rowOf (r .after) n k
 -- another word is no hit
 another : (n k at size : ℕ) (r : Outcome) → eqb (wordOf (r .answer)) HIT ≡ false → Handed n k at size r
 unfolding Handed
-another n k at size r q e f = clash (eqb (wordOf (r .answer)) HIT) (rw e refl) q
+another n k at size r q e f = Views.answers-differ (r .answer) (Answer.Hit at size) q e
 
 looked-hit : (s : State) (now n k at size : ℕ) (o : Option Sight) → sight s n k ≡ o → Handed n k at size (looked s now n k o)
 unfolding Handed looked missed leased
@@ -63,8 +63,8 @@ get-hit s now n k at size v = settled-hit s (expire now s) now n k at size v (re
 
 showing-value : (s : State) (n k size : ℕ) (r : Option ℕ) (o : Option Sight) → sight s n k ≡ o → showing r o .answer ≡ Answer.Value size → rowOf s n k ≡ noRow → cached s k ≡ some (showing r o .value)
 showing-value s n k size none (some x) p e f = sight-cached s n k x f p
-showing-value s n k size none none p e f = zero-one cc
-showing-value s n k size (some c) o p e f = zero-one cc
+showing-value s n k size none none p e f = Views.answers-differ Answer.None (Answer.Value size) refl e
+showing-value s n k size (some c) o p e f = Views.answers-differ (Answer.Refused c) (Answer.Value size) refl e
 
 show-value : (s : State) (n k size : ℕ) → show s n k .answer ≡ Answer.Value size → rowOf s n k ≡ noRow → cached s k ≡ some (show s n k .value)
 unfolding show
@@ -76,15 +76,15 @@ unquarantined-key : (w : World) → Good w → (k : ℕ) → quarantined (w .sta
 unquarantined-key w g k e none p = inl refl
 unquarantined-key w g k e (some v) p = elim (g .current k v p) [
   | inl h ↦ inr (ap some h)
-  | inr h ↦ clash (quarantined (w .state) k) (quarantined-by (w .state .rows) k (record { number = h .number; holds = h .holds })) e
+  | inr h ↦ clash (quarantined (w .state) k) (row-on-quarantined (w .state .rows) k (record { number = h .number; holds = h .holds })) e
 ]
 
 pub consistent : (w : World) → Good w → Consistent w
 unfolding commanded
 consistent w g = record {
   unquarantined = λ k e. unquarantined-key w g k e (cached (w .state) k) refl;
-  handed = λ now n k at size v e q f. next-good w g (command now (Get n k) v) tt .older k _ (get-hit (w .state) now n k at size v e f) (quarantining _ k q);
-  shown = λ n k size e q f. g .older k _ (show-value (w .state) n k size e f) (quarantining (w .state .rows) k q);
+  handed = λ now n k at size v e q f. next-good w g (command now (Get n k) v) tt .older k _ (get-hit (w .state) now n k at size v e f) (quarantined-row-on _ k q);
+  shown = λ n k size e q f. g .older k _ (show-value (w .state) n k size e f) (quarantined-row-on (w .state .rows) k q);
 }
 
 -- The theorem

@@ -14,9 +14,8 @@ use lib.Dec.{eqb}
 use lib.ListN.{getD}
 use Rattle.lent.specs.Tables.{if_then_else_}
 use Rattle.lent.proofs.Choices.{case-of, clash}
-use Rattle.machine.specs.Sizes.{keyCount}
 use Rattle.machine.specs.Tables.{any}
-use Rattle.machine.specs.State.{Value, Lease, Key, blank, noSession, session, Row, noRow, State, fresh, numbered, on, sessionOf, cached, leaseOn, sessionAt}
+use Rattle.machine.specs.State.{Value, Lease, session, Row, noRow, State, fresh, on, cached, leaseOn, sessionAt}
 use Rattle.machine.specs.Refusals.{notLive}
 use Rattle.machine.specs.World.{World, freshWorld, sinceGrant, written, HasRow, Sealed}
 use Rattle.machine.specs.WellFormed.{Orderly}
@@ -24,7 +23,8 @@ use Rattle.machine.specs.declared.Life.{Life}
 use Rattle.machine.specs.declared.Session.{Session}
 use Rattle.machine.specs.declared.Answer.{Answer}
 use Rattle.machine.proofs.Views
-use Rattle.machine.proofs.Orderly.{orderly-fresh}
+use Rattle.machine.proofs.OrderlyKept.{orderly-fresh}
+use Rattle.machine.proofs.Accepted.{found-live}
 
 -- a row on the key
 pub record RowOn (rows : List Row) (k : ℕ) : Type 0 where
@@ -70,11 +70,11 @@ reframed w g a t began h f older = record {
       (omega (arith, x .0), λ i m p num. elim (f .opens i m p) [ inl y ↦ absurd (omega (arith, x .0)) | inr y ↦ y .4 (x .1 (y .0) (y .1) (y .2) (y .3 ∙ num)) ]);
 }
 
-pub quarantined-by : (rs : List Row) (k : ℕ) → RowOn rs k → any (on k) rs ≡ true
-quarantined-by rs k q = Views.any-at (on k) noRow rs (q .holds .place) refl (Views.row-on (q .number) k (q .holds .kind) (q .holds .what) _ (q .holds .is))
+pub row-on-quarantined : (rs : List Row) (k : ℕ) → RowOn rs k → any (on k) rs ≡ true
+row-on-quarantined rs k q = Views.any-at (on k) noRow rs (q .holds .place) refl (Views.row-on (q .number) k (q .holds .kind) (q .holds .what) _ (q .holds .is))
 
-pub quarantining : (rs : List Row) (k : ℕ) → any (on k) rs ≡ true → RowOn rs k
-quarantining rs k e = let r = Views.any-place (on k) noRow rs e in let x = Views.on-row k (getD rs (r .0) noRow) (r .1) in
+pub quarantined-row-on : (rs : List Row) (k : ℕ) → any (on k) rs ≡ true → RowOn rs k
+quarantined-row-on rs k e = let r = Views.any-place (on k) noRow rs e in let x = Views.on-row k (getD rs (r .0) noRow) (r .1) in
     record { number = x .0; holds = record { place = r .0; kind = x .1; what = x .2; is = x .3 } }
 
 pub no-row-on : (s : State) → Orderly s → (k : ℕ) (l : Lease) → leaseOn s k ≡ some l → RowOn (s .rows) k → ⊥
@@ -85,15 +85,11 @@ pub fresh-good : (readLife writeLife : ℕ) → Good (freshWorld readLife writeL
 unfolding fresh
 fresh-good readLife writeLife = record {
   orderly = orderly-fresh readLife writeLife;
-  current = λ k v e. Views.no-some v (sym (ap (λ (x : Key). x .value) (Views.getD-same keyCount k blank)) ∙ e);
-  older = λ k v e q. Views.no-some v (sym (ap (λ (x : Key). x .value) (Views.getD-same keyCount k blank)) ∙ e);
-  unwritten = λ k l e u m. Views.no-some l (sym (ap (λ (x : Key). x .lease) (Views.getD-same keyCount k blank)) ∙ e);
+  current = λ k v e. Views.fresh-value readLife writeLife k v e;
+  older = λ k v e q. Views.fresh-value readLife writeLife k v e;
+  unwritten = λ k l e u m. Views.fresh-lease readLife writeLife k l e;
   writers = λ n e. clash false e refl;
 }
-
--- a session of number n is found by it
-pub found-live : (s : State) (n i : ℕ) (x : Session) → sessionAt s i ≡ session x → x .number ≡ n → notLive s n ≡ false
-found-live s n i x e num = Views.numbered-live n (sessionOf s n) (Views.find-passes (numbered n) noSession (s .sessions) i refl (rw e (eq-eqb (x .number) n num)))
 
 -- a register write, by rule 2
 pub written-good : (w : World) → Good w → (n k : ℕ) (v : Value) → Sealed (w .state) n → HasRow (w .state .rows) n k → Good (written w n k v)

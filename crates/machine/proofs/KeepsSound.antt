@@ -8,14 +8,14 @@ use Prim.Native.Nat.{ℕ, _≤_, _<_}
 use native.Mathlib.Omega.{arith}
 use lib.Dec.{eqb, leb, ltb}
 use lib.ListN.{length, length-replicate}
-use borrow.Author.Tests.{eqb-true, eqb-false, eq-eqb, leb-false, ltb-false, not-false}
+use borrow.Author.Tests.{eqb-true, eqb-false, leb-false, ltb-false, not-false}
 use Rattle.lent.specs.Bytes.{Bytes}
-use Rattle.lent.proofs.Choices.{if-ind, or-no, zero-one}
+use Rattle.lent.proofs.Choices.{if-ind, or-no}
 use Rattle.machine.specs.Sizes.{keyCount, sessionCount, rowCount, valueMax, stepMax, lifeMax, timeMax, numberMax}
 use Rattle.machine.specs.Tables.{first, isNone}
 use Rattle.machine.specs.Words.{isKind, isOperation, INVALIDATE, INCREMENTAL, REFRESH}
 use Rattle.machine.specs.Decision.{grants}
-use Rattle.machine.specs.State.{Value, Key, blank, noSession, session, Staged, staged, Row, noRow, row, State, fresh, free, freeRow, ofOn, kindOf, stagedIn, sessionPlace, sessionOf, rowPlace, rowOf, sessionAt, rowAt, cached, leaseOn}
+use Rattle.machine.specs.State.{Value, blank, noSession, session, Staged, staged, Row, noRow, row, State, fresh, free, freeRow, kindOf, stagedIn, sessionPlace, sessionOf, rowPlace, rowOf, sessionAt, rowAt, cached, leaseOn}
 use Rattle.machine.specs.Sound.{lifetime, sound}
 use Rattle.machine.specs.Expiry.{withClock, leave, finish, expire}
 use Rattle.machine.specs.Refusals.{decide, blocked, Sight, sight, badKey, long, countIn, countOf, refusals, refusal, startRefusals}
@@ -28,9 +28,10 @@ use Rattle.machine.specs.declared.Answer.{Answer}
 use Rattle.machine.specs.declared.Command.{Command}
 use Rattle.machine.specs.declared.Command.the-variants.{Begin, Get, Fill, Quar, Stage, Delta, Validate, Done, Undo, Evict, Tick}
 use Rattle.machine.proofs.Views
-use Rattle.machine.proofs.Orderly
+use Rattle.machine.proofs.OrderlyKept
 use Rattle.machine.proofs.Accepted
-use Rattle.machine.proofs.SoundMeans.{within-means, sound-means, means-sound}
+use Rattle.machine.proofs.Ranges.{within-means}
+use Rattle.machine.proofs.SoundMeans.{sound-means, means-sound}
 use Rattle.machine.proofs.WellKept
 use Rattle.machine.proofs.DeltaFits.{changed-fits}
 
@@ -56,7 +57,7 @@ module _ (s : State) (now : ℕ) (h : WellFormed s now) where
   unheld : (n k kind : ℕ) → Within INVALIDATE INCREMENTAL kind → eqb (kindOf (rowOf s n k)) kind ≡ false → grants (decide s k kind) ≡ true → (i d : ℕ) (v : Staged) → rowAt s i ≡ row n k d v → ⊥
   unheld n k kind range f p i d v q =
       let x = Accepted.sharing s (h .orderly) k kind range p i n d v q in
-      let r = Accepted.row-of s n k (Views.of-on-taken n k (rowOf s n k) (Views.find-passes (ofOn n k) noRow (s .rows) i refl (rw (q, eq-eqb n n refl, eq-eqb k k refl) refl))) in
+      let r = Accepted.row-of s n k (Accepted.found-row s n k (record { place = i; kind = d; what = v; is = q })) in
       let y : i ≡ r .0 = h .rows .once i (r .0) q (r .2) in
       let z : row n k d v ≡ row n k (kindOf (rowOf s n k)) (r .1) = sym q ∙ ap (rowAt s) y ∙ r .2 in
       let w : d ≡ kindOf (rowOf s n k) = cc in
@@ -142,26 +143,26 @@ step-sound s now c v b h = settled-sound s now c v b h (refusal (expire now s) n
 pub fresh-sound : (readLife writeLife : ℕ) → lifetime readLife ≡ true → lifetime writeLife ≡ true → sound (fresh readLife writeLife) ≡ true
 unfolding fresh
 fresh-sound readLife writeLife r w = means-sound (fresh readLife writeLife) (record {
-  orderly = Orderly.orderly-fresh readLife writeLife;
+  orderly = OrderlyKept.orderly-fresh readLife writeLife;
   head = record { time = omega arith; readLife = within-means 1 lifeMax readLife r; writeLife = within-means 1 lifeMax writeLife w; nextSession = (omega arith, omega arith); nextToken = (omega arith, omega arith) };
   keys = record {
     length = length-replicate keyCount blank;
-    values = λ k {v} e. Views.no-some v (sym (ap (λ (x : Key). x .value) (Views.getD-same keyCount k blank)) ∙ e);
-    leases = λ k {l} e. Views.no-some l (sym (ap (λ (x : Key). x .lease) (Views.getD-same keyCount k blank)) ∙ e);
-    distinct = λ k j {l} {m} e f q. Views.no-some l (sym (ap (λ (x : Key). x .lease) (Views.getD-same keyCount k blank)) ∙ e);
+    values = λ k {v} e. Views.fresh-value readLife writeLife k v e;
+    leases = λ k {l} e. Views.fresh-lease readLife writeLife k l e;
+    distinct = λ k j {l} {m} e f q. Views.fresh-lease readLife writeLife k l e;
   };
-  sessions = record { length = length-replicate sessionCount noSession; each = λ i {x} e. Views.no-session x (sym (Views.getD-same sessionCount i noSession) ∙ e) };
+  sessions = record { length = length-replicate sessionCount noSession; each = λ i {x} e. Views.fresh-session readLife writeLife i x e };
   rows = record {
     length = length-replicate rowCount noRow;
-    each = λ i {n} {k} {d} {u} e. Views.no-row n k d u (sym (Views.getD-same rowCount i noRow) ∙ e);
-    once = λ i j {n} {k} {d} {c} {u} {v} e f. Views.no-row n k d u (sym (Views.getD-same rowCount i noRow) ∙ e);
+    each = λ i {n} {k} {d} {u} e. Views.fresh-row readLife writeLife i n k d u e;
+    once = λ i j {n} {k} {d} {c} {u} {v} e f. Views.fresh-row readLife writeLife i n k d u e;
   };
-  live = λ i {n} {k} {d} {u} e. Views.no-row n k d u (sym (Views.getD-same rowCount i noRow) ∙ e);
+  live = λ i {n} {k} {d} {u} e. Views.fresh-row readLife writeLife i n k d u e;
 })
 
 -- whatever the buffer held, READY leaves a sound state
 started-sound : (s : State) (readLife writeLife : ℕ) (o : Option ℕ) → first (startRefusals readLife writeLife) ≡ o → started readLife writeLife o s .answer ≡ Answer.Ready → sound (started readLife writeLife o s .after) ≡ true
-started-sound s readLife writeLife (some e) p a = zero-one cc
+started-sound s readLife writeLife (some e) p a = Views.answers-differ (Answer.Refused e) Answer.Ready refl a
 started-sound s readLife writeLife none p a =
     let x : (not (lifetime readLife) || not (lifetime writeLife)) ≡ false = Views.first-none (startRefusals readLife writeLife) p 0 in
     fresh-sound readLife writeLife (not-false _ (or-no (not (lifetime readLife)) (not (lifetime writeLife)) x .0)) (not-false _ (or-no (not (lifetime readLife)) (not (lifetime writeLife)) x .1))

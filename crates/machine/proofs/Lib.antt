@@ -5,7 +5,7 @@ pub mod Table
 pub mod Refused
 pub mod Every
 pub mod SoundMeans
-pub mod Orderly
+pub mod OrderlyKept
 pub mod Accepted
 pub mod DeltaFits
 pub mod Demand3

@@ -16,13 +16,13 @@ use Rattle.machine.specs.Step.{settled, step}
 use Rattle.machine.specs.World.{Event, command, write, World, quarantined, commanded, next, run, Rules, expired, Kept, AllKept}
 use Rattle.machine.specs.declared.Answer.{Answer}
 use Rattle.machine.specs.declared.Command.{Command}
-use Rattle.machine.proofs.Orderly.{orderly-expire, orderly-clock}
+use Rattle.machine.proofs.OrderlyKept.{orderly-expire, orderly-clock}
 use Rattle.machine.proofs.Shape.{orderly-effect}
-use Rattle.machine.proofs.Invariant.{RowOn, Good, Frame, reframed, quarantined-by, quarantining, written-good}
-use Rattle.machine.proofs.Frames.{expire-value, expire-row-on, stays, expires, framed}
+use Rattle.machine.proofs.Invariant.{RowOn, Good, Frame, reframed, row-on-quarantined, quarantined-row-on, written-good}
+use Rattle.machine.proofs.Frames.{expire-value, expire-row-on, frame-kept, frame-expire, framed}
 
 pub expired-good : (w : World) → Good w → (now : ℕ) → Good (expired w now)
-expired-good w g now = reframed w g Answer.Ticked (expire now (w .state)) (w .began) (orderly-expire (w .state) now (g .orderly)) (expires w g now)
+expired-good w g now = reframed w g Answer.Ticked (expire now (w .state)) (w .began) (orderly-expire (w .state) now (g .orderly)) (frame-expire w g now)
     (λ k v p q. g .older k v (expire-value now (w .state) k v p) (expire-row-on now (w .state) k q))
 
 -- the clock is in no frame
@@ -38,8 +38,8 @@ commanded-good : (w : World) → Good w → (now : ℕ) (c : Command) (v : Value
     → Rules (expired w now) c v (settled (w .state) now o (effect (expire now (w .state)) now c v) .answer)
     → Good (commanded w (settled (w .state) now o (effect (expire now (w .state)) now c v)))
 unfolding commanded settled
-commanded-good w g now c v (some e) p rule = reframed w g (Answer.Refused e) (w .state) _ (g .orderly) (stays w g (Answer.Refused e) refl)
-    (λ k u h q. rw (quarantined-by (w .state .rows) k q) (g .older k u h q))
+commanded-good w g now c v (some e) p rule = reframed w g (Answer.Refused e) (w .state) _ (g .orderly) (frame-kept w g (Answer.Refused e) refl)
+    (λ k u h q. rw (row-on-quarantined (w .state .rows) k q) (g .older k u h q))
 commanded-good w g now c v none p rule = reframed w₁ g₁ a (withClock t now) _ (orderly-clock t now (orderly-effect (expire now (w .state)) (g₁ .orderly) now c v p)) frame older
   where
     w₁ : World
@@ -60,9 +60,9 @@ commanded-good w g now c v none p rule = reframed w₁ g₁ a (withClock t now) 
     older : (k : ℕ) (u : Value) → cached t k ≡ some u → RowOn (t .rows) k → u ≡ (if quarantined t k && not (quarantined (w .state) k) then w .register k else w .began k)
     older k u h q =
         let was : cached (expire now (w .state)) k ≡ some u = frame .keeps k u h q in
-        rw (quarantined-by (t .rows) k q) (began-as (quarantined (w .state) k) (w .register k) (w .began k) u
-        (λ e. g .older k u (expire-value now (w .state) k u was) (quarantining (w .state .rows) k e))
-        (λ e. elim (g₁ .current k u was) [ inl y ↦ y | inr y ↦ clash (quarantined (w .state) k) (quarantined-by (w .state .rows) k (expire-row-on now (w .state) k (record { number = y .number; holds = y .holds }))) e ]))
+        rw (row-on-quarantined (t .rows) k q) (began-as (quarantined (w .state) k) (w .register k) (w .began k) u
+        (λ e. g .older k u (expire-value now (w .state) k u was) (quarantined-row-on (w .state .rows) k e))
+        (λ e. elim (g₁ .current k u was) [ inl y ↦ y | inr y ↦ clash (quarantined (w .state) k) (row-on-quarantined (w .state .rows) k (expire-row-on now (w .state) k (record { number = y .number; holds = y .holds }))) e ]))
 
 pub next-good : (w : World) → Good w → (e : Event) → Kept w e → Good (next w e)
 unfolding step

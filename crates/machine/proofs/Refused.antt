@@ -8,9 +8,9 @@ use mathlib.Core.Option.{Option, none, some}
 use Prim.Native.Nat.{ℕ, zero, suc, _<_}
 use native.Mathlib.Omega.{arith}
 use lib.Dec.{eqb, ltb}
-use lib.ListN.{getD}
+use lib.ListN.{length, getD}
 use borrow.Author.Tests.{eqb-true}
-use Rattle.lent.proofs.Choices.{case-of, clash, if-ind, zero-one}
+use Rattle.lent.proofs.Choices.{case-of, clash, if-ind}
 use Rattle.machine.specs.Tables.{mem, first, isNone}
 use Rattle.machine.specs.Words.{wordOf, wordsOf}
 use Rattle.machine.specs.Decision.{grants}
@@ -23,12 +23,12 @@ use Rattle.machine.specs.Statements.{First, tests, ascend}
 use Rattle.machine.specs.declared.Answer.{Answer}
 use Rattle.machine.specs.declared.Command.{Command}
 use Rattle.machine.specs.declared.Command.the-variants.{Begin, Get, Fill, Quar, Stage, Delta, Validate, Done, Undo, Evict, Tick}
-use Rattle.machine.proofs.Views.{some-eq}
+use Rattle.machine.proofs.Views.{no-some, some-eq, answers-differ}
 
 -- The first test that holds
 
 pub first-is : (l : List (Bool × ℕ)) (e : ℕ) → first l ≡ some e → First l e
-first-is [] e p = zero-one cc
+first-is [] e p = no-some e p
 first-is (x ∷ l) e p = go (case-of (x .0)) (first-is l e)
   where
     up : (j : ℕ) (f : First l e) → x .0 ≡ false → j < suc (f .place) → getD (x ∷ l) j (false, 0) .0 ≡ false
@@ -101,7 +101,7 @@ effect-accepts s now c v = go (case-of (eqb (wordOf (effect s now c v .answer)) 
     go (inl q) = clash (mem 0 (wordsOf c)) (rw (eqb-true (wordOf (effect s now c v .answer)) 0 q) at (effect-worded s now v c)) (no-refusal-word c)
 
 not-refused : (s : State) (now : ℕ) (c : Command) (v : Value) (e : ℕ) → effect s now c v .answer ≡ Answer.Refused e → ⊥
-not-refused s now c v e p = clash (eqb (wordOf (effect s now c v .answer)) 0) (rw p refl) (effect-accepts s now c v)
+not-refused s now c v e p = answers-differ (effect s now c v .answer) (Answer.Refused e) (effect-accepts s now c v) p
 
 -- The theorems
 
@@ -153,7 +153,7 @@ unfolding start
 start-refused s r w e p = go (first (startRefusals r w)) refl p
   where
     go : (o : Option ℕ) → first (startRefusals r w) ≡ o → started r w o s .answer ≡ Answer.Refused e → First (startRefusals r w) e × (started r w o s .after ≡ s)
-    go none q h = zero-one cc
+    go none q h = answers-differ Answer.Ready (Answer.Refused e) refl h
     go (some d) q h = let x : d ≡ e = cc in (first-is (startRefusals r w) e (q ∙ ap (λ (y : ℕ). some y) x), refl)
 
 pub show-refused : (s : State) (n k e : ℕ) → show s n k .answer ≡ Answer.Refused e → First (showRefusals s n k) e
@@ -161,8 +161,8 @@ unfolding show
 show-refused s n k e p = go (first (showRefusals s n k)) (sight s n k) refl p
   where
     go : (o : Option ℕ) (x : Option Sight) → first (showRefusals s n k) ≡ o → showing o x .answer ≡ Answer.Refused e → First (showRefusals s n k) e
-    go none none q h = zero-one cc
-    go none (some x) q h = zero-one cc
+    go none none q h = answers-differ Answer.None (Answer.Refused e) refl h
+    go none (some x) q h = answers-differ (Answer.Value (length (x .value))) (Answer.Refused e) refl h
     go (some d) x q h = let y : d ≡ e = cc in first-is (showRefusals s n k) e (q ∙ ap (λ (z : ℕ). some z) y)
 
 -- and the first that holds is given

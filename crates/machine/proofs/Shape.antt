@@ -21,7 +21,7 @@ use Rattle.machine.specs.World.{Event, command, write, World, commanded,
 use Rattle.machine.specs.WellFormed.{Orderly, Within}
 use Rattle.machine.specs.declared.Command.{Command}
 use Rattle.machine.specs.declared.Command.the-variants.{Begin, Get, Fill, Quar, Stage, Delta, Validate, Done, Undo, Evict, Tick}
-use Rattle.machine.proofs.Orderly
+use Rattle.machine.proofs.OrderlyKept
 use Rattle.machine.proofs.Accepted.{passed, is-kind, sharing, unblocked, row-of}
 
 module _ (s : State) (h : Orderly s) where
@@ -31,42 +31,42 @@ module _ (s : State) (h : Orderly s) where
   keeps-looked : (now n k : ℕ) (o : Option Sight) → Keeps (looked s now n k o)
   unfolding looked missed
   keeps-looked now n k (some x) = h
-  keeps-looked now n k none = if-ind Keeps (freeRow (rowOf s n k)) (λ e. if-ind Keeps (blocked s k) (λ b. h) (λ b. Orderly.orderly-leased s now k (unblocked s h k b) h)) (λ e. h)
+  keeps-looked now n k none = if-ind Keeps (freeRow (rowOf s n k)) (λ e. if-ind Keeps (blocked s k) (λ b. h) (λ b. OrderlyKept.orderly-leased s now k (unblocked s h k b) h)) (λ e. h)
 
   keeps-asks : (n k kind : ℕ) → Within INVALIDATE INCREMENTAL kind → Keeps (asks s n k kind)
   unfolding asks
-  keeps-asks n k kind range = if-ind Keeps (grants (decide s k kind)) (λ e. Orderly.orderly-granted s n k kind range (sharing s h k kind range e) h) (λ e. Orderly.orderly-leave s (n ∷ []) h)
+  keeps-asks n k kind range = if-ind Keeps (grants (decide s k kind)) (λ e. OrderlyKept.orderly-granted s n k kind range (sharing s h k kind range e) h) (λ e. OrderlyKept.orderly-leave s (n ∷ []) h)
 
-  -- where the row on the key is there and of kind d, which is not 1
+  -- where the row on the key is there and of kind d, which is no invalidation
   keeps-stages : (n i k d : ℕ) (u : Staged) → freeRow (rowOf s n k) ≡ false → not (eqb (kindOf (rowOf s n k)) d) ≡ false → (d ≡ INVALIDATE → ⊥) → Keeps (stages s n i k u)
   unfolding stages
   keeps-stages n i k d u e f apart = if-ind Keeps (ltb i (countOf s n)) (λ p. h)
       (λ p. let r = row-of s n k e in
-      Orderly.orderly-staged s n k (r .0) (kindOf (rowOf s n k)) u (r .1) (r .2) (λ q. apart (sym (eqb-true (kindOf (rowOf s n k)) d (not-false _ f)) ∙ q)) h)
+      OrderlyKept.orderly-staged s n k (r .0) (kindOf (rowOf s n k)) u (r .1) (r .2) (λ q. apart (sym (eqb-true (kindOf (rowOf s n k)) d (not-false _ f)) ∙ q)) h)
 
   pub orderly-effect : (now : ℕ) (c : Command) (v : Value) → refusal s now c v ≡ none → Orderly (effect s now c v .after)
   unfolding effect refusals
-  orderly-effect now Begin v e = Orderly.orderly-begin s now h
+  orderly-effect now Begin v e = OrderlyKept.orderly-begin s now h
   orderly-effect now (Get n k) v e = keeps-looked now n k (sight s n k)
-  orderly-effect now (Fill t k) v e = if-ind Keeps (matches t (leaseOn s k)) (λ m. Orderly.orderly-filled s k v h) (λ m. h)
+  orderly-effect now (Fill t k) v e = if-ind Keeps (matches t (leaseOn s k)) (λ m. OrderlyKept.orderly-filled s k v h) (λ m. h)
   orderly-effect now (Quar n k kind) v e = let no = passed s now (Quar n k kind) v e in
       if-ind Keeps (eqb (kindOf (rowOf s n k)) kind) (λ m. h) (λ m. keeps-asks n k kind (is-kind kind (not-false _ (or-no (badKey k) (not (isKind kind)) (no 1) .1))))
   orderly-effect now (Stage n i k) v e = let no = passed s now (Stage n i k) v e in keeps-stages n i k REFRESH (staged v) (no 5) (no 6) (λ q. omega arith)
   orderly-effect now (Delta n i k o) v e = let no = passed s now (Delta n i k o) v e in keeps-stages n i k INCREMENTAL (changed o v (stagedIn (rowOf s n k)) (cached s k)) (no 5) (no 6) (λ q. omega arith)
-  orderly-effect now (Validate n m) v e = if-ind Keeps (eqb m (countOf s n)) (λ p. Orderly.orderly-seal s n h) (λ p. Orderly.orderly-leave s (n ∷ []) h)
-  orderly-effect now (Done n) v e = Orderly.orderly-finish s (n ∷ []) toCache h
-  orderly-effect now (Undo n) v e = Orderly.orderly-leave s (n ∷ []) h
-  orderly-effect now (Evict k) v e = if-ind Keeps (isNone (cached s k)) (λ p. h) (λ p. Orderly.orderly-evicted s k h)
+  orderly-effect now (Validate n m) v e = if-ind Keeps (eqb m (countOf s n)) (λ p. OrderlyKept.orderly-seal s n h) (λ p. OrderlyKept.orderly-leave s (n ∷ []) h)
+  orderly-effect now (Done n) v e = OrderlyKept.orderly-finish s (n ∷ []) toCache h
+  orderly-effect now (Undo n) v e = OrderlyKept.orderly-leave s (n ∷ []) h
+  orderly-effect now (Evict k) v e = if-ind Keeps (isNone (cached s k)) (λ p. h) (λ p. OrderlyKept.orderly-evicted s k h)
   orderly-effect now Tick v e = h
 
 orderly-settled : (s : State) (now : ℕ) (o : Option ℕ) (r : Outcome) → Orderly s → (o ≡ none → Orderly (r .after)) → Orderly (settled s now o r .after)
 unfolding settled
-orderly-settled s now none r h f = Orderly.orderly-clock (r .after) now (f refl)
+orderly-settled s now none r h f = OrderlyKept.orderly-clock (r .after) now (f refl)
 orderly-settled s now (some e) r h f = h
 
 pub orderly-step : (s : State) (now : ℕ) (c : Command) (v : Value) → Orderly s → Orderly (step s now c v .after)
 unfolding step
-orderly-step s now c v h = orderly-settled s now (refusal (expire now s) now c v) (effect (expire now s) now c v) h (orderly-effect (expire now s) (Orderly.orderly-expire s now h) now c v)
+orderly-step s now c v h = orderly-settled s now (refusal (expire now s) now c v) (effect (expire now s) now c v) h (orderly-effect (expire now s) (OrderlyKept.orderly-expire s now h) now c v)
 
 pub orderly-next : (w : World) (e : Event) → Orderly (w .state) → Orderly (next w e .state)
 unfolding commanded written

@@ -11,21 +11,18 @@ use lib.Dec.{eqb, leb, ltb}
 use lib.ListN.{length, getD}
 use borrow.Author.Tests.{eqb-true, eq-eqb, leb-true, le-leb, ltb-true, lt-ltb}
 use Rattle.lent.specs.Tables.{if_then_else_, every, some as someAt}
-use Rattle.lent.proofs.Choices.{and-yes, case-of, clash}
+use Rattle.lent.proofs.Choices.{and-yes, and-both, case-of, clash}
 use Rattle.lent.proofs.Walks.{all-every, some-at, some-is}
 use Rattle.machine.specs.Sizes.{keyCount, sessionCount, rowCount, valueMax, stepMax, lifeMax, timeMax, numberMax}
-use Rattle.machine.specs.Words.{within, isKind, INVALIDATE, REFRESH, INCREMENTAL}
+use Rattle.machine.specs.Words.{isKind, INVALIDATE, REFRESH, INCREMENTAL}
 use Rattle.machine.specs.State.{Value, Head, Lease, Key, blank, Slot, noSession, session, Staged, nothing, staged, DROP, Row, noRow, row, State, keyOf, sessionAt, rowAt, leaseOn}
 use Rattle.machine.specs.Sound.{clockSound, lifetime, nextSound, headSound, valueSound, cachedSound, given, leaseSound, keySound, lifeSound, sessionSound, stagedSound, rowSound, tokenIn, numberIn, numberAt, tokenAt, distinct, numbersDistinct, tokensDistinct, liveRow, rowsLive, once, rowsOnce, shares, rowsAlone, leaseless, rowsLeaseless, joined, sized, sound}
 use Rattle.machine.specs.WellFormed.{Fine, Within, LeaseFits, SessionFits, StagedFits, RowFits, LiveAs, WellFormed}
 use Rattle.machine.specs.declared.Life.{Life}
 use Rattle.machine.specs.declared.Session.{Session}
 use Rattle.machine.proofs.Views.{no-some, no-row, no-session}
-use Rattle.machine.proofs.Ranges.{within-inside}
+use Rattle.machine.proofs.Ranges.{within-means, means-within}
 use Rattle.machine.proofs.Every.{pairs-all, all-pairs, distinct-same, same-distinct, place-inside, every-place, order}
-
-both : {a b : Bool} → a ≡ true → b ≡ true → (a && b) ≡ true
-both p q = rw (p, q)
 
 -- a conjunction of many, and each of its parts by its place
 abbrev all : List Bool → Bool
@@ -42,17 +39,11 @@ parts (a ∷ b ∷ l) e (suc i) = parts (b ∷ l) (and-yes a (all (b ∷ l)) e .
 
 -- Numbers
 
-pub within-means : (low high n : ℕ) → within low high n ≡ true → Within low high n
-within-means low high n e = let r = and-yes (leb low n) (leb n high) e in (leb-true low n (r .0), leb-true n high (r .1))
-
-pub means-within : (low high n : ℕ) → Within low high n → within low high n ≡ true
-means-within low high n r = sym (within-inside low high n (r .0) (r .1))
-
 given-means : (next n : ℕ) → given next n ≡ true → (1 ≤ n) × (n < next)
 given-means next n e = let r = and-yes (leb 1 n) (ltb n next) e in (leb-true 1 n (r .0), ltb-true n next (r .1))
 
 means-given : (next n : ℕ) → 1 ≤ n → n < next → given next n ≡ true
-means-given next n p q = both (le-leb 1 n p) (lt-ltb n next q)
+means-given next n p q = and-both (le-leb 1 n p) (lt-ltb n next q)
 
 -- One record alone
 
@@ -61,9 +52,13 @@ value-means v e = let r = and-yes (leb (length v) valueMax) (every (λ i. ltb (g
     record { short = leb-true (length v) valueMax (r .0); bytes = λ i. ltb-true (getD v i 0) 256 (every-place v 0 (λ b. ltb b 256) (length v) refl refl (r .1) i) }
 
 pub means-value : (v : Value) → Fine v → valueSound v ≡ true
-means-value v f = both (le-leb (length v) valueMax (f .short)) (all-every (λ i. ltb (getD v i 0) 256) (length v) (λ i h. lt-ltb (getD v i 0) 256 (f .bytes i)))
+means-value v f = and-both (le-leb (length v) valueMax (f .short)) (all-every (λ i. ltb (getD v i 0) 256) (length v) (λ i h. lt-ltb (getD v i 0) 256 (f .bytes i)))
 
-means-cached : (o : Option Value) → ((v : Value) → o ≡ some v → Fine v) → cachedSound o ≡ true
+-- a value fits, if there is one
+abbrev pub FineIfAny : Option Value → Type 0
+FineIfAny o = (v : Value) → o ≡ some v → Fine v
+
+means-cached : (o : Option Value) → FineIfAny o → cachedSound o ≡ true
 means-cached none f = refl
 means-cached (some v) f = means-value v (f v refl)
 
@@ -74,7 +69,7 @@ staged-means d DROP e = eqb-true d INCREMENTAL e
 
 means-staged : (d : ℕ) (u : Staged) → StagedFits d u → stagedSound d u ≡ true
 means-staged d nothing f = refl
-means-staged d (staged v) f = both (le-leb REFRESH d (f .0)) (means-value v (f .1))
+means-staged d (staged v) f = and-both (le-leb REFRESH d (f .0)) (means-value v (f .1))
 means-staged d DROP f = eq-eqb d INCREMENTAL f
 
 row-means : (n k d : ℕ) (u : Staged) → rowSound (row n k d u) ≡ true → (1 ≤ n) × Within INVALIDATE INCREMENTAL d × RowFits k d u
@@ -89,7 +84,7 @@ means-row : (r : Row) → ((n k d : ℕ) (u : Staged) → r ≡ row n k d u → 
 unfolding rowSound
 means-row noRow f = refl
 means-row (row n k d u) f = let g = f n k d u refl in
-    both (le-leb 1 n (g .0)) (both (lt-ltb k keyCount (g .2 .key)) (both (means-within INVALIDATE INCREMENTAL d (g .1)) (means-staged d u (g .2 .what))))
+    and-both (le-leb 1 n (g .0)) (and-both (lt-ltb k keyCount (g .2 .key)) (and-both (means-within INVALIDATE INCREMENTAL d (g .1)) (means-staged d u (g .2 .what))))
 
 module _ (h : Head) where
   LeaseOf : Lease → Type 0
@@ -108,7 +103,7 @@ module _ (h : Head) where
   means-lease : (o : Option Lease) → ((l : Lease) → o ≡ some l → LeaseOf l) → leaseSound h o ≡ true
   unfolding LeaseOf
   means-lease none f = refl
-  means-lease (some l) f = let g = f l refl in both (means-given (h .nextToken) (l .token) (g .1 .positive) (g .0)) (le-leb (l .until) (h .clock + h .readLife) (g .1 .deadline))
+  means-lease (some l) f = let g = f l refl in and-both (means-given (h .nextToken) (l .token) (g .1 .positive) (g .0)) (le-leb (l .until) (h .clock + h .readLife) (g .1 .deadline))
 
   means-life : (p : Life) → ((t : ℕ) → p ≡ Life.Open t → t ≤ h .clock + h .writeLife) → lifeSound h p ≡ true
   means-life (Life.Open t) f = le-leb t (h .clock + h .writeLife) (f t refl)
@@ -126,7 +121,7 @@ module _ (h : Head) where
   unfolding sessionSound SessionOf
   means-session noSession f = refl
   means-session (session x) f = let g = f x refl in
-      both (means-given (h .nextSession) (x .number) (g .1 .positive) (g .0)) (both (le-leb (x .count) stepMax (g .1 .steps)) (means-life (x .life) (g .1 .deadline)))
+      and-both (means-given (h .nextSession) (x .number) (g .1 .positive) (g .0)) (and-both (le-leb (x .count) stepMax (g .1 .steps)) (means-life (x .life) (g .1 .deadline)))
 
 -- Two rows
 
@@ -152,7 +147,7 @@ means-shares (row m j d u) noRow f = refl
 means-shares (row m j d u) (row n k e v) f = go (case-of (eqb j k))
   where
     go : (eqb j k ≡ true) ⊎ (eqb j k ≡ false) → (if eqb j k then eqb d INVALIDATE && eqb e INVALIDATE else true) ≡ true
-    go (inl h) = let p : row n k e v ≡ row n j e v = rw (eqb-true j k h) in let x = f m n j d e u v refl p in rw h (both (eq-eqb d INVALIDATE (x .0)) (eq-eqb e INVALIDATE (x .1)))
+    go (inl h) = let p : row n k e v ≡ row n j e v = rw (eqb-true j k h) in let x = f m n j d e u v refl p in rw h (and-both (eq-eqb d INVALIDATE (x .0)) (eq-eqb e INVALIDATE (x .1)))
     go (inr h) = rw h
 
 -- What stands in the tables
@@ -184,34 +179,70 @@ module _ (s : State) where
   means-live : (n : ℕ) → length (s .sessions) ≡ sessionCount → LiveAs (s .sessions) n → someAt (λ j. eqb (numberAt s j) n) sessionCount ≡ true
   means-live n c x = some-at (λ j. eqb (numberAt s j) n) sessionCount (x .place) (session-inside (x .place) (x .live) c (x .is)) (eq-eqb (numberAt s (x .place)) n (ap numberIn (x .is) ∙ x .number))
 
--- A sound state, part by part
+-- A sound state, part by part: the tests in their order, and each by its place
+
+abbrev soundTests : State → List Bool
+soundTests s =
+    sized s
+    ∷ headSound (s .head)
+    ∷ every (λ k. keySound (s .head) (keyOf s k)) keyCount
+    ∷ every (λ i. rowSound (rowAt s i)) rowCount
+    ∷ every (λ j. sessionSound (s .head) (sessionAt s j)) sessionCount
+    ∷ joined s
+    ∷ []
+
+abbrev sizeTests : State → List Bool
+sizeTests s =
+    eqb (length (s .keys)) keyCount
+    ∷ eqb (length (s .sessions)) sessionCount
+    ∷ eqb (length (s .rows)) rowCount
+    ∷ []
+
+abbrev headTests : State → List Bool
+headTests s =
+    clockSound (s .head)
+    ∷ lifetime (s .head .readLife)
+    ∷ lifetime (s .head .writeLife)
+    ∷ nextSound (s .head .nextSession)
+    ∷ nextSound (s .head .nextToken)
+    ∷ []
+
+abbrev joinTests : State → List Bool
+joinTests s =
+    numbersDistinct s
+    ∷ tokensDistinct s
+    ∷ rowsLive s
+    ∷ rowsOnce s
+    ∷ rowsAlone s
+    ∷ rowsLeaseless s
+    ∷ []
 
 module _ (s : State) (e : sound s ≡ true) where
-  sound-parts : (i : ℕ) → getD (sized s ∷ headSound (s .head) ∷ every (λ k. keySound (s .head) (keyOf s k)) keyCount ∷ every (λ i. rowSound (rowAt s i)) rowCount ∷ every (λ j. sessionSound (s .head) (sessionAt s j)) sessionCount ∷ joined s ∷ []) i true ≡ true
+  sound-parts : (i : ℕ) → getD (soundTests s) i true ≡ true
   unfolding sound
-  sound-parts = parts (sized s ∷ headSound (s .head) ∷ every (λ k. keySound (s .head) (keyOf s k)) keyCount ∷ every (λ i. rowSound (rowAt s i)) rowCount ∷ every (λ j. sessionSound (s .head) (sessionAt s j)) sessionCount ∷ joined s ∷ []) e
+  sound-parts = parts (soundTests s) e
 
-  sizes : (i : ℕ) → getD (eqb (length (s .keys)) keyCount ∷ eqb (length (s .sessions)) sessionCount ∷ eqb (length (s .rows)) rowCount ∷ []) i true ≡ true
+  size-parts : (i : ℕ) → getD (sizeTests s) i true ≡ true
   unfolding sized
-  sizes = parts (eqb (length (s .keys)) keyCount ∷ eqb (length (s .sessions)) sessionCount ∷ eqb (length (s .rows)) rowCount ∷ []) (sound-parts 0)
+  size-parts = parts (sizeTests s) (sound-parts 0)
 
-  heads : (i : ℕ) → getD (clockSound (s .head) ∷ lifetime (s .head .readLife) ∷ lifetime (s .head .writeLife) ∷ nextSound (s .head .nextSession) ∷ nextSound (s .head .nextToken) ∷ []) i true ≡ true
+  head-parts : (i : ℕ) → getD (headTests s) i true ≡ true
   unfolding headSound
-  heads = parts (clockSound (s .head) ∷ lifetime (s .head .readLife) ∷ lifetime (s .head .writeLife) ∷ nextSound (s .head .nextSession) ∷ nextSound (s .head .nextToken) ∷ []) (sound-parts 1)
+  head-parts = parts (headTests s) (sound-parts 1)
 
-  joins : (i : ℕ) → getD (numbersDistinct s ∷ tokensDistinct s ∷ rowsLive s ∷ rowsOnce s ∷ rowsAlone s ∷ rowsLeaseless s ∷ []) i true ≡ true
+  join-parts : (i : ℕ) → getD (joinTests s) i true ≡ true
   unfolding joined
-  joins = parts (numbersDistinct s ∷ tokensDistinct s ∷ rowsLive s ∷ rowsOnce s ∷ rowsAlone s ∷ rowsLeaseless s ∷ []) (sound-parts 5)
+  join-parts = parts (joinTests s) (sound-parts 5)
 
   -- 256 keys, 128 sessions, 384 Q rows
   pub keys-length : length (s .keys) ≡ keyCount
-  keys-length = eqb-true (length (s .keys)) keyCount (sizes 0)
+  keys-length = eqb-true (length (s .keys)) keyCount (size-parts 0)
 
   pub sessions-length : length (s .sessions) ≡ sessionCount
-  sessions-length = eqb-true (length (s .sessions)) sessionCount (sizes 1)
+  sessions-length = eqb-true (length (s .sessions)) sessionCount (size-parts 1)
 
   pub rows-length : length (s .rows) ≡ rowCount
-  rows-length = eqb-true (length (s .rows)) rowCount (sizes 2)
+  rows-length = eqb-true (length (s .rows)) rowCount (size-parts 2)
 
   key-at : (k : ℕ) → (cachedSound (keyOf s k .value) ≡ true) × (leaseSound (s .head) (leaseOn s k) ≡ true)
   unfolding keySound
@@ -230,14 +261,14 @@ module _ (s : State) (e : sound s ≡ true) where
 
   row-joined : (i n k d : ℕ) (u : Staged) → rowAt s i ≡ row n k d u → (someAt (λ j. eqb (numberAt s j) n) sessionCount ≡ true) × (tokenAt s k ≡ 0)
   unfolding rowsLive rowsLeaseless
-  row-joined i n k d u p = (rw p at (every-place (s .rows) noRow (liveRow s) rowCount rows-length refl (joins 2) i), eqb-true (tokenAt s k) 0 (rw p at (every-place (s .rows) noRow (leaseless s) rowCount rows-length refl (joins 5) i)))
+  row-joined i n k d u p = (rw p at (every-place (s .rows) noRow (liveRow s) rowCount rows-length refl (join-parts 2) i), eqb-true (tokenAt s k) 0 (rw p at (every-place (s .rows) noRow (leaseless s) rowCount rows-length refl (join-parts 5) i)))
 
   -- two rows, the lower place first
   row-pair : (i j n k d : ℕ) (u : Staged) → rowAt s i ≡ row n k d u → j < i → (once (rowAt s j) (rowAt s i) ≡ true) × (shares (rowAt s j) (rowAt s i) ≡ true)
   unfolding rowsOnce rowsAlone
   row-pair i j n k d u p l = (
-    pairs-all (λ j i. once (rowAt s j) (rowAt s i)) rowCount i j (joins 3) (row-inside s i n k d u rows-length p) l,
-    pairs-all (λ j i. shares (rowAt s j) (rowAt s i)) rowCount i j (joins 4) (row-inside s i n k d u rows-length p) l,
+    pairs-all (λ j i. once (rowAt s j) (rowAt s i)) rowCount i j (join-parts 3) (row-inside s i n k d u rows-length p) l,
+    pairs-all (λ j i. shares (rowAt s j) (rowAt s i)) rowCount i j (join-parts 4) (row-inside s i n k d u rows-length p) l,
   )
 
   tokens-differ : (k j : ℕ) (l m : Lease) → leaseOn s k ≡ some l → leaseOn s j ≡ some m → l .token ≡ m .token → k ≡ j
@@ -245,14 +276,14 @@ module _ (s : State) (e : sound s ≡ true) where
   tokens-differ k j l m a b t =
       let x : tokenAt s k ≡ l .token = ap tokenIn a in
       let y : tokenAt s j ≡ m .token = ap tokenIn b in
-      distinct-same (tokenAt s) keyCount k j (joins 1) (key-inside s k l keys-length a) (key-inside s j m keys-length b) (rw x (lease-at k l a .1 .positive)) (x ∙ t ∙ sym y)
+      distinct-same (tokenAt s) keyCount k j (join-parts 1) (key-inside s k l keys-length a) (key-inside s j m keys-length b) (rw x (lease-at k l a .1 .positive)) (x ∙ t ∙ sym y)
 
   numbers-differ : (i j : ℕ) (x y : Session) → sessionAt s i ≡ session x → sessionAt s j ≡ session y → x .number ≡ y .number → i ≡ j
   unfolding numbersDistinct SessionOf
   numbers-differ i j x y a b t =
       let v : numberAt s i ≡ x .number = ap numberIn a in
       let w : numberAt s j ≡ y .number = ap numberIn b in
-      distinct-same (numberAt s) sessionCount i j (joins 0) (session-inside s i x sessions-length a) (session-inside s j y sessions-length b) (rw v (session-at i x a .1 .positive)) (v ∙ t ∙ sym w)
+      distinct-same (numberAt s) sessionCount i j (join-parts 0) (session-inside s i x sessions-length a) (session-inside s j y sessions-length b) (rw v (session-at i x a .1 .positive)) (v ∙ t ∙ sym w)
 
   -- what is sound is well formed at its own clock
   pub sound-means : WellFormed s (s .head .clock)
@@ -270,14 +301,14 @@ module _ (s : State) (e : sound s ≡ true) where
           | inr b ↦ shares-means (rowAt s j) (rowAt s i) (row-pair i j n k d u p b .1) q p .1
         ])
       ];
-      plain = λ i n k v p. omega (arith, row-at i n k 1 (staged v) p .2 .what .0);
+      plain = λ i n k v p. omega (arith, row-at i n k INVALIDATE (staged v) p .2 .what .0);
     };
     head = record {
-      time = leb-true (s .head .clock) timeMax (heads 0);
-      readLife = within-means 1 lifeMax (s .head .readLife) (heads 1);
-      writeLife = within-means 1 lifeMax (s .head .writeLife) (heads 2);
-      nextSession = within-means 1 numberMax (s .head .nextSession) (heads 3);
-      nextToken = within-means 1 numberMax (s .head .nextToken) (heads 4);
+      time = leb-true (s .head .clock) timeMax (head-parts 0);
+      readLife = within-means 1 lifeMax (s .head .readLife) (head-parts 1);
+      writeLife = within-means 1 lifeMax (s .head .writeLife) (head-parts 2);
+      nextSession = within-means 1 numberMax (s .head .nextSession) (head-parts 3);
+      nextToken = within-means 1 numberMax (s .head .nextToken) (head-parts 4);
     };
     keys = record { length = keys-length; values = λ k {v} p. value-means v (rw p at (key-at k .0)); leases = λ k {l} p. lease-at k l p .1; distinct = λ k j {l} {m} a b t. tokens-differ k j l m a b t };
     sessions = record { length = sessions-length; each = λ i {x} p. session-at i x p .1 };
@@ -321,18 +352,43 @@ module _ (s : State) (h : WellFormed s (s .head .clock)) where
   joined-sound : joined s ≡ true
   unfolding joined rowsLive rowsOnce rowsAlone rowsLeaseless numbersDistinct tokensDistinct
   joined-sound =
-      both (same-distinct (numberAt s) sessionCount (λ i j a q. same-number i j (numberAt s i) refl (sym q) a))
-      (both (same-distinct (tokenAt s) keyCount (λ i j a q. same-token i j (tokenAt s i) refl (sym q) a))
-      (both (all-every (λ i. liveRow s (rowAt s i)) rowCount (λ i l. lives i (rowAt s i) refl))
-      (both (all-pairs (λ j i. once (rowAt s j) (rowAt s i)) rowCount (λ i j l a. means-once (rowAt s j) (rowAt s i) (λ n k d e u v p q. let z = h .rows .once j i p q in omega arith)))
-      (both (all-pairs (λ j i. shares (rowAt s j) (rowAt s i)) rowCount (λ i j l a. means-shares (rowAt s j) (rowAt s i) (λ m n k d e u v p q. both-one i j m n k d e u v a p q)))
+      and-both (same-distinct (numberAt s) sessionCount (λ i j a q. same-number i j (numberAt s i) refl (sym q) a))
+      (and-both (same-distinct (tokenAt s) keyCount (λ i j a q. same-token i j (tokenAt s i) refl (sym q) a))
+      (and-both (all-every (λ i. liveRow s (rowAt s i)) rowCount (λ i l. lives i (rowAt s i) refl))
+      (and-both (all-pairs (λ j i. once (rowAt s j) (rowAt s i)) rowCount (λ i j l a. means-once (rowAt s j) (rowAt s i) (λ n k d e u v p q. let z = h .rows .once j i p q in omega arith)))
+      (and-both (all-pairs (λ j i. shares (rowAt s j) (rowAt s i)) rowCount (λ i j l a. means-shares (rowAt s j) (rowAt s i) (λ m n k d e u v p q. both-one i j m n k d e u v a p q)))
       (all-every (λ i. leaseless s (rowAt s i)) rowCount (λ i l. bare i (rowAt s i) refl))))))
 
+  sized-sound : sized s ≡ true
+  unfolding sized
+  sized-sound =
+      and-both (eq-eqb (length (s .keys)) keyCount (h .keys .length))
+      (and-both (eq-eqb (length (s .sessions)) sessionCount (h .sessions .length)) (eq-eqb (length (s .rows)) rowCount (h .rows .length)))
+
+  head-sound : headSound (s .head) ≡ true
+  unfolding headSound
+  head-sound =
+      and-both (le-leb (s .head .clock) timeMax (h .head .time))
+      (and-both (means-within 1 lifeMax (s .head .readLife) (h .head .readLife))
+      (and-both (means-within 1 lifeMax (s .head .writeLife) (h .head .writeLife))
+      (and-both (means-within 1 numberMax (s .head .nextSession) (h .head .nextSession)) (means-within 1 numberMax (s .head .nextToken) (h .head .nextToken)))))
+
+  key-sound : (k : ℕ) → keySound (s .head) (keyOf s k) ≡ true
+  unfolding keySound LeaseOf
+  key-sound k = and-both (means-cached (keyOf s k .value) (λ v p. h .keys .values k p)) (means-lease (s .head) (leaseOn s k) (λ l p. (h .orderly .leases k l p .0, h .keys .leases k p)))
+
+  row-sound : (i : ℕ) → rowSound (rowAt s i) ≡ true
+  row-sound i = means-row (rowAt s i) (λ n k d u p. (named-by i n k d u p, h .orderly .kinds i n k d u p, h .rows .each i p))
+
+  session-sound : (j : ℕ) → sessionSound (s .head) (sessionAt s j) ≡ true
+  unfolding SessionOf
+  session-sound j = means-session (s .head) (sessionAt s j) (λ x p. (h .orderly .numbers j x p, h .sessions .each j p))
+
   pub means-sound : sound s ≡ true
-  unfolding sound sized headSound keySound LeaseOf SessionOf
+  unfolding sound
   means-sound =
-      both (both (eq-eqb (length (s .keys)) keyCount (h .keys .length)) (both (eq-eqb (length (s .sessions)) sessionCount (h .sessions .length)) (eq-eqb (length (s .rows)) rowCount (h .rows .length))))
-      (both (both (le-leb (s .head .clock) timeMax (h .head .time)) (both (means-within 1 lifeMax (s .head .readLife) (h .head .readLife)) (both (means-within 1 lifeMax (s .head .writeLife) (h .head .writeLife)) (both (means-within 1 numberMax (s .head .nextSession) (h .head .nextSession)) (means-within 1 numberMax (s .head .nextToken) (h .head .nextToken))))))
-      (both (all-every (λ k. keySound (s .head) (keyOf s k)) keyCount (λ k l. both (means-cached (keyOf s k .value) (λ v p. h .keys .values k p)) (means-lease (s .head) (leaseOn s k) (λ l p. (h .orderly .leases k l p .0, h .keys .leases k p)))))
-      (both (all-every (λ i. rowSound (rowAt s i)) rowCount (λ i l. means-row (rowAt s i) (λ n k d u p. (named-by i n k d u p, h .orderly .kinds i n k d u p, h .rows .each i p))))
-      (both (all-every (λ j. sessionSound (s .head) (sessionAt s j)) sessionCount (λ j l. means-session (s .head) (sessionAt s j) (λ x p. (h .orderly .numbers j x p, h .sessions .each j p)))) joined-sound))))
+      and-both sized-sound
+      (and-both head-sound
+      (and-both (all-every (λ k. keySound (s .head) (keyOf s k)) keyCount (λ k l. key-sound k))
+      (and-both (all-every (λ i. rowSound (rowAt s i)) rowCount (λ i l. row-sound i))
+      (and-both (all-every (λ j. sessionSound (s .head) (sessionAt s j)) sessionCount (λ j l. session-sound j)) joined-sound))))

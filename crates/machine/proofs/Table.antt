@@ -8,7 +8,8 @@ use native.Mathlib.Omega.{arith}
 use lib.Dec.{eqb}
 use borrow.Author.Tests.{eqb-true, ne-eqb}
 use lib.ListN.{length, getD, length-map, List·getD-map}
-use Rattle.machine.specs.Decision.{decisions, decision, grants}
+use Rattle.machine.specs.Words.{INVALIDATE}
+use Rattle.machine.specs.Decision.{heldCount, askedCount, decisions, decision, grants}
 use Rattle.machine.specs.declared.Verdict.{Verdict}
 use Rattle.machine.specs.declared.Verdict.the-variants.{Grant, Void, BackOff, Abort}
 use mathlib.Core.Logic.{_⊎_, inl, inr}
@@ -34,9 +35,9 @@ from-length (suc n) i = ap suc (from-length n (suc i))
 
 -- the table, row by row, as the rule computes it
 abbrev rowBy : ℕ → List Verdict
-rowBy held = map (verdictBy held) (from 0 4)
+rowBy held = map (verdictBy held) (from 0 askedCount)
 
-computed : decisions ≡ map rowBy (from 0 5)
+computed : decisions ≡ map rowBy (from 0 heldCount)
 computed = refl
 
 -- within a list the default does not matter
@@ -45,39 +46,39 @@ getD-any [] i d e h = absurd (omega arith)
 getD-any (x ∷ l) zero d e h = refl
 getD-any (x ∷ l) (suc i) d e h = getD-any l i d e (omega arith)
 
-at-map : {A B : Type 0} (f : A → B) (l : List A) (i : ℕ) (d : A) (e : B) → i < length l → getD (map f l) i e ≡ f (getD l i d)
+pub at-map : {A B : Type 0} (f : A → B) (l : List A) (i : ℕ) (d : A) (e : B) → i < length l → getD (map f l) i e ≡ f (getD l i d)
 at-map f l i d e h = getD-any (map f l) i e (f d) (rw (length-map l f) h) ∙ List·getD-map f l i d
 
-pub decision-by : (held asked : ℕ) → held < 5 → asked < 4 → decision held asked ≡ verdictBy held asked
+pub decision-by : (held asked : ℕ) → held < heldCount → asked < askedCount → decision held asked ≡ verdictBy held asked
 unfolding decision
 decision-by held asked h a =
     ap (λ (l : List (List Verdict)). getD (getD l held []) asked Abort) computed
-    ∙ ap (λ (l : List Verdict). getD l asked Abort) (at-map rowBy (from 0 5) held 0 [] (rw (from-length 5 0) h) ∙ ap rowBy (upto-at 5 held h))
-    ∙ (at-map (verdictBy held) (from 0 4) asked 0 Abort (rw (from-length 4 0) a) ∙ ap (verdictBy held) (upto-at 4 asked a))
+    ∙ ap (λ (l : List Verdict). getD l asked Abort) (at-map rowBy (from 0 heldCount) held 0 [] (rw (from-length heldCount 0) h) ∙ ap rowBy (upto-at heldCount held h))
+    ∙ (at-map (verdictBy held) (from 0 askedCount) asked 0 Abort (rw (from-length askedCount 0) a) ∙ ap (verdictBy held) (upto-at askedCount asked a))
 
 -- of two Q leases on one key, held (one more than its kind) and asked, only Q1 shares with Q1
-pub only-Q1-shares : (held asked : ℕ) → 2 ≤ held → held < 5 → 1 ≤ asked → asked < 4 → grants (decision held asked) ≡ true → (held ≡ 2) × (asked ≡ 1)
-only-Q1-shares held asked l h m a e = go (case-of (eqb held 2 && eqb asked 1))
+pub only-Q1-shares : (held asked : ℕ) → suc INVALIDATE ≤ held → held < heldCount → INVALIDATE ≤ asked → asked < askedCount → grants (decision held asked) ≡ true → (held ≡ suc INVALIDATE) × (asked ≡ INVALIDATE)
+only-Q1-shares held asked l h m a e = go (case-of (eqb held (suc INVALIDATE) && eqb asked INVALIDATE))
   where
     here : grants (verdictBy held asked) ≡ true
     here = rw (decision-by held asked h a) at e
 
-    go : ((eqb held 2 && eqb asked 1) ≡ true) ⊎ ((eqb held 2 && eqb asked 1) ≡ false) → (held ≡ 2) × (asked ≡ 1)
-    go (inl q) = (eqb-true held 2 (and-yes (eqb held 2) (eqb asked 1) q .0), eqb-true asked 1 (and-yes (eqb held 2) (eqb asked 1) q .1))
+    go : ((eqb held (suc INVALIDATE) && eqb asked INVALIDATE) ≡ true) ⊎ ((eqb held (suc INVALIDATE) && eqb asked INVALIDATE) ≡ false) → (held ≡ suc INVALIDATE) × (asked ≡ INVALIDATE)
+    go (inl q) = (eqb-true held (suc INVALIDATE) (and-yes (eqb held (suc INVALIDATE)) (eqb asked INVALIDATE) q .0), eqb-true asked INVALIDATE (and-yes (eqb held (suc INVALIDATE)) (eqb asked INVALIDATE) q .1))
     go (inr q) = clash false (rw (ne-eqb held 0 (λ p. omega arith), ne-eqb asked 0 (λ p. omega arith), ne-eqb held 1 (λ p. omega arith), q) at here) refl
 
-pub Q1-shares : decision 2 1 ≡ Grant
+pub Q1-shares : decision (suc INVALIDATE) INVALIDATE ≡ Grant
 unfolding decision
 Q1-shares = refl
 
 -- a quarantined key, and one with an I lease, grants no I lease
-pub quarantined-backs-off : (held : ℕ) → 1 ≤ held → held < 5 → decision held 0 ≡ BackOff
+pub quarantined-backs-off : (held : ℕ) → 1 ≤ held → held < heldCount → decision held 0 ≡ BackOff
 quarantined-backs-off held l h = decision-by held 0 h (omega arith) ∙ rw (ne-eqb held 0 (λ p. omega arith))
 
 -- any Q voids an I lease
-pub Q-voids-I : (asked : ℕ) → 1 ≤ asked → asked < 4 → decision 1 asked ≡ Void
+pub Q-voids-I : (asked : ℕ) → INVALIDATE ≤ asked → asked < askedCount → decision 1 asked ≡ Void
 Q-voids-I asked m a = decision-by 1 asked (omega arith) a ∙ rw (ne-eqb asked 0 (λ p. omega arith))
 
 -- where nothing is held everything is granted
-pub free-grants : (asked : ℕ) → asked < 4 → decision 0 asked ≡ Grant
+pub free-grants : (asked : ℕ) → asked < askedCount → decision 0 asked ≡ Grant
 free-grants asked a = decision-by 0 asked (omega arith) a

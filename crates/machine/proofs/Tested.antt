@@ -5,7 +5,7 @@ use mathlib.Core.Bool.{Bool, true, false, not, _&&_, or-true}
 use mathlib.Core.Logic.{_⊎_, inl, inr}
 use mathlib.Core.List.{List, [], _∷_, List·Memᴰ, List·Memᴰ·head, List·Memᴰ·tail}
 use mathlib.Core.Option.{Option, none, some}
-use Prim.Native.Nat.{ℕ, suc}
+use Prim.Native.Nat.{ℕ, _<_}
 use native.Mathlib.Omega.{arith}
 use borrow.Author.Tests.{eqb-true, eq-eqb, not-false, not-true}
 use lib.Dec.{eqb}
@@ -16,7 +16,7 @@ use Rattle.lent.proofs.Choices.{and-yes, case-of, clash, if-ind}
 use Rattle.machine.specs.Tables.{any}
 use Rattle.machine.specs.Words.{wordOf, STORED, DONE, UNDONE}
 use Rattle.machine.specs.Session.{sealedLife}
-use Rattle.machine.specs.State.{Value, Slot, noSession, session, nothing, staged, DROP, Row, noRow, row, State, freeRow, numbered, ofOn, sessionPlace, sessionOf, rowOf, leaseOn, sessionAt}
+use Rattle.machine.specs.State.{Value, Slot, noSession, session, nothing, staged, DROP, Row, noRow, row, State, free, freeRow, numbered, sessionPlace, sessionOf, rowOf, leaseOn, sessionAt}
 use Rattle.machine.specs.Refusals.{sealedIn, sealedSlot, refusal}
 use Rattle.machine.specs.Expiry.{expire}
 use Rattle.machine.specs.Effects.{Outcome, matches, fills, effect}
@@ -30,7 +30,7 @@ use Rattle.machine.specs.declared.Answer.{Answer}
 use Rattle.machine.specs.declared.Command.{Command}
 use Rattle.machine.specs.declared.Command.the-variants.{Begin, Get, Fill, Quar, Stage, Delta, Validate, Done, Undo, Evict, Tick}
 use Rattle.machine.proofs.Views
-use Rattle.machine.proofs.Accepted.{row-of}
+use Rattle.machine.proofs.Accepted.{session-of, row-of, found-row}
 use Rattle.machine.proofs.Shape.{orderly-next}
 
 any-mem : (v : Value) (l : List Value) → any (same v) l ≡ true → List·Memᴰ v l
@@ -45,16 +45,16 @@ mem-any : (v : Value) (l : List Value) → List·Memᴰ v l → any (same v) l �
 mem-any v (x ∷ l) (List·Memᴰ·head e) = rw (eq-same v x e)
 mem-any v (x ∷ l) (List·Memᴰ·tail m) = rw (mem-any v l m) (or-true (same v x))
 
--- A rule under its answer: b is the test of the answer, c that the rule is broken
+-- A rule under its answer: b is the test of the answer, c that the rule is broken, n the rule's number
 
-broken-not : (b c : Bool) (n : ℕ) → (if b && c then suc n else 0) ≡ 0 → b ≡ true → c ≡ false
-broken-not true true n e p = absurd (omega arith)
-broken-not true false n e p = refl
-broken-not false c n e p = clash false p refl
+rule-unbroken : (b c : Bool) (n : ℕ) → 0 < n → (if b && c then n else 0) ≡ 0 → b ≡ true → c ≡ false
+rule-unbroken true true n h e p = absurd (omega arith)
+rule-unbroken true false n h e p = refl
+rule-unbroken false c n h e p = clash false p refl
 
-not-broken : (b c : Bool) (n : ℕ) → (b ≡ true → c ≡ false) → (if b && c then n else 0) ≡ 0
-not-broken true c n f = rw (f refl)
-not-broken false c n f = refl
+verdict-zero : (b c : Bool) (n : ℕ) → (b ≡ true → c ≡ false) → (if b && c then n else 0) ≡ 0
+verdict-zero true c n f = rw (f refl)
+verdict-zero false c n f = refl
 
 -- the word of FILL's, DONE's and UNDO's outcome is that of one answer
 Says : Answer → Outcome → Type 0
@@ -117,13 +117,13 @@ sealed-life : (p : Life) → sealedLife p ≡ true → p ≡ Life.Sealed
 sealed-life Life.Sealed e = refl
 sealed-life (Life.Open t) e = clash false e refl
 
+sealed-live : (y : Slot) → sealedSlot y ≡ true → free y ≡ false
+sealed-live noSession e = clash false e refl
+sealed-live (session x) e = refl
+
 sealed-is : (s : State) (n : ℕ) → sealedIn s n ≡ true → Sealed s n
-sealed-is s n e = go (sessionOf s n) refl (Views.find-test (numbered n) noSession (s .sessions)) e
-  where
-    go : (y : Slot) → sessionOf s n ≡ y → (y ≡ noSession) ⊎ (numbered n y ≡ true) → sealedSlot y ≡ true → Sealed s n
-    go noSession p q r = clash false r refl
-    go (session x) p (inl q) r = Views.no-session x (sym q)
-    go (session x) p (inr q) r = record { place = sessionPlace s n; live = x; is = p; number = eqb-true (x .number) n q; life = sealed-life (x .life) r }
+sealed-is s n e = let x = session-of s n (sealed-live (sessionOf s n) e) in
+    record { place = sessionPlace s n; live = x .0; is = x .1; number = x .2; life = sealed-life (x .0 .life) (rw (x .1) at e) }
 
 -- numbers are unique, so the session found by its number is the sealed one
 is-sealed : (s : State) (n : ℕ) → Orderly s → Sealed s n → sealedIn s n ≡ true
@@ -137,21 +137,18 @@ is-sealed s n h w = go (sessionOf s n) refl (Views.find-passes (numbered n) noSe
         let it : x ≡ w .live = cc in
         rw (ap (λ (y : Session). y .life) it ∙ w .life)
 
-row-taken : (s : State) (n k : ℕ) → HasRow (s .rows) n k → freeRow (rowOf s n k) ≡ false
-row-taken s n k w = Views.of-on-taken n k (rowOf s n k) (Views.find-passes (ofOn n k) noRow (s .rows) (w .place) refl (rw (w .is, eq-eqb n n refl, eq-eqb k k refl)))
-
 -- Each event
 
 rules-of : (w : World) (c : Command) (v : Value) (a : Answer) → brokenBy w c v a ≡ 0 → Rules w c v a
 rules-of w Begin v a e = tt
 rules-of w (Get n k) v a e = tt
-rules-of w (Fill t k) v a e = λ p. any-mem v (w .since t k) (not-false _ (broken-not (eqb (wordOf a) STORED) (not (any (same v) (w .since t k))) 0 e (rw p)))
+rules-of w (Fill t k) v a e = λ p. any-mem v (w .since t k) (not-false _ (rule-unbroken (eqb (wordOf a) STORED) (not (any (same v) (w .since t k))) 1 (omega arith) e (rw p)))
 rules-of w (Quar n k d) v a e = tt
 rules-of w (Stage n i k) v a e = tt
 rules-of w (Delta n i k o) v a e = tt
 rules-of w (Validate n m) v a e = tt
-rules-of w (Done n) v a e = λ p. agreeing (w .register) n (w .state .rows) (broken-not (eqb (wordOf a) DONE) (any (differs (w .register) n) (w .state .rows)) 3 e (rw p))
-rules-of w (Undo n) v a e = λ p. broken-not (eqb (wordOf a) UNDONE) (w .wrote n) 2 e (rw p)
+rules-of w (Done n) v a e = λ p. agreeing (w .register) n (w .state .rows) (rule-unbroken (eqb (wordOf a) DONE) (any (differs (w .register) n) (w .state .rows)) 4 (omega arith) e (rw p))
+rules-of w (Undo n) v a e = λ p. rule-unbroken (eqb (wordOf a) UNDONE) (w .wrote n) 3 (omega arith) e (rw p)
 rules-of w (Evict k) v a e = tt
 rules-of w Tick v a e = tt
 
@@ -168,18 +165,18 @@ pub kept-unbroken : (w : World) (e : Event) → Orderly (w .state) → Kept w e 
 unfolding Says
 kept-unbroken w (command now Begin v) h rule = refl
 kept-unbroken w (command now (Get n k) v) h rule = refl
-kept-unbroken w (command now (Fill t k) v) h rule = not-broken (eqb (wordOf (step (w .state) now (Fill t k) v .answer)) STORED) (not (any (same v) (w .since t k))) 1
+kept-unbroken w (command now (Fill t k) v) h rule = verdict-zero (eqb (wordOf (step (w .state) now (Fill t k) v .answer)) STORED) (not (any (same v) (w .since t k))) 1
     (λ p. rw (mem-any v (w .since t k) (rule (says-stored (w .state) now v t k p))))
 kept-unbroken w (command now (Quar n k d) v) h rule = refl
 kept-unbroken w (command now (Stage n i k) v) h rule = refl
 kept-unbroken w (command now (Delta n i k o) v) h rule = refl
 kept-unbroken w (command now (Validate n m) v) h rule = refl
-kept-unbroken w (command now (Done n) v) h rule = not-broken (eqb (wordOf (step (w .state) now (Done n) v .answer)) DONE) (any (differs (w .register) n) (expire now (w .state) .rows)) 4
+kept-unbroken w (command now (Done n) v) h rule = verdict-zero (eqb (wordOf (step (w .state) now (Done n) v .answer)) DONE) (any (differs (w .register) n) (expire now (w .state) .rows)) 4
     (λ p. none-differs (w .register) n (expire now (w .state) .rows) (rule (says-done (w .state) now v n p)))
-kept-unbroken w (command now (Undo n) v) h rule = not-broken (eqb (wordOf (step (w .state) now (Undo n) v .answer)) UNDONE) (w .wrote n) 3 (λ p. rule (says-undone (w .state) now v n p))
+kept-unbroken w (command now (Undo n) v) h rule = verdict-zero (eqb (wordOf (step (w .state) now (Undo n) v .answer)) UNDONE) (w .wrote n) 3 (λ p. rule (says-undone (w .state) now v n p))
 kept-unbroken w (command now (Evict k) v) h rule = refl
 kept-unbroken w (command now Tick v) h rule = refl
-kept-unbroken w (write n k v) h rule = rw (is-sealed (w .state) n h (rule .0), row-taken (w .state) n k (rule .1))
+kept-unbroken w (write n k v) h rule = rw (is-sealed (w .state) n h (rule .0), found-row (w .state) n k (rule .1))
 
 -- Each run
 

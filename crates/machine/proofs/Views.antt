@@ -1,7 +1,7 @@
 -- Views of the tables after a change: each law says what stands at a place of a table, in terms of what stood there before.
 -- A fact about a table is always an equation on the entry at a place, so that constructors tell entries apart by themselves.
 use mathlib.Core.Path.{_≡_, refl, sym, ap, _∙_, subst}
-use mathlib.Core.Bool.{Bool, true, false, _||_, or-true}
+use mathlib.Core.Bool.{Bool, true, false, or-true}
 use mathlib.Core.Logic.{_⊎_, inl, inr}
 use mathlib.Core.List.{List, [], _∷_}
 use mathlib.Core.Option.{Option, none, some}
@@ -11,16 +11,19 @@ use lib.Dec.{eqb, leb}
 use borrow.Author.Tests.{eqb-true, eqb-false, eq-eqb, leb-false}
 use lib.ListN.{getD, set, replicate}
 use Rattle.lent.specs.Tables.{if_then_else_}
-use Rattle.lent.proofs.Choices.{case-of, clash, zero-one}
+use Rattle.lent.proofs.Choices.{and-yes, case-of, clash, zero-one}
+use Rattle.machine.specs.Sizes.{keyCount, sessionCount, rowCount}
+use Rattle.machine.specs.Words.{wordOf}
 use Rattle.machine.specs.Tables.{place, find, any, first, mem}
 use Rattle.machine.specs.Session.{dueLife}
-use Rattle.machine.specs.State.{Value, Lease, Key, blank, Slot, noSession, session, Staged, nothing, staged, DROP, Row, noRow, row, on, free, freeRow, ofOn, numbered}
+use Rattle.machine.specs.State.{Value, Lease, Key, blank, Slot, noSession, session, Staged, nothing, staged, DROP, Row, noRow, row, fresh, on, free, freeRow, ofOn, numbered, cached, leaseOn, sessionAt, rowAt}
 use Rattle.machine.specs.Expiry.{freeIfOf, freeSession, setValue, setLease, settle, those, unlapsed}
 use Rattle.machine.specs.Effects.{toCache}
 use Rattle.machine.specs.declared.Life.{Life}
 use Rattle.machine.specs.declared.Session.{Session}
+use Rattle.machine.specs.declared.Answer.{Answer}
 
--- Constructors that differ
+-- Constructors that differ: from an equation of two of them at hand, `cc` gives 0 ≡ 1
 
 pub no-some : {A B : Type 0} (b : B) → none ≡ some b → A
 no-some b e = zero-one cc
@@ -30,6 +33,10 @@ no-row n k d v e = zero-one cc
 
 pub no-session : {A : Type 0} (l : Session) → noSession ≡ session l → A
 no-session l e = zero-one cc
+
+-- two answers of different words
+pub answers-differ : {A : Type 0} (a b : Answer) → eqb (wordOf a) (wordOf b) ≡ false → a ≡ b → A
+answers-differ a b q e = clash (eqb (wordOf a) (wordOf b)) (eq-eqb (wordOf a) (wordOf b) (ap wordOf e)) q
 
 pub some-eq : {A : Type 0} (a b : A) → some a ≡ some b → a ≡ b
 some-eq a b e = cc
@@ -87,11 +94,7 @@ module _ {A : Type 0} where
   pub any-at : (p : A → Bool) (d : A) (l : List A) (i : ℕ) → p d ≡ false → p (getD l i d) ≡ true → any p l ≡ true
   any-at p d [] i e h = clash (p d) h e
   any-at p d (x ∷ l) zero e h = rw h
-  any-at p d (x ∷ l) (suc i) e h = go (p x) (any-at p d l i e h)
-    where
-      go : (b : Bool) → any p l ≡ true → (b || any p l) ≡ true
-      go true r = refl
-      go false r = r
+  any-at p d (x ∷ l) (suc i) e h = rw (any-at p d l i e h) (or-true (p x))
 
   pub any-place : (p : A → Bool) (d : A) (l : List A) → any p l ≡ true → (i : ℕ) × (p (getD l i d) ≡ true)
   any-place p d [] h = clash false h refl
@@ -106,6 +109,24 @@ pub getD-same : {A : Type 0} (n i : ℕ) (a : A) → getD (replicate n a) i a �
 getD-same zero i a = refl
 getD-same (suc n) zero a = refl
 getD-same (suc n) (suc i) a = getD-same n i a
+
+-- so nothing stands in the fresh state
+module _ {A : Type 0} (readLife writeLife : ℕ) where
+  pub fresh-value : (k : ℕ) (v : Value) → cached (fresh readLife writeLife) k ≡ some v → A
+  unfolding fresh
+  fresh-value k v e = no-some v (sym (ap (λ (x : Key). x .value) (getD-same keyCount k blank)) ∙ e)
+
+  pub fresh-lease : (k : ℕ) (l : Lease) → leaseOn (fresh readLife writeLife) k ≡ some l → A
+  unfolding fresh
+  fresh-lease k l e = no-some l (sym (ap (λ (x : Key). x .lease) (getD-same keyCount k blank)) ∙ e)
+
+  pub fresh-session : (i : ℕ) (x : Session) → sessionAt (fresh readLife writeLife) i ≡ session x → A
+  unfolding fresh
+  fresh-session i x e = no-session x (sym (getD-same sessionCount i noSession) ∙ e)
+
+  pub fresh-row : (i n k d : ℕ) (v : Staged) → rowAt (fresh readLife writeLife) i ≡ row n k d v → A
+  unfolding fresh
+  fresh-row i n k d v e = no-row n k d v (sym (getD-same rowCount i noRow) ∙ e)
 
 -- a list of one number
 pub mem-one : (m n : ℕ) → mem m (n ∷ []) ≡ true → m ≡ n
@@ -135,6 +156,14 @@ on-row k (row n j d v) e = (n, d, v, ap (λ (x : ℕ). row n x d v) (eqb-true j 
 
 pub row-on : (n k d : ℕ) (v : Staged) (r : Row) → r ≡ row n k d v → on k r ≡ true
 row-on n k d v r e = rw e (eq-eqb k k refl)
+
+pub of-on-row : (n k : ℕ) (r : Row) → ofOn n k r ≡ true → (d : ℕ) × (v : Staged) × (r ≡ row n k d v)
+of-on-row n k noRow e = clash false e refl
+of-on-row n k (row m j d v) e =
+    let p = and-yes (eqb m n) (eqb j k) e in
+    let a : m ≡ n = eqb-true m n (p .0) in
+    let b : j ≡ k = eqb-true j k (p .1) in
+    (d, v, cc)
 
 pub of-on-taken : (n k : ℕ) (r : Row) → ofOn n k r ≡ true → freeRow r ≡ false
 of-on-taken n k noRow e = sym e

@@ -3,20 +3,20 @@
 use mathlib.Core.Path.{_≡_, refl, sym, ap, _∙_, subst}
 use mathlib.Core.Bool.{true, false}
 use mathlib.Core.Logic.{_⊎_, inl, inr}
-use mathlib.Core.List.{List, [], _∷_, map}
+use mathlib.Core.List.{List, [], _∷_}
 use mathlib.Core.Option.{Option, none, some}
 use Prim.Native.Nat.{ℕ, zero, suc, _+_, _-_, _≤_, _<_, max}
 use native.Mathlib.Omega.{arith}
 use lib.Dec.{eqb, leb}
-use lib.ListN.{getD, List·getD-map}
-use borrow.Author.Tests.{eqb-true, eqb-false, eq-eqb, leb-true, leb-false}
-use Rattle.lent.proofs.Choices.{case-of, clash, zero-one}
+use lib.ListN.{length, getD}
+use borrow.Author.Tests.{eqb-true, eqb-false, leb-true, leb-false}
+use Rattle.lent.proofs.Choices.{case-of, clash}
 use Rattle.machine.specs.Tables.{place, find, mem}
 use Rattle.machine.specs.Session.{isDue}
 use Rattle.machine.specs.Decision.{decision}
-use Rattle.machine.specs.State.{Value, Lease, Key, blank, Slot, noSession, session, Staged, Row, noRow, row, State, freeRow, numbered, on, sessionPlace, sessionOf, rowOf, sessionAt, leaseOn}
+use Rattle.machine.specs.State.{Value, Lease, Slot, noSession, session, Staged, Row, noRow, row, State, freeRow, on, sessionPlace, sessionOf, rowOf, sessionAt, leaseOn}
 use Rattle.machine.specs.Sound.{sound}
-use Rattle.machine.specs.Expiry.{leave, finish, lapsedValue, lapsedLease, those, expire}
+use Rattle.machine.specs.Expiry.{leave, finish, those, expire}
 use Rattle.machine.specs.Refusals.{decide, blocked, Sight, sight, refusal}
 use Rattle.machine.specs.Effects.{lifeEnd, slotEnd, later, latest, leaseEnd, lessNow, wait, leased, missed, looked, effect}
 use Rattle.machine.specs.Step.{settled, step}
@@ -28,8 +28,9 @@ use Rattle.machine.specs.declared.Session.{Session}
 use Rattle.machine.specs.declared.Answer.{Answer}
 use Rattle.machine.specs.declared.Command.the-variants.{Get}
 use Rattle.machine.proofs.Views
-use Rattle.machine.proofs.Orderly
+use Rattle.machine.proofs.OrderlyKept
 use Rattle.machine.proofs.Accepted
+use Rattle.machine.proofs.Frames.{expired-was}
 use Rattle.machine.proofs.KeepsSound.{well-expired}
 
 -- After expiry
@@ -37,14 +38,12 @@ use Rattle.machine.proofs.KeepsSound.{well-expired}
 module _ (now : ℕ) (s : State) where
   -- no lease ends at or before now
   pub expired-leases : (k : ℕ) (l : Lease) → leaseOn (expire now s) k ≡ some l → now < l .until
-  unfolding expire finish leave
-  expired-leases k l e = Views.unlapsed-was now (leaseOn s k) l
-      (ap (λ (x : Key). x .lease) (sym (List·getD-map (lapsedLease now) (s .keys) k blank)) ∙ sym (Views.settle-lease (those (isDue now) (s .sessions)) lapsedValue k (s .rows) (map (lapsedLease now) (s .keys))) ∙ e) .1
+  expired-leases k l e = expired-was now s k l e .1
 
   -- and no open session
   pub expired-sessions : (i : ℕ) (x : Session) (until : ℕ) → sessionAt (expire now s) i ≡ session x → x .life ≡ Life.Open until → now < until
   unfolding expire finish leave
-  expired-sessions i x until e q = let r = Orderly.was-session (those (isDue now) (s .sessions)) (s .sessions) i x e in go (r .0) (r .1) (case-of (leb until now))
+  expired-sessions i x until e q = let r = OrderlyKept.was-session (those (isDue now) (s .sessions)) (s .sessions) i x e in go (r .0) (r .1) (case-of (leb until now))
     where
       go : sessionAt s i ≡ session x → mem (x .number) (those (isDue now) (s .sessions)) ≡ false → (leb until now ≡ true) ⊎ (leb until now ≡ false) → now < until
       go p m (inl d) = clash _ (Views.those-has (isDue now) (s .sessions) i x p (rw q d)) m
@@ -126,7 +125,7 @@ module _ (t : State) (now k : ℕ) (h : WellFormed t now) where
   sealed-of : (n : ℕ) → HasRow (t .rows) n k → slotEnd (sessionOf t n) ≡ none → Sealed t n
   sealed-of n r e =
       let x = h .live (r .place) (r .is) in
-      let y = Accepted.session-of t n (Views.numbered-live n (sessionOf t n) (Views.find-passes (numbered n) noSession (t .sessions) (x .place) refl (rw (x .is) (eq-eqb (x .live .number) n (x .number))))) in
+      let y = Accepted.session-of t n (Accepted.found-live t n (x .place) (x .live) (x .is) (x .number)) in
       record { place = sessionPlace t n; live = y .0; is = y .1; number = y .2; life = ended-sealed (y .0 .life) (rw (y .1) at e) }
 
   -- a key that is blocked with no I lease on it has a row on it
@@ -172,18 +171,18 @@ module _ (t : State) (now k : ℕ) (h : WellFormed t now) where
 -- a GET is answered BACKOFF only on a key that is blocked, with the wait
 looked-backoff : (t : State) (now n k w : ℕ) (o : Option Sight) → looked t now n k o .answer ≡ Answer.Backoff w → (blocked t k ≡ true) × (wait t k now ≡ w)
 unfolding looked missed leased
-looked-backoff t now n k w (some x) e = zero-one cc
+looked-backoff t now n k w (some x) e = Views.answers-differ (Answer.Hit (x .at) (length (x .value))) (Answer.Backoff w) refl e
 looked-backoff t now n k w none e = go (case-of (freeRow (rowOf t n k))) (case-of (blocked t k))
   where
     go : (freeRow (rowOf t n k) ≡ true) ⊎ (freeRow (rowOf t n k) ≡ false) → (blocked t k ≡ true) ⊎ (blocked t k ≡ false) → (blocked t k ≡ true) × (wait t k now ≡ w)
     go (inl p) (inl q) = let z : Answer.Backoff (wait t k now) ≡ Answer.Backoff w = rw (p, q) at e in (q, cc)
-    go (inl p) (inr q) = let x : Answer.Lease (t .head .nextToken) ≡ Answer.Backoff w = rw (p, q) at e in zero-one cc
-    go (inr p) q = let x : Answer.Ask ≡ Answer.Backoff w = rw p at e in zero-one cc
+    go (inl p) (inr q) = Views.answers-differ (Answer.Lease (t .head .nextToken)) (Answer.Backoff w) refl (rw (p, q) at e)
+    go (inr p) q = Views.answers-differ Answer.Ask (Answer.Backoff w) refl (rw p at e)
 
 settled-backoff : (s : State) (now n k w : ℕ) (v : Value) → sound s ≡ true → (o : Option ℕ) → refusal (expire now s) now (Get n k) v ≡ o
     → settled s now o (effect (expire now s) now (Get n k) v) .answer ≡ Answer.Backoff w → Waits (expire now s) now k w
 unfolding settled effect
-settled-backoff s now n k w v h (some c) p e = zero-one cc
+settled-backoff s now n k w v h (some c) p e = Views.answers-differ (Answer.Refused c) (Answer.Backoff w) refl e
 settled-backoff s now n k w v h none p e =
     let r = looked-backoff (expire now s) now n k w (sight (expire now s) n k) e in
     subst (Waits (expire now s) now k) (r .1) (waits (expire now s) now k (well-expired s now (Get n k) v h p) (expired-leases now s k) (expired-sessions now s) (r .0))

@@ -13,14 +13,14 @@ use Rattle.lent.proofs.Choices.{zero-one}
 use Rattle.machine.specs.Sizes.{keyCount, stepMax, timeMax, numberMax}
 use Rattle.machine.specs.Tables.{place, mem, putAt}
 use Rattle.machine.specs.Session.{opened, advanced, sealed, isDue}
-use Rattle.machine.specs.State.{Value, Lease, Key, blank, noSession, session, Staged, nothing, staged, DROP, Row, noRow, row, State, free, freeRow, sessionPlace, sessionOf, rowPlace, rowOf, sessionAt, rowAt, cached, leaseOn}
+use Rattle.machine.specs.State.{Value, Lease, Key, blank, noSession, session, Staged, nothing, staged, Row, noRow, row, State, free, freeRow, sessionPlace, sessionOf, rowPlace, rowOf, sessionAt, rowAt, cached, leaseOn}
 use Rattle.machine.specs.Expiry.{withKeys, withRows, withClock, setValue, setLease, freeIfOf, freeSession, settle, leave, finish, lapsedValue, lapsedLease, those, expire}
 use Rattle.machine.specs.Effects.{begins, leased, fills, toCache, onSlot, restaged, withSession, withStaged}
 use Rattle.machine.specs.WellFormed.{Fine, LeaseFits, SessionFits, StagedFits, RowFits, LiveAs, WellFormed, Orderly, Within}
 use Rattle.machine.specs.Words.{INVALIDATE, INCREMENTAL}
 use Rattle.machine.specs.declared.Session.{Session}
 use Rattle.machine.proofs.Views
-use Rattle.machine.proofs.Orderly
+use Rattle.machine.proofs.OrderlyKept
 
 -- time passes
 pub well-later : (s : State) (a b : ℕ) → a ≤ b → b ≤ timeMax → WellFormed s a → WellFormed s b
@@ -40,7 +40,7 @@ well-later s a b q t h = record {
 
 -- the clock is set to that time
 pub well-clock : (s : State) (now : ℕ) → WellFormed s now → WellFormed (withClock s now) now
-well-clock s now h = record { orderly = Orderly.orderly-clock s now (h .orderly); head = record { time = h .head .time; readLife = h .head .readLife; writeLife = h .head .writeLife; nextSession = h .head .nextSession; nextToken = h .head .nextToken }; keys = h .keys; sessions = h .sessions; rows = h .rows; live = h .live }
+well-clock s now h = record { orderly = OrderlyKept.orderly-clock s now (h .orderly); head = record { time = h .head .time; readLife = h .head .readLife; writeLife = h .head .writeLife; nextSession = h .head .nextSession; nextToken = h .head .nextToken }; keys = h .keys; sessions = h .sessions; rows = h .rows; live = h .live }
 
 settle-length : (ns : List ℕ) (f : Staged → Option Value) (rs : List Row) (ks : List Key) → length (settle ns f rs ks) ≡ length ks
 settle-length ns f [] ks = refl
@@ -55,7 +55,7 @@ module _ (s : State) (now : ℕ) (h : WellFormed s now) where
   -- the keys change: each value fits, each lease was there
   pub well-keys : (ks : List Key) → length ks ≡ length (s .keys) → ((k : ℕ) (v : Value) → getD ks k blank .value ≡ some v → Fine v) → ((k : ℕ) (l : Lease) → getD ks k blank .lease ≡ some l → leaseOn s k ≡ some l) → WellFormed (withKeys s ks) now
   well-keys ks n fv fl = record {
-    orderly = Orderly.orderly-keys s ks (λ k l p. inl (fl k l p)) (h .orderly);
+    orderly = OrderlyKept.orderly-keys s ks (λ k l p. inl (fl k l p)) (h .orderly);
     head = h .head;
     keys = record {
       length = n ∙ h .keys .length;
@@ -70,15 +70,8 @@ module _ (s : State) (now : ℕ) (h : WellFormed s now) where
 
   pub well-fill : (k : ℕ) (v : Value) → Fine v → WellFormed (fills s k v .after) now
   unfolding fills
-  well-fill k v fv = well-keys (set (s .keys) k new) (length-set (s .keys) k new) (λ j u p. value j u p (Views.after-set (s .keys) k new j blank)) (Orderly.filled-was s k v)
-    where
-      new : Key
-      new = record { value = some v; lease = none }
-
-      value : (j : ℕ) (u : Value) → getD (set (s .keys) k new) j blank .value ≡ some u → Views.AfterSet (s .keys) k new j blank → Fine u
-      value j u p (Views.other x y) = h .keys .values j (sym (ap (λ (z : Key). z .value) y) ∙ p)
-      value j u p (Views.here x y) = subst Fine (Views.some-eq v u (sym (ap (λ (z : Key). z .value) y) ∙ p)) fv
-      value j u p (Views.out x y z) = Views.no-some u (sym (ap (λ (z : Key). z .value) y) ∙ p)
+  well-fill k v fv = well-keys (set (s .keys) k (record { value = some v; lease = none })) (length-set (s .keys) k _)
+      (λ j u p. elim (OrderlyKept.filled-value s k v j u p) [ inl q ↦ h .keys .values j q | inr q ↦ subst Fine (q .1) fv ]) (OrderlyKept.filled-was s k v)
 
   pub well-evict : (k : ℕ) → WellFormed (withKeys s (setValue (s .keys) k none)) now
   well-evict k = well-keys (setValue (s .keys) k none) (length-set (s .keys) k _)
@@ -89,16 +82,16 @@ module _ (s : State) (now : ℕ) (h : WellFormed s now) where
   pub well-leave : (ns : List ℕ) → WellFormed (leave ns s) now
   unfolding leave
   well-leave ns = record {
-    orderly = Orderly.orderly-leave s ns (h .orderly);
+    orderly = OrderlyKept.orderly-leave s ns (h .orderly);
     head = h .head;
     keys = h .keys;
-    sessions = record { length = length-map (s .sessions) (freeSession ns) ∙ h .sessions .length; each = λ i {x} e. h .sessions .each i (Orderly.was-session ns (s .sessions) i x e .0) };
+    sessions = record { length = length-map (s .sessions) (freeSession ns) ∙ h .sessions .length; each = λ i {x} e. h .sessions .each i (OrderlyKept.was-session ns (s .sessions) i x e .0) };
     rows = record {
       length = length-map (s .rows) (freeIfOf ns) ∙ h .rows .length;
-      each = λ i {n} {k} {d} {u} e. h .rows .each i (Orderly.was-row ns (s .rows) i n k d u e .0);
-      once = λ i j {n} {k} {d} {c} {u} {v} e f. h .rows .once i j (Orderly.was-row ns (s .rows) i n k d u e .0) (Orderly.was-row ns (s .rows) j n k c v f .0);
+      each = λ i {n} {k} {d} {u} e. h .rows .each i (OrderlyKept.was-row ns (s .rows) i n k d u e .0);
+      once = λ i j {n} {k} {d} {c} {u} {v} e f. h .rows .once i j (OrderlyKept.was-row ns (s .rows) i n k d u e .0) (OrderlyKept.was-row ns (s .rows) j n k c v f .0);
     };
-    live = λ i {n} {k} {d} {u} e. let r = Orderly.was-row ns (s .rows) i n k d u e in let x = h .live i (r .0) in
+    live = λ i {n} {k} {d} {u} e. let r = OrderlyKept.was-row ns (s .rows) i n k d u e in let x = h .live i (r .0) in
         record { place = x .place; live = x .live; number = x .number; is = List·getD-map (freeSession ns) (s .sessions) (x .place) noSession ∙ rw (x .is, x .number, r .1) refl };
   }
 
@@ -118,29 +111,27 @@ well-finish s now ns f good h = well-leave (withKeys s ks) now
 pub well-expire : (s : State) (now at : ℕ) → WellFormed s at → WellFormed (expire now s) at
 unfolding expire
 well-expire s now at h = well-finish (withKeys s ks) at (those (isDue now) (s .sessions)) lapsedValue (λ d u v p e. Views.no-some v e)
-    (well-keys s at h ks (length-map (s .keys) (lapsedLease now)) (λ k v e. h .keys .values k (sym (ap (λ (x : Key). x .value) (List·getD-map (lapsedLease now) (s .keys) k blank)) ∙ e)) (Orderly.lapsed-was s now))
+    (well-keys s at h ks (length-map (s .keys) (lapsedLease now)) (λ k v e. h .keys .values k (sym (ap (λ (x : Key). x .value) (List·getD-map (lapsedLease now) (s .keys) k blank)) ∙ e)) (λ k l e. OrderlyKept.lapsed-was s now k l e .0))
   where
     ks : List Key
     ks = map (lapsedLease now) (s .keys)
 
 -- DONE caches what was staged
 pub to-cache-fine : (d : ℕ) (u : Staged) (v : Value) → StagedFits d u → toCache u ≡ some v → Fine v
-to-cache-fine d nothing v p e = Views.no-some v e
-to-cache-fine d (staged x) v p e = subst Fine (Views.some-eq x v e) (p .1)
-to-cache-fine d DROP v p e = Views.no-some v e
+to-cache-fine d u v p e = let q : StagedFits d (staged v) = rw (Views.to-cache u v e) at p in q .1
 
 module _ (s : State) (now : ℕ) (h : WellFormed s now) where
   -- GET answered LEASE, on a key with no row
   pub well-leased : (k : ℕ) → s .head .nextToken < numberMax → ((i n d : ℕ) (v : Staged) → rowAt s i ≡ row n k d v → ⊥) → WellFormed (leased s now k .after) now
   unfolding leased
   well-leased k room unheld = record {
-    orderly = Orderly.orderly-leased s now k unheld (h .orderly);
+    orderly = OrderlyKept.orderly-leased s now k unheld (h .orderly);
     head = record { time = h .head .time; readLife = h .head .readLife; writeLife = h .head .writeLife; nextSession = h .head .nextSession; nextToken = (omega (arith, h .head .nextToken .0), room) };
     keys = record {
       length = length-set (s .keys) k _ ∙ h .keys .length;
       values = λ j p. h .keys .values j (sym (Views.lease-value (s .keys) k (some new) j) ∙ p);
-      leases = λ j {l} p. fits j l (seen j l p);
-      distinct = λ i j {l} {m} p q e. two i j l m e (seen i l p) (seen j m q);
+      leases = λ j {l} p. fits j l (OrderlyKept.leased-was s k new j l p);
+      distinct = λ i j {l} {m} p q e. two i j l m e (OrderlyKept.leased-was s k new i l p) (OrderlyKept.leased-was s k new j m q);
     };
     sessions = h .sessions;
     rows = h .rows;
@@ -152,12 +143,6 @@ module _ (s : State) (now : ℕ) (h : WellFormed s now) where
 
       Seen : ℕ → Lease → Type 0
       Seen j l = (leaseOn s j ≡ some l) ⊎ ((k ≡ j) × (new ≡ l))
-
-      seen : (j : ℕ) (l : Lease) → getD (setLease (s .keys) k (some new)) j blank .lease ≡ some l → Seen j l
-      seen j l p = elim (Views.lease-after (s .keys) k (some new) j) [
-        | inl x ↦ inl (sym (x .1) ∙ p)
-        | inr x ↦ elim (x .1) [ inl y ↦ inr (x .0, Views.some-eq new l (sym y ∙ p)) | inr y ↦ Views.no-some l (sym y ∙ p) ]
-      ]
 
       fits : (j : ℕ) (l : Lease) → Seen j l → LeaseFits (now + s .head .readLife) l
       fits j l (inl p) = h .keys .leases j p
@@ -173,15 +158,15 @@ module _ (s : State) (now : ℕ) (h : WellFormed s now) where
   pub well-begin : s .head .nextSession < numberMax → WellFormed (begins s now .after) now
   unfolding begins
   well-begin room = record {
-    orderly = Orderly.orderly-begin s now (h .orderly);
+    orderly = OrderlyKept.orderly-begin s now (h .orderly);
     head = record { time = h .head .time; readLife = h .head .readLife; writeLife = h .head .writeLife; nextSession = (omega (arith, h .head .nextSession .0), room); nextToken = h .head .nextToken };
     keys = h .keys;
     sessions = record {
       length = length-set (s .sessions) at (session new) ∙ h .sessions .length;
-      each = λ i {x} e. elim (Orderly.was-set (s .sessions) at (session new) i noSession (session x) (Views.no-session x) e) [ inl p ↦ h .sessions .each i p | inr p ↦ (let q : new ≡ x = cc in subst (SessionFits (now + s .head .writeLife)) q fits) ];
+      each = λ i {x} e. elim (OrderlyKept.was-set (s .sessions) at (session new) i noSession (session x) (Views.no-session x) e) [ inl p ↦ h .sessions .each i p | inr p ↦ (let q : new ≡ x = cc in subst (SessionFits (now + s .head .writeLife)) q fits) ];
     };
     rows = h .rows;
-    live = λ i e. let x = h .live i e in record { place = x .place; live = x .live; number = x .number; is = still (x .place) (x .live) (x .is) };
+    live = λ i e. let x = h .live i e in record { place = x .place; live = x .live; number = x .number; is = OrderlyKept.still-put free (s .sessions) (session new) (x .place) noSession (session (x .live)) refl refl (x .is) };
   }
     where
       new : Session
@@ -193,21 +178,14 @@ module _ (s : State) (now : ℕ) (h : WellFormed s now) where
       fits : SessionFits (now + s .head .writeLife) new
       fits = record { positive = h .head .nextSession .0; steps = omega arith; deadline = λ t p. let q : now + s .head .writeLife ≡ t = cc in omega arith }
 
-      -- a live session is not in the free place
-      still : (j : ℕ) (x : Session) → sessionAt s j ≡ session x → getD (set (s .sessions) at (session new)) j noSession ≡ session x
-      still j x e = elim (Orderly.still-set (s .sessions) at (session new) j noSession (session x) (Views.no-session x) e) [
-        | inl p ↦ p
-        | inr p ↦ Views.no-session x (sym (Views.free-slot-is (sessionAt s at) (Views.free-place free noSession (s .sessions) refl)) ∙ ap (sessionAt s) (p .0) ∙ e)
-      ]
-
   -- the session of number n is put through f, which keeps its number
   pub well-session : (n : ℕ) (f : Session → Session) → ((x : Session) → f x .number ≡ x .number)
       → ((i : ℕ) (x : Session) → sessionAt s i ≡ session x → x .number ≡ n → SessionFits (now + s .head .writeLife) (f x)) → WellFormed (withSession s n f) now
   well-session n f same fits = record {
-    orderly = Orderly.orderly-session s n f same (h .orderly);
+    orderly = OrderlyKept.orderly-session s n f same (h .orderly);
     head = h .head;
     keys = h .keys;
-    sessions = record { length = length-set (s .sessions) (sessionPlace s n) (onSlot f (sessionOf s n)) ∙ h .sessions .length; each = λ i {x} e. each i x (Orderly.was-slot s n f i x e) };
+    sessions = record { length = length-set (s .sessions) (sessionPlace s n) (onSlot f (sessionOf s n)) ∙ h .sessions .length; each = λ i {x} e. each i x (OrderlyKept.was-slot s n f i x e) };
     rows = h .rows;
     live = λ i {n = m} e. alive m (h .live i e);
   }
@@ -216,7 +194,7 @@ module _ (s : State) (now : ℕ) (h : WellFormed s now) where
       each i x r = elim (r .2) [ inl p ↦ rw p (h .sessions .each i (r .1)) | inr p ↦ rw (p .1) (fits i (r .0) (r .1) (p .0)) ]
 
       alive : (m : ℕ) → LiveAs (s .sessions) m → LiveAs (withSession s n f .sessions) m
-      alive m x = elim (Orderly.still-set (s .sessions) (sessionPlace s n) (onSlot f (sessionOf s n)) (x .place) noSession (session (x .live)) (Views.no-session (x .live)) (x .is)) [
+      alive m x = elim (OrderlyKept.still-set (s .sessions) (sessionPlace s n) (onSlot f (sessionOf s n)) (x .place) noSession (session (x .live)) (Views.no-session (x .live)) (x .is)) [
         | inl p ↦ record { place = x .place; live = x .live; is = p; number = x .number }
         | inr p ↦ record { place = x .place; live = f (x .live); is = p .1 ∙ ap (onSlot f) (ap (sessionAt s) (p .0) ∙ x .is); number = same (x .live) ∙ x .number }
       ]
@@ -231,36 +209,24 @@ module _ (s : State) (now : ℕ) (h : WellFormed s now) where
       → ((i m d : ℕ) (v : Staged) → rowAt s i ≡ row m k d v → (kind ≡ INVALIDATE) × (d ≡ INVALIDATE))
       → WellFormed (withKeys (withRows s (putAt freeRow (row n k kind nothing) (s .rows))) (setLease (s .keys) k none)) now
   well-granted n k kind small range alive unheld sharing = record {
-    orderly = Orderly.orderly-granted s n k kind range sharing (h .orderly);
+    orderly = OrderlyKept.orderly-granted s n k kind range sharing (h .orderly);
     head = h .head;
     keys = record {
       length = length-set (s .keys) k _ ∙ h .keys .length;
       values = λ j p. h .keys .values j (sym (Views.lease-value (s .keys) k none j) ∙ p);
-      leases = λ j {l} p. h .keys .leases j (Orderly.voided-was s k j l p .1);
-      distinct = λ i j {l} {m} p q e. h .keys .distinct i j (Orderly.voided-was s k i l p .1) (Orderly.voided-was s k j m q .1) e;
+      leases = λ j {l} p. h .keys .leases j (OrderlyKept.voided-was s k j l p .1);
+      distinct = λ i j {l} {m} p q e. h .keys .distinct i j (OrderlyKept.voided-was s k i l p .1) (OrderlyKept.voided-was s k j m q .1) e;
     };
     sessions = h .sessions;
     rows = record {
-      length = length-set (s .rows) at new ∙ h .rows .length;
-      each = λ i {n = m} {k = j} {d} {u} e. elim (seen i m j d u e) [ inl p ↦ h .rows .each i p | inr p ↦ record { key = rw (p .2) small; what = rw (p .4) tt } ];
-      once = λ i j {n = m} {k = q} {d} {c} {u} {v} e f. two i j m q d c u v (seen i m q d u e) (seen j m q c v f);
+      length = length-set (s .rows) (place freeRow (s .rows)) (row n k kind nothing) ∙ h .rows .length;
+      each = λ i {n = m} {k = j} {d} {u} e. elim (OrderlyKept.granted-was s n k kind i m j d u e) [ inl p ↦ h .rows .each i p | inr p ↦ record { key = rw (p .2) small; what = rw (p .4) tt } ];
+      once = λ i j {n = m} {k = q} {d} {c} {u} {v} e f. two i j m q d c u v (OrderlyKept.granted-was s n k kind i m q d u e) (OrderlyKept.granted-was s n k kind j m q c v f);
     };
-    live = λ i {n = m} {k = j} {d} {u} e. elim (seen i m j d u e) [ inl p ↦ h .live i p | inr p ↦ rw (p .1) alive ];
+    live = λ i {n = m} {k = j} {d} {u} e. elim (OrderlyKept.granted-was s n k kind i m j d u e) [ inl p ↦ h .live i p | inr p ↦ rw (p .1) alive ];
   }
     where
-      new : Row
-      new = row n k kind nothing
-
-      at : ℕ
-      at = place freeRow (s .rows)
-
-      Seen : ℕ → ℕ → ℕ → ℕ → Staged → Type 0
-      Seen i m j d v = (rowAt s i ≡ row m j d v) ⊎ ((at ≡ i) × (m ≡ n) × (j ≡ k) × (d ≡ kind) × (v ≡ nothing))
-
-      seen : (i m j d : ℕ) (v : Staged) → getD (set (s .rows) at new) i noRow ≡ row m j d v → Seen i m j d v
-      seen i m j d v e = elim (Orderly.was-set (s .rows) at new i noRow (row m j d v) (Views.no-row m j d v) e) [ inl p ↦ inl p | inr p ↦ (let q = p .1 in inr (p .0, cc, cc, cc, cc)) ]
-
-      two : (i j m q d c : ℕ) (u v : Staged) → Seen i m q d u → Seen j m q c v → i ≡ j
+      two : (i j m q d c : ℕ) (u v : Staged) → OrderlyKept.GrantedWas s n k kind i m q d u → OrderlyKept.GrantedWas s n k kind j m q c v → i ≡ j
       two i j m q d c u v (inl x) (inl y) = h .rows .once i j x y
       two i j m q d c u v (inl x) (inr y) = absurd (unheld i d u (rw (y .1, y .2) at x))
       two i j m q d c u v (inr x) (inl y) = absurd (unheld j c v (rw (x .1, x .2) at y))
@@ -275,10 +241,10 @@ module _ (s : State) (now : ℕ) (h : WellFormed s now) where
     sessions = h .sessions;
     rows = record {
       length = length-set (s .rows) (rowPlace s n k) (restaged u (rowOf s n k)) ∙ h .rows .length;
-      each = λ i {n = m} {k = j} {d} {u = v} e. each i m j d v (Orderly.was-staged s n k u i m j d v e);
-      once = λ i j {n = m} {k = q} {d} {c} {u = v} {v = w} e f. h .rows .once i j (Orderly.was-staged s n k u i m q d v e .1) (Orderly.was-staged s n k u j m q c w f .1);
+      each = λ i {n = m} {k = j} {d} {u = v} e. each i m j d v (OrderlyKept.was-staged s n k u i m j d v e);
+      once = λ i j {n = m} {k = q} {d} {c} {u = v} {v = w} e f. h .rows .once i j (OrderlyKept.was-staged s n k u i m q d v e .1) (OrderlyKept.was-staged s n k u j m q c w f .1);
     };
-    live = λ i {n = m} {k = j} {d} {u = v} e. h .live i (Orderly.was-staged s n k u i m j d v e .1);
+    live = λ i {n = m} {k = j} {d} {u = v} e. h .live i (OrderlyKept.was-staged s n k u i m j d v e .1);
   }
     where
       each : (i m j d : ℕ) (v : Staged) → (v′ : Staged) × (rowAt s i ≡ row m j d v′) × ((v ≡ v′) ⊎ ((m ≡ n) × (j ≡ k) × (v ≡ u))) → RowFits j d v
@@ -288,7 +254,7 @@ module _ (s : State) (now : ℕ) (h : WellFormed s now) where
 -- STAGE and DELTA: the session's count has room, and its row on the key, which is no invalidation, takes u
 pub well-staged : (s : State) (now : ℕ) (h : WellFormed s now) (n k i d : ℕ) (u v : Staged) → rowAt s i ≡ row n k d v → (d ≡ INVALIDATE → ⊥) → StagedFits d u
     → ((j : ℕ) (x : Session) → sessionAt s j ≡ session x → x .number ≡ n → x .count < stepMax) → WellFormed (withStaged (withSession s n advanced) n k u) now
-well-staged s now h n k i d u v mine apart fits room = well-restaged (withSession s n advanced) now stepped n k u same (Orderly.orderly-staged s n k i d u v mine apart (h .orderly))
+well-staged s now h n k i d u v mine apart fits room = well-restaged (withSession s n advanced) now stepped n k u same (OrderlyKept.orderly-staged s n k i d u v mine apart (h .orderly))
   where
     stepped : WellFormed (withSession s n advanced) now
     stepped = well-session s now h n advanced (λ x. refl) (λ j x e q. let y = h .sessions .each j e in record { positive = y .positive; steps = omega (arith, room j x e q); deadline = y .deadline })

@@ -7,6 +7,12 @@ use Rattle.machine.specs.declared.Verdict.{Verdict}
 use Rattle.machine.specs.declared.Verdict.the-variants.{Grant, Void, BackOff, Abort}
 
 -- held none, I, Q1, Q2, Q3; asked I, Q1, Q2, Q3
+abbrev pub heldCount : ℕ
+heldCount = 5
+
+abbrev pub askedCount : ℕ
+askedCount = 4
+
 abbrev pub decisions : List (List Verdict)
 decisions =
     (Grant ∷ Grant ∷ Grant ∷ Grant ∷ [])

@@ -1,4 +1,4 @@
--- The sizes and limits of document 01, and where the tables of the layout stand.
+-- The sizes and limits of document 01, and where the tables of the layout and the fields of their records stand.
 use Prim.Native.Nat.{ℕ, _+_, _*_}
 
 -- 01, "The state and its numbers"
@@ -61,9 +61,65 @@ restFrom = 50240
 abbrev pub restSize : ℕ
 restSize = 15296
 
+-- where the fields of a record stand in it. The header: its clock is first
+abbrev pub readLifeField : ℕ
+readLifeField = 8
+
+abbrev pub writeLifeField : ℕ
+writeLifeField = 12
+
+abbrev pub nextSessionField : ℕ
+nextSessionField = 16
+
+abbrev pub nextTokenField : ℕ
+nextTokenField = 20
+
+-- a key: first whether a value is there
+abbrev pub keyLengthField : ℕ
+keyLengthField = 1
+
+abbrev pub keyTokenField : ℕ
+keyTokenField = 4
+
+abbrev pub keyUntilField : ℕ
+keyUntilField = 8
+
+abbrev pub keyValueField : ℕ
+keyValueField = 16
+
+-- token and deadline
+abbrev pub leaseWidth : ℕ
+leaseWidth = 12
+
+-- a row: its session is first
+abbrev pub rowKeyField : ℕ
+rowKeyField = 4
+
+abbrev pub rowKindField : ℕ
+rowKindField = 5
+
+abbrev pub rowStagedField : ℕ
+rowStagedField = 6
+
+abbrev pub rowLengthField : ℕ
+rowLengthField = 7
+
+abbrev pub rowValueField : ℕ
+rowValueField = 8
+
+-- a session: its number is first
+abbrev pub sessionLifeField : ℕ
+sessionLifeField = 4
+
+abbrev pub sessionStepsField : ℕ
+sessionStepsField = 6
+
+abbrev pub sessionUntilField : ℕ
+sessionUntilField = 8
+
 -- where the cached value of key k stands, and the value staged in row i
 abbrev pub valueAt : ℕ → ℕ
-valueAt k = keysFrom + k * keyWidth + 16
+valueAt k = keysFrom + k * keyWidth + keyValueField
 
 abbrev pub stagedAt : ℕ → ℕ
-stagedAt i = rowsFrom + i * rowWidth + 8
+stagedAt i = rowsFrom + i * rowWidth + rowValueField

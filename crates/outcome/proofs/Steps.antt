@@ -2,16 +2,14 @@
 -- Where nothing lapses that is the whole step.
 use Prim.Native.Nat.{ℕ}
 use mathlib.Core.Path.{_≡_, refl}
-use mathlib.Core.Bool.{Bool, true, false, _||_}
+use mathlib.Core.Bool.{true, false}
 use mathlib.Core.Option.{Option, none, some}
-use lib.Dec.{ltb}
 use Rattle.lent.proofs.Choices.{clash}
-use Rattle.machine.specs.Sizes.{timeMax}
 use Rattle.machine.specs.Tables.{first}
 use Rattle.machine.specs.Words.{CLOCK}
 use Rattle.machine.specs.State.{Value, State}
 use Rattle.machine.specs.Expiry.{withClock, expire}
-use Rattle.machine.specs.Refusals.{refusals, refusal}
+use Rattle.machine.specs.Refusals.{clockRefusal, refusals, refusal}
 use Rattle.machine.specs.Effects.{Outcome, told, effect}
 use Rattle.machine.specs.Step.{settled, step}
 use Rattle.machine.specs.declared.Answer.{Answer}
@@ -23,16 +21,13 @@ use Rattle.outcome.specs.Outcome.{unless, tried, acted, isRefused}
 abbrev pub clocked : ℕ → Outcome → Outcome
 clocked now r = record { answer = r .answer; handed = r .handed; after = withClock (r .after) now }
 
-abbrev pub clockBad : State → ℕ → Bool
-clockBad s now = ltb now (s .head .clock) || ltb timeMax now
-
 module _ (s : State) (now : ℕ) (c : Command) (v : Value) where
   -- CLOCK comes first
-  pub acted-late : clockBad s now ≡ true → acted s now c v ≡ told (Answer.Refused CLOCK) s
+  pub acted-clock : clockRefusal s now .0 ≡ true → acted s now c v ≡ told (Answer.Refused CLOCK) s
   unfolding acted refusal settled
-  acted-late e = rw e
+  acted-clock e = rw e
 
-  pub acted-refused : clockBad s now ≡ false → isRefused (tried s now c v .answer) ≡ true → acted s now c v ≡ tried s now c v
+  pub acted-refused : clockRefusal s now .0 ≡ false → isRefused (tried s now c v .answer) ≡ true → acted s now c v ≡ tried s now c v
   unfolding acted refusal settled tried
   acted-refused e q = rw e (go (first (refusals s c v)) q)
     where
@@ -40,7 +35,7 @@ module _ (s : State) (now : ℕ) (c : Command) (v : Value) where
       go (some d) p = refl
       go none p = clash (isRefused (effect s now c v .answer)) p (effect-accepts s now c v)
 
-  pub acted-accepted : clockBad s now ≡ false → isRefused (tried s now c v .answer) ≡ false → acted s now c v ≡ clocked now (tried s now c v)
+  pub acted-accepted : clockRefusal s now .0 ≡ false → isRefused (tried s now c v .answer) ≡ false → acted s now c v ≡ clocked now (tried s now c v)
   unfolding acted refusal settled tried
   acted-accepted e q = rw e (go (first (refusals s c v)) q)
     where

@@ -26,7 +26,7 @@ use Rattle.machine.specs.declared.Answer.{Answer}
 use Rattle.machine.specs.declared.Command.{Command}
 use Rattle.machine.specs.declared.Command.the-variants.{Begin, Get, Fill, Quar, Stage, Delta, Validate, Done, Undo, Evict, Tick}
 use Rattle.machine.proofs.Views
-use Rattle.machine.proofs.Orderly.{orderly-fresh}
+use Rattle.machine.proofs.OrderlyKept.{orderly-fresh}
 use Rattle.machine.proofs.Accepted.{session-of}
 use Rattle.machine.proofs.SoundMeans.{sound-means}
 use Rattle.machine.proofs.SoundFacts.{session-place}

@@ -24,7 +24,7 @@ use Rattle.machine.specs.declared.Answer.{Answer}
 use Rattle.machine.specs.declared.Command.{Command}
 use Rattle.machine.specs.declared.Command.the-variants.{Begin, Get, Fill, Quar, Stage, Delta, Validate, Done, Undo, Evict, Tick}
 use Rattle.machine.proofs.Views
-use Rattle.machine.proofs.Orderly
+use Rattle.machine.proofs.OrderlyKept
 use Rattle.machine.proofs.Frames.{expire-lease, staged-quiet}
 
 -- the leases of t: no answer grants one and each was there, or a GET was answered with the next token on its key and each other was there
@@ -54,7 +54,7 @@ module _ (s : State) (c : Command) where
   -- sessions end
   moves-ended : (a : Answer) (ns : List ℕ) (ks : List Key) → eqb (wordOf a) LEASE ≡ false → ((k : ℕ) (l : Lease) → getD ks k blank .lease ≡ some l → leaseOn s k ≡ some l) → Moves s c (told a (leave ns (withKeys s ks)))
   unfolding leave
-  moves-ended a ns ks q f = record { leases = quiet q f; places = λ i x e. inr (x, Orderly.was-session ns (s .sessions) i x e .0, refl); grows = omega arith }
+  moves-ended a ns ks q f = record { leases = quiet q f; places = λ i x e. inr (x, OrderlyKept.was-session ns (s .sessions) i x e .0, refl); grows = omega arith }
 
   moves-left : (a : Answer) (n : ℕ) → eqb (wordOf a) LEASE ≡ false → Moves s c (told a (leave (n ∷ []) s))
   moves-left a n q = moves-ended a (n ∷ []) (s .keys) q (λ k l e. e)
@@ -65,14 +65,14 @@ module _ (s : State) (c : Command) where
 
   -- one session is put through f, which keeps its number
   stood-slot : (n : ℕ) (f : Session → Session) → ((m : Session) → f m .number ≡ m .number) → (i : ℕ) (x : Session) → sessionAt (withSession s n f) i ≡ session x → Stood s i x
-  stood-slot n f same i x e = let r = Orderly.was-slot s n f i x e in
+  stood-slot n f same i x e = let r = OrderlyKept.was-slot s n f i x e in
       inr (r .0, r .1, elim (r .2) [ inl p ↦ sym (ap (λ (y : Session). y .number) p) | inr p ↦ sym (ap (λ (y : Session). y .number) (p .1) ∙ same (r .0)) ])
 
   moves-begun : (now : ℕ) → Moves s c (begins s now)
   unfolding begins
   moves-begun now = record {
     leases = quiet refl (λ k l e. e);
-    places = λ i x e. elim (Orderly.was-set (s .sessions) (place free (s .sessions)) (session (opened (s .head .nextSession) (now + s .head .writeLife))) i noSession (session x) (Views.no-session x) e) [
+    places = λ i x e. elim (OrderlyKept.was-set (s .sessions) (place free (s .sessions)) (session (opened (s .head .nextSession) (now + s .head .writeLife))) i noSession (session x) (Views.no-session x) e) [
       | inl p ↦ inr (x, p, refl)
       | inr p ↦ inl (let y = p .1 in let z : s .head .nextSession ≡ x .number = cc in omega arith)
     ];
@@ -92,7 +92,7 @@ module _ (s : State) (c : Command) where
   moves-asked : (n k kind : ℕ) → Moves s c (asks s n k kind)
   unfolding asks
   moves-asked n k kind = if-ind (Moves s c) (grants (decide s k kind))
-      (λ e. record { leases = quiet refl (λ j l p. Orderly.voided-was s k j l p .1); places = λ i x p. inr (x, p, refl); grows = omega arith }) (λ e. moves-left Answer.Aborted n refl)
+      (λ e. record { leases = quiet refl (λ j l p. OrderlyKept.voided-was s k j l p .1); places = λ i x p. inr (x, p, refl); grows = omega arith }) (λ e. moves-left Answer.Aborted n refl)
 
 -- GET answered LEASE
 moves-leased : (s : State) (now n k : ℕ) → Moves s (Get n k) (leased s now k)
@@ -130,7 +130,7 @@ unfolding effect fills
 moves-effect s now Begin v = moves-begun s Begin now
 moves-effect s now (Get n k) v = moves-looked s now n k (sight s n k)
 moves-effect s now (Fill t k) v = if-ind (Moves s (Fill t k)) (matches t (leaseOn s k))
-    (λ m. moves-keyed s (Fill t k) Answer.Stored (set (s .keys) k (record { value = some v; lease = none })) refl (Orderly.filled-was s k v)) (λ m. moves-still s (Fill t k) Answer.Ignored [] refl)
+    (λ m. moves-keyed s (Fill t k) Answer.Stored (set (s .keys) k (record { value = some v; lease = none })) refl (OrderlyKept.filled-was s k v)) (λ m. moves-still s (Fill t k) Answer.Ignored [] refl)
 moves-effect s now (Quar n k d) v = if-ind (Moves s (Quar n k d)) (eqb (kindOf (rowOf s n k)) d) (λ m. moves-still s (Quar n k d) Answer.Held [] refl) (λ m. moves-asked s (Quar n k d) n k d)
 moves-effect s now (Stage n i k) v = moves-staging s (Stage n i k) n i k (staged v)
 moves-effect s now (Delta n i k o) v = moves-staging s (Delta n i k o) n i k (changed o v (stagedIn (rowOf s n k)) (cached s k))
@@ -145,7 +145,7 @@ moves-effect s now Tick v = moves-still s Tick Answer.Ticked [] refl
 
 pub expire-session : (now : ℕ) (s : State) (i : ℕ) (x : Session) → sessionAt (expire now s) i ≡ session x → sessionAt s i ≡ session x
 unfolding expire finish leave
-expire-session now s i x e = Orderly.was-session (those (isDue now) (s .sessions)) (s .sessions) i x e .0
+expire-session now s i x e = OrderlyKept.was-session (those (isDue now) (s .sessions)) (s .sessions) i x e .0
 
 moves-expired : (s : State) (now : ℕ) (c : Command) (r : Outcome) → Moves (expire now s) c r → Moves s c r
 unfolding expire finish leave

@@ -21,9 +21,8 @@ use Rattle.machine.specs.Step.{settled, step}
 use Rattle.machine.specs.Test.{differs}
 use Rattle.machine.specs.declared.Command.{Command}
 use Rattle.machine.specs.declared.Command.the-variants.{Done, Undo}
-use Rattle.machine.proofs.Orderly.{was-session}
-use Rattle.machine.proofs.Accepted.{passed, session-of}
-use Rattle.machine.proofs.Invariant.{found-live}
+use Rattle.machine.proofs.OrderlyKept.{was-session}
+use Rattle.machine.proofs.Accepted.{passed, session-of, found-live}
 use Rattle.rehearsed.proofs.Moves.{expire-session}
 
 -- A word that is not 0 is that of no refusal

@@ -20,7 +20,7 @@ use Rattle.machine.specs.State.{Value, sessionPlace}
 use Rattle.machine.specs.World.{Event, command, write, World, freshWorld, next, run, EventBytes}
 use Rattle.machine.specs.declared.Answer.{Answer}
 use Rattle.machine.specs.declared.Command.{Command}
-use Rattle.machine.proofs.Orderly.{orderly-fresh}
+use Rattle.machine.proofs.OrderlyKept.{orderly-fresh}
 use Rattle.machine.proofs.Demand3.{demand-3-whole}
 use Rattle.layout.specs.Layout.{decode}
 use Rattle.layout.specs.WellFormed.{wellFormed}

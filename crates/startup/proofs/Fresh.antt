@@ -7,7 +7,7 @@ use Rattle.lent.specs.Bytes.{bytes32, splice, zeros}
 use Rattle.lent.specs.Tables.{tabOf}
 use Rattle.lent.proofs.Splice.{splice-whole}
 use Rattle.lent.proofs.Tables.{tab-zeros}
-use Rattle.machine.specs.Sizes.{keyCount, sessionCount, rowCount, stateSize, headSize, keyWidth, rowWidth, sessionWidth, restSize}
+use Rattle.machine.specs.Sizes.{keyCount, sessionCount, rowCount, stateSize, headSize, keyWidth, rowWidth, sessionWidth, restSize, readLifeField, writeLifeField, nextSessionField, nextTokenField}
 use Rattle.machine.specs.State.{Head, blank, noSession, noRow, fresh}
 use Rattle.layout.specs.Layout.{encHead, encKey, encRow, encSession, encode}
 
@@ -41,15 +41,15 @@ fresh-bytes readLife writeLife =
 
 -- four numbers written into zeros, whatever stands behind the header
 head-written : (readLife writeLife : ℕ) (q : List ℕ)
-    → splice (splice (splice (splice (zeros headSize ++ q) 8 (bytes32 readLife)) 12 (bytes32 writeLife)) 16 (bytes32 1)) 20 (bytes32 1) ≡ encHead (freshHead readLife writeLife) ++ q
+    → splice (splice (splice (splice (zeros headSize ++ q) readLifeField (bytes32 readLife)) writeLifeField (bytes32 writeLife)) nextSessionField (bytes32 1)) nextTokenField (bytes32 1) ≡ encHead (freshHead readLife writeLife) ++ q
 unfolding encHead splice
 head-written readLife writeLife q = refl
 
 pub fresh-written : (b : List ℕ) (readLife writeLife : ℕ) → length b ≡ stateSize
-    → splice (splice (splice (splice (splice b 0 (zeros stateSize)) 8 (bytes32 readLife)) 12 (bytes32 writeLife)) 16 (bytes32 1)) 20 (bytes32 1) ≡ encode (fresh readLife writeLife)
+    → splice (splice (splice (splice (splice b 0 (zeros stateSize)) readLifeField (bytes32 readLife)) writeLifeField (bytes32 writeLife)) nextSessionField (bytes32 1)) nextTokenField (bytes32 1) ≡ encode (fresh readLife writeLife)
 fresh-written b readLife writeLife l =
     go (splice b 0 (zeros stateSize)) (zeros behindHead) (splice-whole b (zeros stateSize) (l ∙ sym (length-replicate {A = ℕ} stateSize 0)) ∙ sym (replicate-append-replicate {A = ℕ} headSize behindHead 0)) ∙ sym (fresh-bytes readLife writeLife)
   where
     go : (c q : List ℕ) → c ≡ zeros headSize ++ q
-        → splice (splice (splice (splice c 8 (bytes32 readLife)) 12 (bytes32 writeLife)) 16 (bytes32 1)) 20 (bytes32 1) ≡ encHead (freshHead readLife writeLife) ++ q
+        → splice (splice (splice (splice c readLifeField (bytes32 readLife)) writeLifeField (bytes32 writeLife)) nextSessionField (bytes32 1)) nextTokenField (bytes32 1) ≡ encHead (freshHead readLife writeLife) ++ q
     go c q e = rw e (head-written readLife writeLife q)

@@ -1,6 +1,6 @@
 -- What START writes: where it answers READY, the bytes are those of the fresh state, so they are well formed, they decode to it, and the
 -- machine's theorems hold from them: every run stays sound, and demand 3 holds at each moment of each run.
-use mathlib.Core.Path.{_≡_, refl, ap, _∙_}
+use mathlib.Core.Path.{_≡_, refl, sym, ap, _∙_}
 use mathlib.Core.Bool.{true, false}
 use mathlib.Core.Logic.{_⊎_, inl, inr}
 use mathlib.Core.List.{List, [], _++_}
@@ -8,13 +8,14 @@ use Prim.Native.Nat.{ℕ}
 use lib.Dec.{eqb}
 use lib.ListN.{length}
 use borrow.Author.Tests.{eqb-true, eqb-false}
-use Rattle.lent.proofs.Choices.{case-of, clash}
+use Rattle.lent.proofs.Choices.{case-of}
 use Rattle.machine.specs.Sizes.{stateSize}
-use Rattle.machine.specs.Words.{wordOf, STATE, ARG}
+use Rattle.machine.specs.Words.{STATE, ARG}
 use Rattle.machine.specs.State.{State, fresh}
 use Rattle.machine.specs.Sound.{lifetime, sound}
 use Rattle.machine.specs.World.{Event, World, freshWorld, run, AllKept, Consistent, AllBytes}
 use Rattle.machine.specs.declared.Answer.{Answer}
+use Rattle.machine.proofs.Views.{answers-differ}
 use Rattle.machine.proofs.KeepsSound.{fresh-sound, reached-sound}
 use Rattle.machine.proofs.Demand3.{demand-3}
 use Rattle.layout.specs.Layout.{encode, decode}
@@ -23,18 +24,12 @@ use Rattle.layout.proofs.Fitting.{sound-fits}
 use Rattle.layout.proofs.Formed.{sound-formed, holds-encoded, holds-is}
 use Rattle.startup.specs.Start.{Reply, startOf}
 use Rattle.startup.specs.Statements.{worldOn}
-use Rattle.startup.proofs.Started.{started-size, started-read, started-write, started-ready}
-
--- READY says that the length and the lifetimes were right
-pub record Started (b : List ℕ) (readLife writeLife : ℕ) : Type 0 where
-  pub size : length b ≡ stateSize
-  pub read : lifetime readLife ≡ true
-  pub write : lifetime writeLife ≡ true
+use Rattle.startup.proofs.Started.{Started, started-size, started-read, started-write, started-ready}
 
 module _ (b : List ℕ) (readLife writeLife : ℕ) where
   -- a refusal has another word
   ready-not-refused : (e : ℕ) → startOf b readLife writeLife ≡ record { answer = Answer.Refused e; bytes = b } → startOf b readLife writeLife .answer ≡ Answer.Ready → {A : Type 0} → A
-  ready-not-refused e p q = clash (eqb (wordOf (startOf b readLife writeLife .answer)) 1) (rw q refl) (rw p refl)
+  ready-not-refused e p q = answers-differ (Answer.Refused e) Answer.Ready refl (sym (ap (λ (r : Reply). r .answer) p) ∙ q)
 
   pub ready-started : startOf b readLife writeLife .answer ≡ Answer.Ready → Started b readLife writeLife
   ready-started q = sized (case-of (eqb (length b) stateSize))

@@ -2,18 +2,17 @@
 use mathlib.Core.Path.{_≡_}
 use mathlib.Core.Bool.{true, false, or-true}
 use mathlib.Core.List.{List}
-use Prim.Native.Nat.{ℕ, _≤_, _<_, _^_}
+use Prim.Native.Nat.{ℕ, _<_, _^_}
 use native.Mathlib.Omega.{arith}
-use lib.Dec.{leb}
 use lib.ListN.{length}
-use borrow.Author.Tests.{eq-eqb, leb-true, ne-eqb}
-use Rattle.lent.proofs.Choices.{and-yes}
+use borrow.Author.Tests.{eq-eqb, ne-eqb}
 use Rattle.machine.specs.Sizes.{stateSize, lifeMax}
 use Rattle.machine.specs.State.{fresh}
 use Rattle.machine.specs.Sound.{lifetime}
 use Rattle.machine.specs.Step.{start}
 use Rattle.machine.specs.Words.{STATE, ARG}
 use Rattle.machine.specs.declared.Answer.{Answer}
+use Rattle.machine.proofs.Ranges.{within-means}
 use Rattle.layout.specs.Layout.{encode}
 use Rattle.startup.specs.Start.{Reply, startRefusal, startOf}
 
@@ -21,7 +20,13 @@ abbrev refused : ℕ → List ℕ → Reply
 refused n b = record { answer = Answer.Refused n; bytes = b }
 
 pub lifetime-small : (n : ℕ) → lifetime n ≡ true → n < 2 ^ 32
-lifetime-small n e = let h : n ≤ lifeMax = leb-true n lifeMax (and-yes (leb 1 n) (leb n lifeMax) e .1) in omega arith
+lifetime-small n e = omega (arith, within-means 1 lifeMax n e .1)
+
+-- READY says that the length and the lifetimes were right
+pub record Started (b : List ℕ) (readLife writeLife : ℕ) : Type 0 where
+  pub size : length b ≡ stateSize
+  pub read : lifetime readLife ≡ true
+  pub write : lifetime writeLife ≡ true
 
 module _ (b : List ℕ) (readLife writeLife : ℕ) where
   pub started-size : (length b ≡ stateSize → ⊥) → startOf b readLife writeLife ≡ refused STATE b

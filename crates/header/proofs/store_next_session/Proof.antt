@@ -1,5 +1,5 @@
 -- The next session number is a part of the header.
-use Rattle.layout.proofs.Parts.{session-next}
+use Rattle.layout.proofs.Parts.{session-next-put}
 use borrow.Author.Needs.{needs}
 use Rattle.header.proofs.store_next_session.Statement.{statement}
 use Rattle.header.proofs.store_next_session.Tie as tie
@@ -11,7 +11,7 @@ same-length : tie.Need-same-length
 same-length c = search needs
 
 returns : tie.Need-returns
-returns c = λ σ h. rw (c .before .before .store-u32 .ensures) (session-next h (c .before .before .before .before .before .args .n) (c .before .before .before .before .before .fits .n .fits))
+returns c = λ σ h. rw (c .before .before .store-u32 .ensures) (session-next-put h (c .before .before .before .before .before .args .n) (c .before .before .before .before .before .fits .n .fits))
 
 pub store-next-session-spec : {M : Type 1} → statement M
 store-next-session-spec = tie.close (tie.spec store-u32-requires same-length returns)

@@ -1,5 +1,5 @@
 -- The next token is a part of the header.
-use Rattle.layout.proofs.Parts.{token-next}
+use Rattle.layout.proofs.Parts.{token-next-put}
 use borrow.Author.Needs.{needs}
 use Rattle.header.proofs.store_next_token.Statement.{statement}
 use Rattle.header.proofs.store_next_token.Tie as tie
@@ -11,7 +11,7 @@ same-length : tie.Need-same-length
 same-length c = search needs
 
 returns : tie.Need-returns
-returns c = λ σ h. rw (c .before .before .store-u32 .ensures) (token-next h (c .before .before .before .before .before .args .t) (c .before .before .before .before .before .fits .t .fits))
+returns c = λ σ h. rw (c .before .before .store-u32 .ensures) (token-next-put h (c .before .before .before .before .before .args .t) (c .before .before .before .before .before .fits .t .fits))
 
 pub store-next-token-spec : {M : Type 1} → statement M
 store-next-token-spec = tie.close (tie.spec store-u32-requires same-length returns)

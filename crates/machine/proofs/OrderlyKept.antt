@@ -3,20 +3,18 @@
 -- invalidates stages nothing.
 -- Each law reads every entry of the new tables back to the one that stood at its place before.
 use mathlib.Core.Path.{_≡_, refl, sym, ap, _∙_}
-use mathlib.Core.Bool.{true, false}
+use mathlib.Core.Bool.{Bool, true, false}
 use mathlib.Core.Logic.{_⊎_, inl, inr}
 use mathlib.Core.List.{List, map}
 use mathlib.Core.Option.{Option, none, some}
 use Prim.Native.Nat.{ℕ, suc, _+_, _<_}
 use native.Mathlib.Omega.{arith}
 use borrow.Author.Tests.{eqb-true}
-use lib.Dec.{eqb}
 use lib.ListN.{getD, set, List·getD-map}
-use Rattle.lent.proofs.Choices.{and-yes, zero-one}
-use Rattle.machine.specs.Sizes.{keyCount, sessionCount, rowCount}
+use Rattle.lent.proofs.Choices.{clash, zero-one}
 use Rattle.machine.specs.Tables.{place, mem, putAt}
 use Rattle.machine.specs.Session.{opened, advanced, sealed, isDue}
-use Rattle.machine.specs.State.{Value, Lease, Key, blank, Slot, noSession, session, Staged, nothing, staged, Row, noRow, row, State, fresh, free, freeRow, numbered, ofOn, sessionOf, rowOf, leaseOn, sessionAt, rowAt}
+use Rattle.machine.specs.State.{Value, Lease, Key, blank, Slot, noSession, session, Staged, nothing, staged, Row, noRow, row, State, fresh, free, freeRow, numbered, ofOn, sessionOf, rowOf, cached, leaseOn, sessionAt, rowAt}
 use Rattle.machine.specs.Expiry.{withKeys, withSessions, withRows, withClock, setValue, setLease, freeIfOf, freeSession, settle, leave, finish, lapsedValue, lapsedLease, those, expire}
 use Rattle.machine.specs.Effects.{begins, leased, fills, onSlot, restaged, withSession, withStaged}
 use Rattle.machine.specs.WellFormed.{Orderly, Within}
@@ -44,6 +42,13 @@ module _ {A : Type 0} (l : List A) (i : ℕ) (a : A) (j : ℕ) (d b : A) (entry 
       go (Views.other p q) = inl (q ∙ e)
       go (Views.here p q) = inr (p, q)
       go (Views.out p q r) = absurd (entry (sym r ∙ e))
+
+-- an entry before `putAt` still stands there: the place taken was free
+pub still-put : {A : Type 0} (p : A → Bool) (l : List A) (a : A) (j : ℕ) (d b : A) → p d ≡ true → p b ≡ false → getD l j d ≡ b → getD (putAt p a l) j d ≡ b
+still-put p l a j d b free taken e = elim (still-set l (place p l) a j d b (λ q. clash (p b) (sym (ap p q) ∙ free) taken) e) [
+  | inl q ↦ q
+  | inr q ↦ clash (p b) (sym (ap p (ap (λ (i : ℕ). getD l i d) (q .0) ∙ e)) ∙ Views.free-place p d l free) taken
+]
 
 -- a session after one was put through f: as it was, or f of it
 pub was-slot : (s : State) (n : ℕ) (f : Session → Session) (i : ℕ) (x : Session) → sessionAt (withSession s n f) i ≡ session x
@@ -80,8 +85,8 @@ was-staged s n k u i m j d v e = go (was-set (s .rows) at (restaged u (rowOf s n
     mine noRow p q a h = Views.no-row m j d v h
     mine (row b c y z) p (inl q) a h = Views.no-row b c y z (sym q)
     mine (row b c y z) p (inr q) a h =
-        let mine-n : b ≡ n = eqb-true b n (and-yes (eqb b n) (eqb c k) q .0) in
-        let mine-k : c ≡ k = eqb-true c k (and-yes (eqb b n) (eqb c k) q .1) in
+        let r = Views.of-on-row n k (row b c y z) q in
+        let same : row b c y z ≡ row n k (r .0) (r .1) = r .2 in
         let there : rowAt s i ≡ row b c y z = sym (ap (rowAt s) a) ∙ p in
         (z, cc, inr (cc, cc, cc))
 
@@ -112,11 +117,11 @@ module _ (ns : List ℕ) where
   pub was-session : (l : List Slot) (i : ℕ) (x : Session) → getD (map (freeSession ns) l) i noSession ≡ session x → (getD l i noSession ≡ session x) × (mem (x .number) ns ≡ false)
   was-session l i x e = Views.ended-was ns (getD l i noSession) x (sym (List·getD-map (freeSession ns) l i noSession) ∙ e)
 
--- Leases that are left
+-- Values, leases and rows that are left
 
--- a lease that has not lapsed
-pub lapsed-was : (s : State) (now k : ℕ) (l : Lease) → getD (map (lapsedLease now) (s .keys)) k blank .lease ≡ some l → leaseOn s k ≡ some l
-lapsed-was s now k l e = Views.unlapsed-was now (leaseOn s k) l (sym (ap (λ (x : Key). x .lease) (List·getD-map (lapsedLease now) (s .keys) k blank)) ∙ e) .0
+-- a lease that has not lapsed, and ends after now
+pub lapsed-was : (s : State) (now k : ℕ) (l : Lease) → getD (map (lapsedLease now) (s .keys)) k blank .lease ≡ some l → (leaseOn s k ≡ some l) × (now < l .until)
+lapsed-was s now k l e = Views.unlapsed-was now (leaseOn s k) l (sym (ap (λ (x : Key). x .lease) (List·getD-map (lapsedLease now) (s .keys) k blank)) ∙ e)
 
 -- a lease, once key k is filled
 pub filled-was : (s : State) (k : ℕ) (v : Value) (j : ℕ) (l : Lease) → getD (set (s .keys) k (record { value = some v; lease = none })) j blank .lease ≡ some l → leaseOn s j ≡ some l
@@ -127,11 +132,37 @@ filled-was s k v j l e = go (Views.after-set (s .keys) k (record { value = some 
     go (Views.here p q) = Views.no-some l (sym (ap (λ (x : Key). x .lease) q) ∙ e)
     go (Views.out p q r) = Views.no-some l (sym (ap (λ (x : Key). x .lease) q) ∙ e)
 
+-- a value, once key k is filled with v
+pub filled-value : (s : State) (k : ℕ) (v : Value) (j : ℕ) (u : Value) → getD (set (s .keys) k (record { value = some v; lease = none })) j blank .value ≡ some u → (cached s j ≡ some u) ⊎ ((k ≡ j) × (v ≡ u))
+filled-value s k v j u e = go (Views.after-set (s .keys) k (record { value = some v; lease = none }) j blank)
+  where
+    go : Views.AfterSet (s .keys) k (record { value = some v; lease = none }) j blank → (cached s j ≡ some u) ⊎ ((k ≡ j) × (v ≡ u))
+    go (Views.other p q) = inl (sym (ap (λ (x : Key). x .value) q) ∙ e)
+    go (Views.here p q) = inr (p, Views.some-eq v u (sym (ap (λ (x : Key). x .value) q) ∙ e))
+    go (Views.out p q r) = Views.no-some u (sym (ap (λ (x : Key). x .value) q) ∙ e)
+
+-- a lease, once x is granted on key k
+pub leased-was : (s : State) (k : ℕ) (x : Lease) (j : ℕ) (l : Lease) → getD (setLease (s .keys) k (some x)) j blank .lease ≡ some l → (leaseOn s j ≡ some l) ⊎ ((k ≡ j) × (x ≡ l))
+leased-was s k x j l e = elim (Views.lease-after (s .keys) k (some x) j) [
+  | inl p ↦ inl (sym (p .1) ∙ e)
+  | inr p ↦ elim (p .1) [ inl q ↦ inr (p .0, Views.some-eq x l (sym q ∙ e)) | inr q ↦ Views.no-some l (sym q ∙ e) ]
+]
+
 -- a lease, once that of key k is voided, is on another key
 pub voided-was : (s : State) (k j : ℕ) (l : Lease) → getD (setLease (s .keys) k none) j blank .lease ≡ some l → (k ≡ j → ⊥) × (leaseOn s j ≡ some l)
 voided-was s k j l e = elim (Views.lease-after (s .keys) k none j) [
   | inl p ↦ (p .0, sym (p .1) ∙ e)
   | inr p ↦ elim (p .1) [ inl q ↦ Views.no-some l (sym q ∙ e) | inr q ↦ Views.no-some l (sym q ∙ e) ]
+]
+
+-- a row, once one of session n on key k is granted
+abbrev pub GrantedWas : State → (n k kind i m j d : ℕ) → Staged → Type 0
+GrantedWas s n k kind i m j d v = (rowAt s i ≡ row m j d v) ⊎ ((place freeRow (s .rows) ≡ i) × (m ≡ n) × (j ≡ k) × (d ≡ kind) × (v ≡ nothing))
+
+pub granted-was : (s : State) (n k kind i m j d : ℕ) (v : Staged) → getD (putAt freeRow (row n k kind nothing) (s .rows)) i noRow ≡ row m j d v → GrantedWas s n k kind i m j d v
+granted-was s n k kind i m j d v e = elim (was-set (s .rows) (place freeRow (s .rows)) (row n k kind nothing) i noRow (row m j d v) (Views.no-row m j d v) e) [
+  | inl p ↦ inl p
+  | inr p ↦ (let q = p .1 in inr (p .0, cc, cc, cc, cc))
 ]
 
 -- One table replaced
@@ -172,7 +203,7 @@ orderly-rows s rs f h = record {
   unique = h .unique;
   kinds = λ i n k d v e. let r = f i n k d v e in h .kinds i n k d (r .0) (r .1);
   alone = λ i j n m k d c u v e e′. let r = f i n k d u e in let t = f j m k c v e′ in h .alone i j n m k d c (r .0) (t .0) (r .1) (t .1);
-  plain = λ i n k v e. let r = f i n k 1 (staged v) e in h .plain i n k v (r .1 ∙ ap (row n k 1) (sym (r .2 refl)));
+  plain = λ i n k v e. let r = f i n k INVALIDATE (staged v) e in h .plain i n k v (r .1 ∙ ap (row n k INVALIDATE) (sym (r .2 refl)));
 }
 
 -- Each change of a state
@@ -193,7 +224,7 @@ orderly-finish s ns f h = orderly-leave (withKeys s (settle ns f (s .rows) (s .k
 pub orderly-expire : (s : State) (now : ℕ) → Orderly s → Orderly (expire now s)
 unfolding expire
 orderly-expire s now h = orderly-finish (withKeys s (map (lapsedLease now) (s .keys))) (those (isDue now) (s .sessions)) lapsedValue
-    (orderly-keys s (map (lapsedLease now) (s .keys)) (λ k l p. inl (lapsed-was s now k l p)) h)
+    (orderly-keys s (map (lapsedLease now) (s .keys)) (λ k l p. inl (lapsed-was s now k l p .0)) h)
 
 pub orderly-filled : (s : State) (k : ℕ) (v : Value) → Orderly s → Orderly (fills s k v .after)
 unfolding fills
@@ -262,7 +293,7 @@ orderly-begin s now h = record {
 pub orderly-leased : (s : State) (now k : ℕ) → ((i n d : ℕ) (v : Staged) → rowAt s i ≡ row n k d v → ⊥) → Orderly s → Orderly (leased s now k .after)
 unfolding leased
 orderly-leased s now k bare h = record {
-  leases = λ j l e. lease j l e (Views.lease-after (s .keys) k (some new) j);
+  leases = λ j l e. lease j l (leased-was s k new j l e);
   numbers = h .numbers;
   unique = h .unique;
   kinds = h .kinds;
@@ -273,17 +304,9 @@ orderly-leased s now k bare h = record {
     new : Lease
     new = record { token = s .head .nextToken; until = now + s .head .readLife }
 
-    ks : List Key
-    ks = setLease (s .keys) k (some new)
-
-    lease : (j : ℕ) (l : Lease) → getD ks j blank .lease ≡ some l
-        → ((k ≡ j → ⊥) × (getD ks j blank .lease ≡ leaseOn s j)) ⊎ ((k ≡ j) × ((getD ks j blank .lease ≡ some new) ⊎ (getD ks j blank .lease ≡ none)))
-        → (l .token < suc (s .head .nextToken)) × ((i n d : ℕ) (v : Staged) → rowAt s i ≡ row n j d v → ⊥)
-    lease j l e (inl x) = let p = h .leases j l (sym (x .1) ∙ e) in (omega (arith, p .0), p .1)
-    lease j l e (inr x) = elim (x .1) [
-      | inl y ↦ (let p : some new ≡ some l = sym y ∙ e in let q : s .head .nextToken ≡ l .token = cc in omega arith, rw (← (x .0)) bare)
-      | inr y ↦ Views.no-some l (sym y ∙ e)
-    ]
+    lease : (j : ℕ) (l : Lease) → (leaseOn s j ≡ some l) ⊎ ((k ≡ j) × (new ≡ l)) → (l .token < suc (s .head .nextToken)) × ((i n d : ℕ) (v : Staged) → rowAt s i ≡ row n j d v → ⊥)
+    lease j l (inl x) = let p = h .leases j l x in (omega (arith, p .0), p .1)
+    lease j l (inr x) = (let q : s .head .nextToken ≡ l .token = ap (λ (y : Lease). y .token) (x .1) in omega arith, rw (← (x .0)) bare)
 
 -- QUAR granted: who else has a row on the key invalidates, as the asker does, and the key's lease is voided
 pub orderly-granted : (s : State) (n k kind : ℕ) → Within INVALIDATE INCREMENTAL kind → ((i m d : ℕ) (v : Staged) → rowAt s i ≡ row m k d v → (kind ≡ INVALIDATE) × (d ≡ INVALIDATE)) → Orderly s
@@ -292,37 +315,28 @@ orderly-granted s n k kind range sharing h = record {
   leases = λ j l e.
       let p = voided-was s k j l e in
       let q = h .leases j l (p .1) in
-      (q .0, λ i m d v f. elim (seen i m j d v f) [ inl x ↦ q .1 i m d v x | inr x ↦ p .0 (sym (x .1)) ]);
+      (q .0, λ i m d v f. elim (granted-was s n k kind i m j d v f) [ inl x ↦ q .1 i m d v x | inr x ↦ p .0 (sym (x .2)) ]);
   numbers = h .numbers;
   unique = h .unique;
-  kinds = λ i m j d v e. elim (seen i m j d v e) [ inl p ↦ h .kinds i m j d v p | inr p ↦ rw (p .2) range ];
-  alone = λ i i′ m m′ j d c u v e f. two i i′ m m′ j d c u v (seen i m j d u e) (seen i′ m′ j c v f);
-  plain = λ i m j v e. elim (seen i m j 1 (staged v) e) [ inl p ↦ h .plain i m j v p | inr p ↦ (let q = p .3 in zero-one cc) ];
+  kinds = λ i m j d v e. elim (granted-was s n k kind i m j d v e) [ inl p ↦ h .kinds i m j d v p | inr p ↦ rw (p .3) range ];
+  alone = λ i i′ m m′ j d c u v e f. two i i′ m m′ j d c u v (granted-was s n k kind i m j d u e) (granted-was s n k kind i′ m′ j c v f);
+  plain = λ i m j v e. elim (granted-was s n k kind i m j INVALIDATE (staged v) e) [ inl p ↦ h .plain i m j v p | inr p ↦ (let q = p .4 in zero-one cc) ];
 }
   where
-    at : ℕ
-    at = place freeRow (s .rows)
-
-    Seen : ℕ → ℕ → ℕ → ℕ → Staged → Type 0
-    Seen i m j d v = (rowAt s i ≡ row m j d v) ⊎ ((at ≡ i) × (j ≡ k) × (d ≡ kind) × (v ≡ nothing))
-
-    seen : (i m j d : ℕ) (v : Staged) → getD (putAt freeRow (row n k kind nothing) (s .rows)) i noRow ≡ row m j d v → Seen i m j d v
-    seen i m j d v e = elim (was-set (s .rows) at (row n k kind nothing) i noRow (row m j d v) (Views.no-row m j d v) e) [ inl p ↦ inl p | inr p ↦ (let q = p .1 in inr (p .0, cc, cc, cc)) ]
-
-    two : (i i′ m m′ j d c : ℕ) (u v : Staged) → Seen i m j d u → Seen i′ m′ j c v → (d ≡ INVALIDATE) ⊎ (i ≡ i′)
+    two : (i i′ m m′ j d c : ℕ) (u v : Staged) → GrantedWas s n k kind i m j d u → GrantedWas s n k kind i′ m′ j c v → (d ≡ INVALIDATE) ⊎ (i ≡ i′)
     two i i′ m m′ j d c u v (inl x) (inl y) = h .alone i i′ m m′ j d c u v x y
-    two i i′ m m′ j d c u v (inl x) (inr y) = inl (sharing i m d u (rw (y .1) at x) .1)
-    two i i′ m m′ j d c u v (inr x) (inl y) = inl (x .2 ∙ sharing i′ m′ c v (rw (x .1) at y) .0)
+    two i i′ m m′ j d c u v (inl x) (inr y) = inl (sharing i m d u (rw (y .2) at x) .1)
+    two i i′ m m′ j d c u v (inr x) (inl y) = inl (x .3 ∙ sharing i′ m′ c v (rw (x .2) at y) .0)
     two i i′ m m′ j d c u v (inr x) (inr y) = inr (sym (x .0) ∙ y .0)
 
 -- the fresh state
 pub orderly-fresh : (readLife writeLife : ℕ) → Orderly (fresh readLife writeLife)
 unfolding fresh
 orderly-fresh readLife writeLife = record {
-  leases = λ k l e. Views.no-some l (sym (ap (λ (x : Key). x .lease) (Views.getD-same keyCount k blank)) ∙ e);
-  numbers = λ i x e. Views.no-session x (sym (Views.getD-same sessionCount i noSession) ∙ e);
-  unique = λ i j x y e f q. Views.no-session x (sym (Views.getD-same sessionCount i noSession) ∙ e);
-  kinds = λ i n k d v e. Views.no-row n k d v (sym (Views.getD-same rowCount i noRow) ∙ e);
-  alone = λ i j n m k d c u v e f. Views.no-row n k d u (sym (Views.getD-same rowCount i noRow) ∙ e);
-  plain = λ i n k v e. Views.no-row n k INVALIDATE (staged v) (sym (Views.getD-same rowCount i noRow) ∙ e);
+  leases = λ k l e. Views.fresh-lease readLife writeLife k l e;
+  numbers = λ i x e. Views.fresh-session readLife writeLife i x e;
+  unique = λ i j x y e f q. Views.fresh-session readLife writeLife i x e;
+  kinds = λ i n k d v e. Views.fresh-row readLife writeLife i n k d v e;
+  alone = λ i j n m k d c u v e f. Views.fresh-row readLife writeLife i n k d u e;
+  plain = λ i n k v e. Views.fresh-row readLife writeLife i n k INVALIDATE (staged v) e;
 }
