@@ -29,7 +29,10 @@ same-length-3 : tie.Need-same-length-3
 same-length-3 c = search needs
 
 returns-3 : tie.Need-returns-3
-returns-3 c = rw (operate-count (c .before .before .before .before .before .before .before .before .args .operand .now) (c .before .before .before .before .before .before .before .before .args .value .now) (c .before .before .before .before .before .before .before .before .args .operation) (c .before .before .before .before .match .rest .0 .1) (c .before .before .before .before .match .rest .1)) (c .before .before .count .ensures)
+returns-3 c = let count = c .before .before .count in
+    let match = c .before .before .before .before .match in
+    let args = c .before .before .before .before .before .before .before .before .args in
+    rw (operate-count (args .operand .now) (args .value .now) (args .operation) (match .rest .0 .1) (match .rest .1)) (count .ensures)
 
 pub operate-spec : {M : Type 1} → statement M
 operate-spec =

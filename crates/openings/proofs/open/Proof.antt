@@ -41,9 +41,15 @@ same-length-2 : tie.Need-same-length-2
 same-length-2 c = search needs
 
 returns-2 : tie.Need-returns-2
-returns-2 c = λ σ h ok p.
-    begin-gives σ ok (c .before .before .before .before .before .before .before .before .before .before .before .before .before .before .before .args .time) (c .before .before .before .before .before .before .before .before .before .before .before .before .before .before .before .args .i) (search needs) p _ (c .before .before .before .before .before .before .before .before .before .before .before .before .next-session .result) (c .before .before .before .before .before .before .before .before .before .write-life .result) (c .before .before .before .before .before .before .before .«open» .result) (c .before .before .before .before .before .before .before .before .before .before .before .before .next-session .ensures σ h) (c .before .before .before .before .before .before .before .before .before .write-life .ensures .0 σ h) (search needs) (c .before .before .before .before .before .before .before .«open» .ensures)
-    (c .before .before .store-next-session .ensures (withSessions σ (set (σ .sessions) (c .before .before .before .before .before .before .before .before .before .before .before .before .before .before .before .args .i) (session (c .before .before .before .before .before .before .before .«open» .result)))) (c .before .before .before .before .before .before .store .ensures σ h (rw (c .before .before .before .before .before .before .before .«open» .ensures) (rw (c .before .before .before .before .before .before .before .before .before .before .before .before .next-session .ensures σ h) (facts.next-session σ ok .0))) (rw (c .before .before .before .before .before .before .before .«open» .ensures) (omega arith))))
+returns-2 c = let store-next-session = c .before .before .store-next-session in
+    let store = c .before .before .before .before .before .before .store in
+    let «open» = c .before .before .before .before .before .before .before .«open» in
+    let write-life = c .before .before .before .before .before .before .before .before .before .write-life in
+    let next-session = c .before .before .before .before .before .before .before .before .before .before .before .before .next-session in
+    let args = c .before .before .before .before .before .before .before .before .before .before .before .before .before .before .before .args in
+    λ σ h ok p.
+    begin-gives σ ok (args .time) (args .i) (search needs) p _ (next-session .result) (write-life .result) («open» .result) (next-session .ensures σ h) (write-life .ensures .0 σ h) (search needs) («open» .ensures)
+    (store-next-session .ensures (withSessions σ (set (σ .sessions) (args .i) (session («open» .result)))) (store .ensures σ h (rw («open» .ensures) (rw (next-session .ensures σ h) (facts.next-session σ ok .0))) (rw («open» .ensures) (omega arith))))
 
 pub open-spec : {M : Type 1} → statement M
 open-spec =

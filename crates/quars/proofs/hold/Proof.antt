@@ -22,7 +22,11 @@ same-length-2 : tie.Need-same-length-2
 same-length-2 c = search needs
 
 returns-2 : tie.Need-returns-2
-returns-2 c = λ σ h ok here. rw (hold-asks σ (c .before .before .before .before .before .before .before .before .args .n) (c .before .before .before .before .before .before .before .before .args .k) (c .before .before .before .before .before .before .before .before .args .kind) (sym (c .before .before .before .before .before .holds .ensures σ h) ∙ c .before .before .before .before .if1 .left)) (c .before .before .ask .ensures σ h ok here)
+returns-2 c = let ask = c .before .before .ask in
+    let if1 = c .before .before .before .before .if1 in
+    let holds = c .before .before .before .before .before .holds in
+    let args = c .before .before .before .before .before .before .before .before .args in
+    λ σ h ok here. rw (hold-asks σ (args .n) (args .k) (args .kind) (sym (holds .ensures σ h) ∙ if1 .left)) (ask .ensures σ h ok here)
 
 pub hold-spec : {M : Type 1} → statement M
 hold-spec =

@@ -32,12 +32,17 @@ same-length-2 : tie.Need-same-length-2
 same-length-2 c = search needs
 
 returns-2 : tie.Need-returns-2
-returns-2 c = λ σ h ok p.
-    let w = located σ (c .before .before .before .before .before .before .before .before .before .args .session) (c .before .before .before .before .before .before .before .before .before .args .i) ok p (search needs) in
-    let x = live-is σ ok (c .before .before .before .before .before .before .before .before .before .args .session) (c .before .before .before .before .before .before .before .before .before .args .i) w (c .before .before .before .before .before .before .load .result) (c .before .before .before .before .before .before .load .ensures σ h) in
-    let e = ap (λ (y : Session). y .number) (c .before .before .before .before .before .before .load .ensures σ h) ∙ number-in (sessionAt σ (c .before .before .before .before .before .before .before .before .before .args .i)) in
-    gives (done-is σ (c .before .before .before .before .before .before .before .before .before .args .session) (w .live) (w .of) (sym (ap isSealed x) ∙ test-passed (c .before .before .before .before .before .is-sealed .ensures) (c .before .before .before .before .if1 .left)))
-    (rw (← finished-is σ ok (c .before .before .before .before .before .before .before .before .before .args .session) (c .before .before .before .before .before .before .before .before .before .args .i) w (c .before .before .before .before .before .before .load .result .number) e) (c .before .before .finish .ensures σ h ok (number-here σ ok (c .before .before .before .before .before .before .before .before .before .args .session) (c .before .before .before .before .before .before .before .before .before .args .i) w (c .before .before .before .before .before .before .load .result .number) e)))
+returns-2 c = let finish = c .before .before .finish in
+    let if1 = c .before .before .before .before .if1 in
+    let is-sealed = c .before .before .before .before .before .is-sealed in
+    let load = c .before .before .before .before .before .before .load in
+    let args = c .before .before .before .before .before .before .before .before .before .args in
+    λ σ h ok p.
+    let w = located σ (args .session) (args .i) ok p (search needs) in
+    let x = live-is σ ok (args .session) (args .i) w (load .result) (load .ensures σ h) in
+    let e = ap (λ (y : Session). y .number) (load .ensures σ h) ∙ number-in (sessionAt σ (args .i)) in
+    gives (done-is σ (args .session) (w .live) (w .of) (sym (ap isSealed x) ∙ test-passed (is-sealed .ensures) (if1 .left)))
+    (rw (← finished-is σ ok (args .session) (args .i) w (load .result .number) e) (finish .ensures σ h ok (number-here σ ok (args .session) (args .i) w (load .result .number) e)))
 
 pub done-at-spec : {M : Type 1} → statement M
 done-at-spec =
