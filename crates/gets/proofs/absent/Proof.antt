@@ -3,7 +3,7 @@ use mathlib.Core.Path.{refl, sym, ap, _∙_}
 use native.Mathlib.Omega.{arith}
 use Rattle.machine.specs.declared.Answer.{Answer}
 use Rattle.machine.proofs.SoundFacts.{next-token}
-use Rattle.gets.proofs.Got.{absent-blocked, absent-refused, absent-leased}
+use Rattle.gets.proofs.Tried.{absent-blocked, absent-refused, absent-leased}
 use borrow.Author.Needs.{needs}
 use Rattle.gets.proofs.absent.Statement.{statement}
 use Rattle.gets.proofs.absent.Tie as tie

@@ -6,7 +6,7 @@ use Prim.Native.Nat.{_<_}
 use Rattle.sights.specs.Sights.{placed}
 use Rattle.gets.specs.Got.{asked}
 use Rattle.sights.proofs.Sights.{row-missing, row-taken, sight-row, sight-cached}
-use Rattle.gets.proofs.Got.{got-key, got-unknown, got-held, got-others}
+use Rattle.gets.proofs.Tried.{got-key, got-unknown, got-held, got-others}
 use borrow.Author.Needs.{needs}
 use Rattle.gets.proofs.get.Statement.{statement}
 use Rattle.gets.proofs.get.Tie as tie

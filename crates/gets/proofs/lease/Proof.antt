@@ -1,5 +1,5 @@
 -- The lease with the token, and the next token after it, are what `leased` sets.
-use Rattle.gets.proofs.Got.{lease-gives}
+use Rattle.gets.proofs.Tried.{lease-gives}
 use borrow.Author.Needs.{needs}
 use Rattle.gets.proofs.lease.Statement.{statement}
 use Rattle.gets.proofs.lease.Tie as tie

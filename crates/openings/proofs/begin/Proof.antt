@@ -5,7 +5,7 @@ use Rattle.machine.specs.Sizes.{sessionCount}
 use Rattle.machine.specs.Tables.{place}
 use Rattle.machine.specs.State.{free}
 use Rattle.layout.proofs.Search.{found-at}
-use Rattle.openings.proofs.Cases.{begin-full}
+use Rattle.openings.proofs.Tried.{begin-full}
 use borrow.Author.Needs.{needs}
 use Rattle.openings.proofs.begin.Statement.{statement}
 use Rattle.openings.proofs.begin.Tie as tie

@@ -5,7 +5,7 @@ use Rattle.machine.proofs.SoundFacts as facts
 use Rattle.machine.specs.State.{session}
 use Rattle.machine.specs.Expiry.{withSessions}
 use lib.ListN.{set}
-use Rattle.openings.proofs.Cases.{begin-spent, begin-gives}
+use Rattle.openings.proofs.Tried.{begin-spent, begin-gives}
 use borrow.Author.Needs.{needs}
 use Rattle.openings.proofs.open.Statement.{statement}
 use Rattle.openings.proofs.open.Tie as tie
@@ -17,7 +17,9 @@ same-length : tie.Need-same-length
 same-length c = search needs
 
 returns : tie.Need-returns
-returns c = λ σ h ok p. gives (begin-spent σ ok (c .before .before .before .before .args .time) (c .before .before .before .before .args .i) (search needs) p (c .before .next-session .result) (c .before .next-session .ensures σ h) (search needs)) h
+returns c = let next-session = c .before .next-session in
+    let args = c .before .before .before .before .args in
+    λ σ h ok p. gives (begin-spent σ ok (args .time) (args .i) (search needs) p (next-session .result) (next-session .ensures σ h) (search needs)) h
 
 write-life-requires : tie.Need-write-life-requires
 write-life-requires c κs = search needs
@@ -43,10 +45,11 @@ same-length-2 c = search needs
 returns-2 : tie.Need-returns-2
 returns-2 c = let store-next-session = c .before .before .store-next-session in
     let store = c .before .before .before .before .before .before .store in
-    let «open» = c .before .before .before .before .before .before .before .«open» in
+    let open-call = c .before .before .before .before .before .before .before .«open» in
     let write-life = c .before .before .before .before .before .before .before .before .before .write-life in
     let next-session = c .before .before .before .before .before .before .before .before .before .before .before .before .next-session in
     let args = c .before .before .before .before .before .before .before .before .before .before .before .before .before .before .before .args in
+    let «open» = open-call in
     λ σ h ok p.
     begin-gives σ ok (args .time) (args .i) (search needs) p _ (next-session .result) (write-life .result) («open» .result) (next-session .ensures σ h) (write-life .ensures .0 σ h) (search needs) («open» .ensures)
     (store-next-session .ensures (withSessions σ (set (σ .sessions) (args .i) (session («open» .result)))) (store .ensures σ h (rw («open» .ensures) (rw (next-session .ensures σ h) (facts.next-session σ ok .0))) (rw («open» .ensures) (omega arith))))

@@ -2,7 +2,7 @@
 use mathlib.Core.Path.{sym, _∙_}
 use Rattle.layout.proofs.Held.{session-fits}
 use Rattle.machine.specs.State.{sessionAt}
-use Rattle.quars.proofs.Asked.{ask-by, number-given}
+use Rattle.quars.proofs.Tried.{ask-by, number-given}
 use borrow.Author.Needs.{needs}
 use Rattle.quars.proofs.ask.Statement.{statement}
 use Rattle.quars.proofs.ask.Tie as tie

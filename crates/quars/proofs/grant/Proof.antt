@@ -1,7 +1,7 @@
 -- Without a free row the table is full; else the row is written there and the I lease cleared.
 use mathlib.Core.Path.{sym, _∙_}
 use Rattle.outcome.proofs.Told.{gives}
-use Rattle.quars.proofs.Asked.{grant-full, grant-room}
+use Rattle.quars.proofs.Tried.{grant-full, grant-room}
 use borrow.Author.Needs.{needs}
 use Rattle.quars.proofs.grant.Statement.{statement}
 use Rattle.quars.proofs.grant.Tie as tie

@@ -5,7 +5,7 @@ use Rattle.lent.proofs.Choices.{test-failed, test-passed}
 use Rattle.machine.proofs.Accepted.{is-kind}
 use Rattle.askers.proofs.Asked.{asks}
 use Rattle.outcome.proofs.Told.{gives}
-use Rattle.quars.proofs.Asked.{stands, quar-key, quar-kind, quar-refused, quar-open}
+use Rattle.quars.proofs.Tried.{stands, quar-key, quar-kind, quar-refused, quar-open}
 use borrow.Author.Needs.{needs}
 use Rattle.quars.proofs.quar.Statement.{statement}
 use Rattle.quars.proofs.quar.Tie as tie

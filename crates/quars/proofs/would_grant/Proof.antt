@@ -1,6 +1,6 @@
 -- A row of that kind is HELD; without one the verdict of the table says whether it is granted.
 use mathlib.Core.Path.{sym, _∙_}
-use Rattle.quars.proofs.Asked.{grants-held-not, grants-by}
+use Rattle.quars.proofs.Tried.{grants-held-not, grants-by}
 use borrow.Author.Needs.{needs}
 use Rattle.quars.proofs.would_grant.Statement.{statement}
 use Rattle.quars.proofs.would_grant.Tie as tie

@@ -4,7 +4,7 @@ use Rattle.outcome.proofs.Told.{gives}
 use Rattle.machine.specs.Sizes.{sessionCount}
 use Rattle.machine.specs.State.{sessionPlace}
 use Rattle.layout.proofs.Search.{found-at}
-use Rattle.turns.proofs.Cases.{unlocated, done-none}
+use Rattle.turns.proofs.Tried.{unlocated, done-none}
 use borrow.Author.Needs.{needs}
 use Rattle.turns.proofs.done.Statement.{statement}
 use Rattle.turns.proofs.done.Tie as tie
@@ -35,7 +35,9 @@ same-length-2 : tie.Need-same-length-2
 same-length-2 c = search needs
 
 returns-2 : tie.Need-returns-2
-returns-2 c = λ σ h ok. gives (done-none σ (c .before .before .before .before .before .args .session) (unlocated σ (c .before .before .before .before .before .args .session) ok (sym (c .before .before .find .ensures .0 σ h) ∙ c .enum-told .given .1))) h
+returns-2 c = let find = c .before .before .find in
+    let args = c .before .before .before .before .before .args in
+    λ σ h ok. gives (done-none σ (args .session) (unlocated σ (args .session) ok (sym (find .ensures .0 σ h) ∙ c .enum-told .given .1))) h
 
 pub done-spec : {M : Type 1} → statement M
 done-spec =

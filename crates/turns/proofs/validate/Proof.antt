@@ -4,7 +4,7 @@ use Rattle.outcome.proofs.Told.{gives}
 use Rattle.machine.specs.Sizes.{sessionCount}
 use Rattle.machine.specs.State.{sessionPlace}
 use Rattle.layout.proofs.Search.{found-at}
-use Rattle.turns.proofs.Cases.{unlocated, validate-none, validate-far}
+use Rattle.turns.proofs.Tried.{unlocated, validate-none, validate-far}
 use borrow.Author.Needs.{needs}
 use Rattle.turns.proofs.validate.Statement.{statement}
 use Rattle.turns.proofs.validate.Tie as tie
