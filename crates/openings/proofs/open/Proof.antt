@@ -45,14 +45,15 @@ same-length-2 c = search needs
 returns-2 : tie.Need-returns-2
 returns-2 c = let store-next-session = c .before .before .store-next-session in
     let store = c .before .before .before .before .before .before .store in
-    let open-call = c .before .before .before .before .before .before .before .«open» in
+    let opened = c .before .before .before .before .before .before .before .«open» in
     let write-life = c .before .before .before .before .before .before .before .before .before .write-life in
     let next-session = c .before .before .before .before .before .before .before .before .before .before .before .before .next-session in
-    let args = c .before .before .before .before .before .before .before .before .before .before .before .before .before .before .before .args in
-    let «open» = open-call in
+    let entry = c .before .before .before .before .before .before .before .before .before .before .before .before .before .before .before in
     λ σ h ok p.
-    begin-gives σ ok (args .time) (args .i) (search needs) p _ (next-session .result) (write-life .result) («open» .result) (next-session .ensures σ h) (write-life .ensures .0 σ h) (search needs) («open» .ensures)
-    (store-next-session .ensures (withSessions σ (set (σ .sessions) (args .i) (session («open» .result)))) (store .ensures σ h (rw («open» .ensures) (rw (next-session .ensures σ h) (facts.next-session σ ok .0))) (rw («open» .ensures) (omega arith))))
+    begin-gives σ ok (entry .args .time) (entry .args .i) (entry .pre .1 .0) p _ (next-session .result) (write-life .result) (opened .result)
+    (next-session .ensures σ h) (write-life .ensures .0 σ h) (search needs) (opened .ensures)
+    (store-next-session .ensures (withSessions σ (set (σ .sessions) (entry .args .i) (session (opened .result))))
+    (store .ensures σ h (rw (opened .ensures) (rw (next-session .ensures σ h) (facts.next-session σ ok .0))) (rw (opened .ensures) (omega arith))))
 
 pub open-spec : {M : Type 1} → statement M
 open-spec =
