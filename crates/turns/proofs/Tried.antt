@@ -49,6 +49,7 @@ located s n i ok p l = go (sessionAt s i) refl (rw (← p) (place-passes (number
 pub unlocated : (s : State) (n : ℕ) → sound s ≡ true → found sessionCount (sessionPlace s n) ≡ Found.Nothing → sessionOf s n ≡ noSession
 unlocated s n ok e = nothing-entry (numbered n) noSession (s .sessions) sessionCount (sessions-length s ok) e
 
+-- 0 stands for the time, which none of the three looks at
 module _ (s : State) (n : ℕ) where
   -- ---- no session
   pub undo-none : sessionOf s n ≡ noSession → tried s 0 (Undo n) [] ≡ told (Answer.Refused NO-SESSION) s

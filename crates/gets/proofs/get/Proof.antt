@@ -1,6 +1,6 @@
 -- Each test that refuses, in its order; then a row of the session's own decides.
 use Rattle.machine.specs.Sizes.{rowCount}
-use mathlib.Core.Path.{refl, sym, ap, _∙_}
+use mathlib.Core.Path.{sym, ap, _∙_}
 use native.Mathlib.Omega.{arith}
 use Prim.Native.Nat.{_<_}
 use Rattle.sights.specs.Sights.{placed}
@@ -8,11 +8,12 @@ use Rattle.gets.specs.Got.{asked}
 use Rattle.sights.proofs.Sights.{row-missing, row-taken, sight-row, sight-cached}
 use Rattle.gets.proofs.Tried.{got-key, got-unknown, got-held, got-others}
 use borrow.Author.Needs.{needs}
+use Rattle.outcome.proofs.Told.{gives}
 use Rattle.gets.proofs.get.Statement.{statement}
 use Rattle.gets.proofs.get.Tie as tie
 
 returns : tie.Need-returns
-returns c = λ σ h e. let a = c .before .before .args in rw (got-key σ (a .time) (a .session) (a .key) (c .if1 .taken)) (record { answer = refl; holds = h })
+returns c = λ σ h e. let a = c .before .before .args in gives (got-key σ (a .time) (a .session) (a .key) (c .if1 .taken)) h
 
 is-unknown-requires : tie.Need-is-unknown-requires
 is-unknown-requires c κs = search needs
@@ -21,8 +22,10 @@ same-length : tie.Need-same-length
 same-length c = search needs
 
 returns-2 : tie.Need-returns-2
-returns-2 c = λ σ h e. let a = c .before .before .before .before .before .args in
-    rw (got-unknown σ (a .time) (a .session) (a .key) (c .before .before .before .if1 .left) (sym (c .before .is-unknown .ensures σ h) ∙ c .if2 .taken)) (record { answer = refl; holds = h })
+returns-2 c = let is-unknown = c .before .is-unknown in
+    let if1 = c .before .before .before .if1 in
+    let args = c .before .before .before .before .before .args in
+    λ σ h e. gives (got-unknown σ (args .time) (args .session) (args .key) (if1 .left) (sym (is-unknown .ensures σ h) ∙ c .if2 .taken)) h
 
 find-requires : tie.Need-find-requires
 find-requires c κs = search needs
@@ -31,7 +34,9 @@ enum-known-row : tie.Need-enum-known-row
 enum-known-row c = search needs
 
 row-sight-requires : tie.Need-row-sight-requires
-row-sight-requires c κs = let l : c .before .before .row .given .0 .0 < rowCount = rw (c .before .before .row .given .1) at (c .before .before .before .before .find .ensures .1) in omega arith
+row-sight-requires c κs = let row = c .before .before .row in
+    let find = c .before .before .before .before .find in
+    let l : row .given .0 .0 < rowCount = rw (row .given .1) at (find .ensures .1) in omega arith
 
 asked-requires : tie.Need-asked-requires
 asked-requires c κs = search needs

@@ -1,8 +1,7 @@
 -- Each verdict of the table is the definition's, since what is held is.
 use mathlib.Core.Path.{sym, _∙_}
-use Rattle.layout.proofs.Held.{session-fits}
-use Rattle.machine.specs.State.{sessionAt}
-use Rattle.quars.proofs.Tried.{ask-by, number-given}
+use Rattle.layout.proofs.Held.{number-given}
+use Rattle.quars.proofs.Tried.{ask-by}
 use borrow.Author.Needs.{needs}
 use Rattle.quars.proofs.ask.Statement.{statement}
 use Rattle.quars.proofs.ask.Tie as tie
@@ -47,7 +46,8 @@ returns c = let grant = c .before .before .grant in
     let held = c .before .before .before .before .before .before .before .held in
     let args = c .before .before .before .before .before .before .before .before .before .before .args in
     let pre = c .before .before .before .before .before .before .before .before .before .before .pre in
-    λ σ h ok here. rw (ask-by σ (args .n) (args .k) (args .kind) _ (held .result) (held .ensures .0 σ h ok) (sym (decide .ensures) ∙ enum-told .given .1)) (grant .ensures σ h (number-given (args .n) (sessionAt σ (args .place)) (session-fits h (args .place) (pre .1 .0)) here))
+    λ σ h ok here. rw (ask-by σ (args .n) (args .k) (args .kind) _ (held .result) (held .ensures .0 σ h ok) (sym (decide .ensures) ∙ enum-told .given .1))
+    (grant .ensures σ h (number-given h (args .place) (pre .1 .0) (args .n) here))
 
 same-length-2 : tie.Need-same-length-2
 same-length-2 c = search needs
@@ -59,7 +59,8 @@ returns-2 c = let grant2 = c .before .before .grant2 in
     let held = c .before .before .before .before .before .before .before .held in
     let args = c .before .before .before .before .before .before .before .before .before .before .args in
     let pre = c .before .before .before .before .before .before .before .before .before .before .pre in
-    λ σ h ok here. rw (ask-by σ (args .n) (args .k) (args .kind) _ (held .result) (held .ensures .0 σ h ok) (sym (decide .ensures) ∙ enum-told2 .given .1)) (grant2 .ensures σ h (number-given (args .n) (sessionAt σ (args .place)) (session-fits h (args .place) (pre .1 .0)) here))
+    λ σ h ok here. rw (ask-by σ (args .n) (args .k) (args .kind) _ (held .result) (held .ensures .0 σ h ok) (sym (decide .ensures) ∙ enum-told2 .given .1))
+    (grant2 .ensures σ h (number-given h (args .place) (pre .1 .0) (args .n) here))
 
 same-length-3 : tie.Need-same-length-3
 same-length-3 c = search needs
@@ -70,7 +71,8 @@ returns-3 c = let abort = c .before .before .abort in
     let decide = c .before .before .before .before .before .before .decide in
     let held = c .before .before .before .before .before .before .before .held in
     let args = c .before .before .before .before .before .before .before .before .before .before .args in
-    λ σ h ok here. rw (ask-by σ (args .n) (args .k) (args .kind) _ (held .result) (held .ensures .0 σ h ok) (sym (decide .ensures) ∙ enum-told3 .given .1)) (abort .ensures σ h ok here)
+    λ σ h ok here. rw (ask-by σ (args .n) (args .k) (args .kind) _ (held .result) (held .ensures .0 σ h ok) (sym (decide .ensures) ∙ enum-told3 .given .1))
+    (abort .ensures σ h ok here)
 
 same-length-4 : tie.Need-same-length-4
 same-length-4 c = search needs
@@ -81,7 +83,8 @@ returns-4 c = let abort2 = c .before .before .abort2 in
     let decide = c .before .before .before .before .before .before .decide in
     let held = c .before .before .before .before .before .before .before .held in
     let args = c .before .before .before .before .before .before .before .before .before .before .args in
-    λ σ h ok here. rw (ask-by σ (args .n) (args .k) (args .kind) _ (held .result) (held .ensures .0 σ h ok) (sym (decide .ensures) ∙ enum-told4 .given .1)) (abort2 .ensures σ h ok here)
+    λ σ h ok here. rw (ask-by σ (args .n) (args .k) (args .kind) _ (held .result) (held .ensures .0 σ h ok) (sym (decide .ensures) ∙ enum-told4 .given .1))
+    (abort2 .ensures σ h ok here)
 
 pub ask-spec : {M : Type 1} → statement M
 ask-spec =

@@ -3,9 +3,9 @@ use mathlib.Core.Path.{sym, _∙_}
 use native.Mathlib.Omega.{arith}
 use Rattle.lent.proofs.Choices.{test-failed, test-passed}
 use Rattle.machine.proofs.Accepted.{is-kind}
-use Rattle.askers.proofs.Asked.{asks}
+use Rattle.askers.proofs.Asked.{asks, asks-numbered}
 use Rattle.outcome.proofs.Told.{gives}
-use Rattle.quars.proofs.Tried.{stands, quar-key, quar-kind, quar-refused, quar-open}
+use Rattle.quars.proofs.Tried.{quar-key, quar-kind, quar-refused, quar-open}
 use borrow.Author.Needs.{needs}
 use Rattle.quars.proofs.quar.Statement.{statement}
 use Rattle.quars.proofs.quar.Tie as tie
@@ -38,9 +38,10 @@ hold-requires : tie.Need-hold-requires
 hold-requires c κs = let place = c .before .before .place in
     let find = c .before .before .before .before .find in
     let if2 = c .before .before .before .before .before .before .if2 in
-    let is-kind-call = c .before .before .before .before .before .before .before .is-kind in
+    let kind-told = c .before .before .before .before .before .before .before .is-kind in
     let args = c .before .before .before .before .before .before .before .before .before .before .args in
-    let d = is-kind (args .kind) (test-passed (is-kind-call .ensures) (if2 .left)) in (search needs, (rw (place .given .1) at (find .ensures .1), (d .0, omega (arith, d .1))))
+    let d = is-kind (args .kind) (test-passed (kind-told .ensures) (if2 .left)) in
+    (search needs, (rw (place .given .1) at (find .ensures .1), (d .0, omega (arith, d .1))))
 
 same-length : tie.Need-same-length
 same-length c = search needs
@@ -67,7 +68,8 @@ returns-4 c = let hold = c .before .before .hold in
     λ σ h ok.
     let q = sym (find .ensures .0 σ h) ∙ place .given .1 in
     let a = asks σ (args .session) (place .given .0 .0) (place .given .0 .1 .0) q in
-    rw (quar-open σ (args .session) (args .key) (args .kind) (if1 .left) (test-passed (is-kind .ensures) (if2 .left)) _ _ q) (rw (a .number) at (hold .ensures σ h ok (stands _ _ _ _ a)))
+    rw (quar-open σ (args .session) (args .key) (args .kind) (if1 .left) (test-passed (is-kind .ensures) (if2 .left)) _ _ q)
+    (rw (a .number) at (hold .ensures σ h ok (asks-numbered a)))
 
 pub quar-spec : {M : Type 1} → statement M
 quar-spec =
