@@ -21,7 +21,11 @@ returns-3 : tie.Need-returns-3
 returns-3 c = λ σ h ok. gives (delta-step _ _ _ _ _ _ (c .if3 .taken)) h
 
 returns-4 : tie.Need-returns-4
-returns-4 c = λ σ h ok. gives (delta-long _ _ _ _ _ _ (c .before .before .before .before .if1 .left) (test-passed (c .before .before .before .is-operation .ensures) (c .before .before .if2 .left)) (c .before .if3 .left) (c .if4 .taken)) h
+returns-4 c = let if3 = c .before .if3 in
+    let if2 = c .before .before .if2 in
+    let is-operation = c .before .before .before .is-operation in
+    let if1 = c .before .before .before .before .if1 in
+    λ σ h ok. gives (delta-long _ _ _ _ _ _ (if1 .left) (test-passed (is-operation .ensures) (if2 .left)) (if3 .left) (c .if4 .taken)) h
 
 find-requires : tie.Need-find-requires
 find-requires c κs = search needs
@@ -36,7 +40,10 @@ enum-known-place : tie.Need-enum-known-place
 enum-known-place c = search needs
 
 store-requires : tie.Need-store-requires
-store-requires c κs = (c .before .before .before .before .before .before .before .before .before .before .before .before .before .pre, rw (c .before .before .place .given .1) at (c .before .before .before .before .find .ensures .1) .0)
+store-requires c κs = let place = c .before .before .place in
+    let find = c .before .before .before .before .find in
+    let pre = c .before .before .before .before .before .before .before .before .before .before .before .before .before .pre in
+    (pre, rw (place .given .1) at (find .ensures .1) .0)
 
 change-requires : tie.Need-change-requires
 change-requires c κs = let place = c .before .before .before .before .before .before .place in

@@ -51,9 +51,11 @@ returns-2 c = let operate = c .before .before .operate in
     let if2 = c .before .before .before .before .before .before .if2 in
     let mark = c .before .before .before .before .before .before .before .before .mark in
     let args = c .before .before .before .before .before .before .before .before .before .before .before .before .args in
-    let pre = c .before .before .before .before .before .before .before .before .before .before .before .before .pre in
-    (λ σ h. works-staged h (args .row) (args .k) (args .operation) (args .operand .now) (pre .1 .0)
-    (sym (mark .ensures σ h) ∙ if2 .taken) (staged-length .ensures .0 σ h) (operate .ensures .value), operate .ensures .short)
+    let pre = c .before .before .before .before .before .before .before .before .before .before .before .before .pre in (
+      λ σ h. works-staged h (args .row) (args .k) (args .operation) (args .operand .now) (pre .1 .0)
+          (sym (mark .ensures σ h) ∙ if2 .taken) (staged-length .ensures .0 σ h) (operate .ensures .value),
+      operate .ensures .short,
+    )
 
 has-value-requires : tie.Need-has-value-requires
 has-value-requires c κs = search needs
@@ -63,9 +65,11 @@ returns-3 c = let has-value = c .before .has-value in
     let if2 = c .before .before .if2 in
     let if1 = c .before .before .before .if1 in
     let mark = c .before .before .before .before .mark in
-    let args = c .before .before .before .before .before .before .before .before .args in
-    (λ σ h. changed-absent (args .operation) (args .operand .now) (stagedIn (rowAt σ (args .row))) (cached σ (args .k))
-    (λ q. if1 .left (mark .ensures σ h ∙ q)) (λ q. if2 .left (mark .ensures σ h ∙ q)) (test-failed (has-value .ensures σ h) (c .if3 .taken)), tt)
+    let args = c .before .before .before .before .before .before .before .before .args in (
+      λ σ h. changed-absent (args .operation) (args .operand .now) (stagedIn (rowAt σ (args .row))) (cached σ (args .k))
+          (λ q. if1 .left (mark .ensures σ h ∙ q)) (λ q. if2 .left (mark .ensures σ h ∙ q)) (test-failed (has-value .ensures σ h) (c .if3 .taken)),
+      tt,
+    )
 
 value-length-requires : tie.Need-value-length-requires
 value-length-requires c κs = search needs
@@ -106,10 +110,12 @@ returns-4 c = let operate2 = c .before .before .operate2 in
     let if1 = c .before .before .before .before .before .before .before .before .before .if1 in
     let mark = c .before .before .before .before .before .before .before .before .before .before .mark in
     let args = c .before .before .before .before .before .before .before .before .before .before .before .before .before .before .args in
-    let pre = c .before .before .before .before .before .before .before .before .before .before .before .before .before .before .pre in
-    (λ σ h. works-cached h (args .row) (args .k) (args .operation) (args .operand .now)
-    (λ q. if1 .left (mark .ensures σ h ∙ q)) (λ q. if2 .left (mark .ensures σ h ∙ q)) (pre .1 .1 .0)
-    (test-passed (has-value .ensures σ h) (if3 .left)) (value-length .ensures .0 σ h) (operate2 .ensures .value), operate2 .ensures .short)
+    let pre = c .before .before .before .before .before .before .before .before .before .before .before .before .before .before .pre in (
+      λ σ h. works-cached h (args .row) (args .k) (args .operation) (args .operand .now)
+          (λ q. if1 .left (mark .ensures σ h ∙ q)) (λ q. if2 .left (mark .ensures σ h ∙ q)) (pre .1 .1 .0)
+          (test-passed (has-value .ensures σ h) (if3 .left)) (value-length .ensures .0 σ h) (operate2 .ensures .value),
+      operate2 .ensures .short,
+    )
 
 pub work-spec : {M : Type 1} → statement M
 work-spec =

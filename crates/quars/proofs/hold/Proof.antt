@@ -13,7 +13,9 @@ same-length : tie.Need-same-length
 same-length c = search needs
 
 returns : tie.Need-returns
-returns c = λ σ h ok here. gives (hold-own σ (c .before .before .before .before .args .n) (c .before .before .before .before .args .k) (c .before .before .before .before .args .kind) (sym (c .before .holds .ensures σ h) ∙ c .if1 .taken)) h
+returns c = let holds = c .before .holds in
+    let args = c .before .before .before .before .args in
+    λ σ h ok here. gives (hold-own σ (args .n) (args .k) (args .kind) (sym (holds .ensures σ h) ∙ c .if1 .taken)) h
 
 ask-requires : tie.Need-ask-requires
 ask-requires c κs = search needs

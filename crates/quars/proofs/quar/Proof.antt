@@ -32,7 +32,10 @@ cast-hold : tie.Need-cast-hold
 cast-hold c = search needs
 
 cast-hold-2 : tie.Need-cast-hold-2
-cast-hold-2 c = omega (arith, is-kind (c .before .before .before .before .before .before .before .before .before .before .args .kind) (test-passed (c .before .before .before .before .before .before .before .is-kind .ensures) (c .before .before .before .before .before .before .if2 .left)) .1)
+cast-hold-2 c = let if2 = c .before .before .before .before .before .before .if2 in
+    let kind-told = c .before .before .before .before .before .before .before .is-kind in
+    let args = c .before .before .before .before .before .before .before .before .before .before .args in
+    omega (arith, is-kind (args .kind) (test-passed (kind-told .ensures) (if2 .left)) .1)
 
 hold-requires : tie.Need-hold-requires
 hold-requires c κs = let place = c .before .before .place in

@@ -49,7 +49,11 @@ same-length-2 : tie.Need-same-length-2
 same-length-2 c = search needs
 
 returns-5 : tie.Need-returns-5
-returns-5 c = λ σ h ok. gives (stage-found _ _ _ _ _ (c .before .before .before .before .before .before .if1 .left) (c .before .before .before .before .before .if2 .left) (c .before .before .before .before .if3 .left) (sym (c .before .before .find .ensures .0 σ h) ∙ c .enum-told .given .1)) h
+returns-5 c = let find = c .before .before .find in
+    let if3 = c .before .before .before .before .if3 in
+    let if2 = c .before .before .before .before .before .if2 in
+    let if1 = c .before .before .before .before .before .before .if1 in
+    λ σ h ok. gives (stage-found _ _ _ _ _ (if1 .left) (if2 .left) (if3 .left) (sym (find .ensures .0 σ h) ∙ c .enum-told .given .1)) h
 
 same-length-3 : tie.Need-same-length-3
 same-length-3 c = search needs

@@ -24,7 +24,10 @@ kind-requires : tie.Need-kind-requires
 kind-requires c κs = (c .before .before .before .before .before .before .pre .0, rw (c .before .row .given .1) at (c .before .before .before .find .ensures .1))
 
 returns-2 : tie.Need-returns-2
-returns-2 c = (λ σ h q. sym (staging-kind _ _ _ _ _ _ _ q (h .fits .rows) _ (sym (c .before .before .before .before .before .find .ensures .0 σ h) ∙ c .before .before .before .row .given .1) (λ e. c .if1 .taken (c .before .kind .ensures σ h ∙ e))), tt)
+returns-2 c = let kind = c .before .kind in
+    let row = c .before .before .before .row in
+    let find = c .before .before .before .before .before .find in
+    (λ σ h q. sym (staging-kind _ _ _ _ _ _ _ q (h .fits .rows) _ (sym (find .ensures .0 σ h) ∙ row .given .1) (λ e. c .if1 .taken (kind .ensures σ h ∙ e))), tt)
 
 step-requires : tie.Need-step-requires
 step-requires c κs = search needs

@@ -30,12 +30,11 @@ returns-3 c = let sight = c .before .sight in
     let if2 = c .before .before .before .before .if2 in
     let is-unknown = c .before .before .before .before .before .is-unknown in
     let if1 = c .before .before .before .before .before .before .if1 in
-    let args = c .before .before .before .before .before .before .before .before .args in
-    (
-  λ σ h. let x = shown-at σ (args .session) (args .key) (if1 .left) (sym (is-unknown .ensures σ h) ∙ if2 .left) _ _ (sym (look .ensures .0 σ h) ∙ sight .given .1) in
-      rw (x .place, x .size),
-  rw (sight .given .1) at (look .ensures .1),
-)
+    let args = c .before .before .before .before .before .before .before .before .args in (
+      λ σ h. let x = shown-at σ (args .session) (args .key) (if1 .left) (sym (is-unknown .ensures σ h) ∙ if2 .left) _ _ (sym (look .ensures .0 σ h) ∙ sight .given .1) in
+          rw (x .place, x .size),
+      rw (sight .given .1) at (look .ensures .1),
+    )
 
 returns-4 : tie.Need-returns-4
 returns-4 c = let look = c .before .before .look in
