@@ -1,13 +1,13 @@
 -- The session that asks, found by its number: the slot of that number decides between NO SESSION, SEALED and the open session, and what
 -- stands there has the number.
-use mathlib.Core.Path.{_≡_, refl, ap, _∙_}
+use mathlib.Core.Path.{_≡_, refl, sym, ap, _∙_}
 use mathlib.Core.Bool.{Bool, true, false}
 use mathlib.Core.List.{List, _∷_}
 use mathlib.Core.Logic.{_⊎_, inl, inr}
 use mathlib.Core.Option.{Option, some}
 use Prim.Native.Nat.{ℕ}
 use lib.ListN.{length}
-use borrow.Author.Tests.{eqb-true}
+use borrow.Author.Tests.{eqb-true, eq-eqb}
 use Rattle.lent.specs.Tables.{if_then_else_}
 use Rattle.lent.proofs.Choices.{clash, zero-one}
 use Rattle.machine.specs.Sizes.{sessionCount}
@@ -17,7 +17,7 @@ use Rattle.machine.specs.State.{Slot, noSession, session, State, free, numbered
 use Rattle.machine.specs.Refusals.{notLive, sealedIn, sealedSlot}
 use Rattle.machine.specs.Words.{NO-SESSION, SEALED}
 use Rattle.machine.specs.declared.Session.{Session}
-use Rattle.machine.proofs.Views.{find-test}
+use Rattle.machine.proofs.Views.{find-test, no-session}
 use Rattle.layout.specs.Fields.{sessionIn}
 use Rattle.layout.specs.Search.{found}
 use Rattle.layout.specs.declared.Found.{Found}
@@ -52,10 +52,8 @@ refusedOr (Asker.Open i x) o = o
 -- the session of number n is x, at place i, and open
 pub record Asks (s : State) (n i : ℕ) (x : Session) : Type 0 where
   pub place : sessionPlace s n ≡ i
-  pub found : sessionOf s n ≡ session x
   pub at : sessionAt s i ≡ session x
   pub number : x .number ≡ n
-  pub unsealed : isSealed x ≡ false
 
 module _ (s : State) (n : ℕ) where
   pub first-asker : (l : List (Bool × ℕ)) → first ((notLive s n, NO-SESSION) ∷ (sealedIn s n, SEALED) ∷ l) ≡ refusedOr (askerOf s n) (first l)
@@ -76,7 +74,7 @@ module _ (s : State) (n : ℕ) where
     where
       go : (y : Slot) → sessionOf s n ≡ y → (y ≡ noSession) ⊎ (numbered n y ≡ true) → askerAt (sessionPlace s n) y ≡ Asker.Open i x → Asks s n i x
       go noSession f p q = zero-one cc
-      go (session y) f (inl p) q = zero-one cc
+      go (session y) f (inl p) q = no-session y (sym p)
       go (session y) f (inr p) q = go′ (isSealed y) refl q
         where
           go′ : (t : Bool) → isSealed y ≡ t → (if t then Asker.Refused SEALED else Asker.Open (sessionPlace s n) y) ≡ Asker.Open i x → Asks s n i x
@@ -85,8 +83,12 @@ module _ (s : State) (n : ℕ) where
               let a : sessionPlace s n ≡ i = cc in
               let b : y ≡ x = cc in
               let c : sessionOf s n ≡ session x = f ∙ ap session b in
-              record { place = a; found = c; at = rw a at c; number = rw (← b) (eqb-true (y .number) n p); unsealed = rw (← b) g }
+              record { place = a; at = rw a at c; number = rw (← b) (eqb-true (y .number) n p) }
 
   -- found by the number that it has
   pub asks-own : (i : ℕ) (x : Session) → askerOf s n ≡ Asker.Open i x → askerOf s (x .number) ≡ Asker.Open i x
   asks-own i x e = ap (askerOf s) (asks i x e .number) ∙ e
+
+-- the slot that asks has its number
+pub asks-numbered : {s : State} {n i : ℕ} {x : Session} → Asks s n i x → numbered (x .number) (sessionAt s i) ≡ true
+asks-numbered {x = x} a = rw (a .at) (eq-eqb (x .number) (x .number) refl)

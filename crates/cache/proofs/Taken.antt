@@ -22,6 +22,7 @@ use Rattle.layout.specs.WellFormed.{wellFormed}
 use Rattle.layout.specs.Holds.{Holds}
 use Rattle.layout.proofs.Formed.{formed, holds-decoded}
 use Rattle.outcome.specs.Outcome.{tried, acted, isRefused, Gives, Does}
+use Rattle.outcome.proofs.Told.{gives}
 use Rattle.outcome.proofs.Steps.{acted-clock, acted-refused, acted-accepted, step-still}
 use Rattle.refusals.specs.Met.{refusalOf}
 use Rattle.refusals.specs.declared.Refusal.{Refusal}
@@ -38,10 +39,10 @@ is-accepted (some d) q = zero-one cc
 module _ (s : State) (now : ℕ) (c : Command) (v : Value) where
   -- CLOCK
   pub before-clock : {b : List ℕ} → now < s .head .clock → Holds b s → Gives (acted s now c v) (Answer.Refused CLOCK) b
-  before-clock e h = rw (acted-clock s now c v (rw (lt-ltb now (s .head .clock) e))) (record { answer = refl; holds = h })
+  before-clock e h = gives (acted-clock s now c v (rw (lt-ltb now (s .head .clock) e))) h
 
   pub past-time : {b : List ℕ} → timeMax < now → Holds b s → Gives (acted s now c v) (Answer.Refused CLOCK) b
-  past-time e h = rw (acted-clock s now c v (rw (lt-ltb timeMax now e) (or-true (ltb now (s .head .clock))))) (record { answer = refl; holds = h })
+  past-time e h = gives (acted-clock s now c v (rw (lt-ltb timeMax now e) (or-true (ltb now (s .head .clock))))) h
 
   in-time : s .head .clock ≤ now → now ≤ timeMax → clockRefusal s now .0 ≡ false
   in-time p q = rw (le-ltb now (s .head .clock) p, le-ltb timeMax now q)

@@ -22,6 +22,7 @@ use Rattle.stages.specs.declared.Staging.{Staging}
 use Rattle.stages.proofs.Staged.{stagedBy, staged-by}
 use Rattle.deltas.specs.Changes.{changedIn, changes}
 
+-- 0 stands for the time, which DELTA does not look at
 module _ (s : State) (n step k operation : ℕ) (x : Value) where
   pub delta-key : keyCount ≤ k → tried s 0 (Delta n step k operation) x ≡ told (Answer.Refused ARG) s
   unfolding tried refusals

@@ -12,7 +12,7 @@ use Rattle.machine.specs.Sizes.{keyCount, rowCount, valueAt, stagedAt}
 use Rattle.machine.specs.Tables.{isNone}
 use Rattle.machine.specs.State.{Value, Staged, nothing, staged, DROP, State, stagedIn, rowAt, cached}
 use Rattle.machine.specs.Effects.{operate, orDrop, changed}
-use Rattle.layout.specs.Fields.{valueLength, stagedMark, stagedLength}
+use Rattle.layout.specs.Fields.{VALUED, DROPPED, valueLength, stagedMark, stagedLength}
 use Rattle.layout.specs.Holds.{Holds}
 use Rattle.layout.proofs.Held.{value-stands, staged-stands}
 use Rattle.lent.proofs.Choices.{clash}
@@ -21,14 +21,14 @@ use Rattle.deltas.specs.Changes.{changedIn}
 
 module _ (operation : ℕ) (x : Value) where
   -- DROP is staged
-  changed-drop : (u : Staged) (c : Option Value) → stagedMark u ≡ 2 → DROP ≡ changed operation x u c
+  pub changed-drop : (u : Staged) (c : Option Value) → stagedMark u ≡ DROPPED → DROP ≡ changed operation x u c
   unfolding changed
   changed-drop nothing c e = absurd (omega arith)
   changed-drop (staged v) c e = absurd (omega arith)
   changed-drop DROP c e = refl
 
   -- a value is staged, which stands where y does
-  changed-staged : (u : Staged) (c : Option Value) (y : ℕ → Value) (n : ℕ) (o : Option Value) → stagedMark u ≡ 1 → n ≡ stagedLength u
+  changed-staged : (u : Staged) (c : Option Value) (y : ℕ → Value) (n : ℕ) (o : Option Value) → stagedMark u ≡ VALUED → n ≡ stagedLength u
       → ((v : Value) → u ≡ staged v → y (length v) ≡ v) → o ≡ operate operation x (y n) → orDrop o ≡ changed operation x u c
   unfolding changed
   changed-staged nothing c y n o e m f q = absurd (omega arith)
@@ -36,7 +36,7 @@ module _ (operation : ℕ) (x : Value) where
   changed-staged DROP c y n o e m f q = absurd (omega arith)
 
   -- nothing is staged, and no value is cached
-  changed-absent : (u : Staged) (c : Option Value) → (stagedMark u ≡ 2 → ⊥) → (stagedMark u ≡ 1 → ⊥) → not (isNone c) ≡ false → DROP ≡ changed operation x u c
+  pub changed-absent : (u : Staged) (c : Option Value) → (stagedMark u ≡ DROPPED → ⊥) → (stagedMark u ≡ VALUED → ⊥) → not (isNone c) ≡ false → DROP ≡ changed operation x u c
   unfolding changed
   changed-absent nothing none a b e = refl
   changed-absent nothing (some v) a b e = clash true refl e
@@ -44,7 +44,7 @@ module _ (operation : ℕ) (x : Value) where
   changed-absent DROP c a b e = absurd (a refl)
 
   -- nothing is staged, and a value is cached
-  changed-cached : (u : Staged) (c : Option Value) (y : ℕ → Value) (n : ℕ) (o : Option Value) → (stagedMark u ≡ 2 → ⊥) → (stagedMark u ≡ 1 → ⊥) → not (isNone c) ≡ true → n ≡ valueLength c
+  changed-cached : (u : Staged) (c : Option Value) (y : ℕ → Value) (n : ℕ) (o : Option Value) → (stagedMark u ≡ DROPPED → ⊥) → (stagedMark u ≡ VALUED → ⊥) → not (isNone c) ≡ true → n ≡ valueLength c
       → ((v : Value) → c ≡ some v → y (length v) ≡ v) → o ≡ operate operation x (y n) → orDrop o ≡ changed operation x u c
   unfolding changed
   changed-cached nothing none y n o a b e m f q = clash false e refl
@@ -53,17 +53,15 @@ module _ (operation : ℕ) (x : Value) where
   changed-cached DROP c y n o a b e m f q = absurd (a refl)
 
 module _ {b : List ℕ} {s : State} (h : Holds b s) (i k operation : ℕ) (x : Value) where
-  pub works-drop : stagedMark (stagedIn (rowAt s i)) ≡ 2 → DROP ≡ changedIn s i k operation x
-  works-drop e = changed-drop operation x (stagedIn (rowAt s i)) (cached s k) e
-
-  pub works-staged : i < rowCount → {n : ℕ} {o : Option Value} → stagedMark (stagedIn (rowAt s i)) ≡ 1 → n ≡ stagedLength (stagedIn (rowAt s i))
+  pub works-staged : i < rowCount → {n : ℕ} {o : Option Value} → stagedMark (stagedIn (rowAt s i)) ≡ VALUED → n ≡ stagedLength (stagedIn (rowAt s i))
       → o ≡ operate operation x (take (stagedAt i + n - stagedAt i) (drop (stagedAt i) b)) → orDrop o ≡ changedIn s i k operation x
-  works-staged l {n} {o} e m q = changed-staged operation x (stagedIn (rowAt s i)) (cached s k) (win b (stagedAt i)) n o e m (staged-stands h i l) (q ∙ ap (operate operation x) (part-win b (stagedAt i) n))
+  works-staged l {n} {o} e m q =
+      changed-staged operation x (stagedIn (rowAt s i)) (cached s k) (win b (stagedAt i)) n o e m (staged-stands h i l)
+      (q ∙ ap (operate operation x) (part-win b (stagedAt i) n))
 
-  module _ (p : stagedMark (stagedIn (rowAt s i)) ≡ 2 → ⊥) (r : stagedMark (stagedIn (rowAt s i)) ≡ 1 → ⊥) where
-    pub works-absent : not (isNone (cached s k)) ≡ false → DROP ≡ changedIn s i k operation x
-    works-absent e = changed-absent operation x (stagedIn (rowAt s i)) (cached s k) p r e
-
-    pub works-cached : k < keyCount → {n : ℕ} {o : Option Value} → not (isNone (cached s k)) ≡ true → n ≡ valueLength (cached s k)
-        → o ≡ operate operation x (take (valueAt k + n - valueAt k) (drop (valueAt k) b)) → orDrop o ≡ changedIn s i k operation x
-    works-cached l {n} {o} e m q = changed-cached operation x (stagedIn (rowAt s i)) (cached s k) (win b (valueAt k)) n o p r e m (value-stands h k l) (q ∙ ap (operate operation x) (part-win b (valueAt k) n))
+  pub works-cached : (stagedMark (stagedIn (rowAt s i)) ≡ DROPPED → ⊥) → (stagedMark (stagedIn (rowAt s i)) ≡ VALUED → ⊥)
+      → k < keyCount → {n : ℕ} {o : Option Value} → not (isNone (cached s k)) ≡ true → n ≡ valueLength (cached s k)
+      → o ≡ operate operation x (take (valueAt k + n - valueAt k) (drop (valueAt k) b)) → orDrop o ≡ changedIn s i k operation x
+  works-cached p r l {n} {o} e m q =
+      changed-cached operation x (stagedIn (rowAt s i)) (cached s k) (win b (valueAt k)) n o p r e m (value-stands h k l)
+      (q ∙ ap (operate operation x) (part-win b (valueAt k) n))

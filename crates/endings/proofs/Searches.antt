@@ -1,4 +1,5 @@
--- A search of a list, entry by entry: one that passes is a hit for the whole, and where none did the whole has none.
+-- A search of a list, entry by entry: one that passes is a hit for the whole, and where none did the whole has none. `any-hit` asks for a
+-- place within the list, not for a default that fails (as `any-at` does), since a list of numbers has the default 0, which may pass.
 use mathlib.Core.Path.{_≡_, refl}
 use mathlib.Core.Bool.{Bool, true, false, or-true}
 use mathlib.Core.List.{List, [], _∷_}

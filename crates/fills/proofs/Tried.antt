@@ -35,7 +35,7 @@ module _ (t : ℕ) where
   token-same none n e = absurd (n refl)
   token-same (some l) n e = eq-eqb (l .token) t e
 
--- ---- FILL
+-- ---- FILL, which does not look at the time: 0 stands for it
 
 module _ (s : State) (t k : ℕ) (v : Value) where
   pub fill-key : keyCount ≤ k → tried s 0 (Command.Fill t k) v ≡ told (Answer.Refused ARG) s
@@ -63,7 +63,7 @@ module _ (s : State) (t k : ℕ) (v : Value) where
       unfolding tried refusals effect fills
       fill-stored n e = rw (lt-leb keyCount k h, le-ltb valueMax (length v) l, token-same t (leaseOn s k) n e)
 
--- ---- EVICT
+-- ---- EVICT, which does not either
 
 module _ (s : State) (k : ℕ) where
   pub evict-key : keyCount ≤ k → tried s 0 (Command.Evict k) [] ≡ told (Answer.Refused ARG) s

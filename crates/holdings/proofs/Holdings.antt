@@ -10,7 +10,7 @@ use Rattle.machine.specs.Tables.{place, isNone}
 use Rattle.machine.specs.State.{Lease, noRow, State, on, kindOf, rowAt, leaseOn}
 use Rattle.machine.specs.Sound.{sound, tokenIn}
 use Rattle.machine.specs.Refusals.{heldOn}
-use Rattle.machine.specs.Words.{INCREMENTAL}
+use Rattle.machine.specs.Words.{INVALIDATE, INCREMENTAL}
 use Rattle.machine.proofs.Views.{on-row}
 use Rattle.machine.proofs.SoundFacts.{row-kind}
 use Rattle.layout.specs.Holds.{LeaseFits}
@@ -22,7 +22,7 @@ use Rattle.layout.proofs.Records.{lease-none}
 module _ (s : State) (k : ℕ) where
   -- the first row on the key
   pub held-row : (i : ℕ) → length (s .rows) ≡ rowCount → sound s ≡ true → found rowCount (place (on k) (s .rows)) ≡ Found.At i
-      → (heldOn s k ≡ suc (kindOf (rowAt s i))) × (1 ≤ kindOf (rowAt s i)) × (kindOf (rowAt s i) ≤ INCREMENTAL)
+      → (heldOn s k ≡ suc (kindOf (rowAt s i))) × (INVALIDATE ≤ kindOf (rowAt s i)) × (kindOf (rowAt s i) ≤ INCREMENTAL)
   held-row i l e f =
       let r = on-row k (rowAt s i) (found-passes (on k) noRow (s .rows) rowCount i l f) in
       let d = row-kind s e i (r .3) in

@@ -4,6 +4,7 @@ ghost use mathlib.Core.Bool.{true, not};
 ghost use Prim.Native.Nat.{suc, _≤_, _<_};
 ghost use lib.ListN.{length};
 ghost use Rattle.machine.specs.Sizes.{stateSize, keyCount};
+ghost use Rattle.machine.specs.Words.{INVALIDATE, INCREMENTAL};
 ghost use Rattle.machine.specs.State.{State};
 ghost use Rattle.machine.specs.Sound.{sound};
 ghost use Rattle.machine.specs.Decision.{grants};
@@ -14,7 +15,7 @@ use machine::Verdict;
 
 // The decision table's line for a row of a kind.
 fn line_of(kind: u8) -> usize
-    ensures { λ r. ⌜ (r < 5) × (1 ≤ kind → kind ≤ 3 → r ≡ suc kind) ⌝ }
+    ensures { λ r. ⌜ (r < 5) × (INVALIDATE ≤ kind → kind ≤ INCREMENTAL → r ≡ suc kind) ⌝ }
 {
     match kind {
         1 => 2,

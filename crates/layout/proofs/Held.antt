@@ -1,7 +1,7 @@
 -- Bytes that hold a state: each record is read at its place and its fields with it, and a record that fits, written at its place, makes the
 -- bytes of the state with that record. A record that is written part by part is written whole once its parts make it up.
-use mathlib.Core.Path.{_≡_, sym, ap, _∙_}
-use mathlib.Core.Bool.{not}
+use mathlib.Core.Path.{_≡_, refl, sym, ap, _∙_}
+use mathlib.Core.Bool.{true, false, not}
 use mathlib.Core.List.{List}
 use mathlib.Core.Option.{some}
 use Prim.Native.Nat.{ℕ, _+_, _*_, _≤_, _<_}
@@ -9,15 +9,16 @@ use native.Mathlib.Nat.{add-zero}
 use native.Mathlib.Omega.{arith}
 use lib.Dec.{eqb}
 use lib.ListN.{length, getD, set, length-set}
+use borrow.Author.Tests.{eqb-true}
 use Rattle.lent.specs.Bytes.{le16, le32, le64, splice, win}
 use Rattle.lent.proofs.Numbers.{le16-win, le32-win, le64-win}
 use Rattle.lent.proofs.Splice.{getD-win, length-splice, splice-over, splice-self, splice-win, win-splice, win-win}
 use Rattle.lent.proofs.Tables.{each-at, each-set}
-use Rattle.lent.proofs.Choices.{zero-one}
+use Rattle.lent.proofs.Choices.{clash, zero-one}
 use Rattle.machine.specs.Sizes.{keyCount, sessionCount, rowCount, headSize, keysFrom, keyWidth, rowsFrom, rowWidth, sessionsFrom, sessionWidth, valueMax, valueAt, stagedAt}
 use Rattle.machine.specs.Sizes.{readLifeField, writeLifeField, nextSessionField, nextTokenField, keyLengthField, keyTokenField, keyUntilField, keyValueField, rowKeyField, rowKindField, rowStagedField, rowLengthField, rowValueField}
 use Rattle.machine.specs.Tables.{isNone}
-use Rattle.machine.specs.State.{Value, Head, Key, Slot, noSession, staged, Row, noRow, row, State, blank, keyOf, cached, leaseOn, sessionAt, rowAt, kindOf, stagedIn}
+use Rattle.machine.specs.State.{Value, Head, Key, Slot, noSession, session, staged, Row, noRow, row, State, blank, keyOf, cached, leaseOn, numbered, sessionAt, rowAt, kindOf, stagedIn}
 use Rattle.machine.specs.Expiry.{withHead, withKeys, withSessions, withRows}
 use Rattle.machine.specs.Sound.{tokenIn, numberIn}
 use Rattle.layout.specs.Layout.{encHead, decHead, encKey, encRow, encSession, sessionFrom}
@@ -195,3 +196,11 @@ module _ {b : List ℕ} {s : State} (h : Holds b s) where
 
     pub session-is : sessionFrom (win b (sessionsFrom + i * sessionWidth) sessionWidth) ≡ sessionIn (sessionAt s i)
     session-is = ap sessionFrom session-held ∙ session-from (sessionAt s i) session-fits
+
+    -- 0 is the number of no session
+    pub number-given : (n : ℕ) → numbered n (sessionAt s i) ≡ true → 1 ≤ n
+    number-given n q = go (sessionAt s i) session-fits q
+      where
+        go : (e : Slot) → SlotFits e → numbered n e ≡ true → 1 ≤ n
+        go noSession f t = clash false t refl
+        go (session x) f t = rw (← eqb-true (x .number) n t) (f .given)

@@ -9,7 +9,7 @@ use lib.Dec.{leb, ltb, leb·suc-suc}
 use lib.ListN.{length, getD, List·getD-eq-default}
 use borrow.Author.Tests.{le-leb, le-ltb, lt-leb, lt-ltb, ltb-false, ltb-true}
 use Rattle.lent.specs.Tables.{if_then_else_, first}
-use Rattle.lent.proofs.Walks.{Search, found, nowhere, first-search}
+use Rattle.lent.proofs.Walks.{Search, found, nowhere, first-search, first-cong}
 use Rattle.lent.proofs.Choices.{zero-one}
 use Rattle.machine.specs.Tables.{place, find, count}
 use Rattle.layout.specs.Search.{found as foundAt}
@@ -82,6 +82,13 @@ module _ {A : Type 0} (p : A → Bool) (d : A) where
 
   pub nothing-entry : (l : List A) (n : ℕ) → length l ≡ n → foundAt n (place p l) ≡ Found.Nothing → find p d l ≡ d
   nothing-entry l n e f = let q = found-nothing n (place p l) f in List·getD-eq-default l d (omega arith)
+
+  -- a search by a test of its own, which says at each place what the entry there says
+  pub first-held : (q : ℕ → Bool) (l : List A) (n : ℕ) → length l ≡ n → ((i : ℕ) → i < n → q i ≡ p (getD l i d)) → first q Found.At Found.Nothing 0 n ≡ foundAt n (place p l)
+  first-held q l n e f = first-cong q (λ i. p (getD l i d)) Found.At Found.Nothing n 0 (λ i z k. f i (omega arith)) ∙ first-place l n e
+
+  pub found-none : (l : List A) (n : ℕ) → length l ≡ n → ((i : ℕ) → i < n → p (getD l i d) ≡ false) → foundAt n (place p l) ≡ Found.Nothing
+  found-none l n e f = rw (place-none l (λ i k. f i (omega arith)), e, le-ltb n n (omega arith))
 
   -- ---- a full table: none is free
 

@@ -1,14 +1,13 @@
 -- A row in the bytes: no row has the session 0, which tells a free row, so a test of the bytes is a test of the row that they hold, and a
 -- search of the bytes is a search of the table.
-use mathlib.Core.Path.{_≡_, refl, _∙_}
+use mathlib.Core.Path.{_≡_, refl}
 use mathlib.Core.Bool.{Bool, true, false, _&&_}
 use mathlib.Core.List.{List}
-use Prim.Native.Nat.{ℕ, _<_}
+use Prim.Native.Nat.{ℕ}
 use native.Mathlib.Omega.{arith}
 use lib.Dec.{eqb}
 use borrow.Author.Tests.{ne-eqb}
 use Rattle.lent.specs.Tables.{if_then_else_, first}
-use Rattle.lent.proofs.Walks.{first-cong}
 use Rattle.machine.specs.Sizes.{rowCount, rowsFrom, rowWidth}
 use Rattle.machine.specs.Tables.{place}
 use Rattle.machine.specs.State.{Row, noRow, row, State, freeRow, on, ofOn, rowAt, rowPlace}
@@ -17,7 +16,7 @@ use Rattle.layout.specs.Holds.{RowFits, Holds}
 use Rattle.layout.specs.Search.{found, startsWith}
 use Rattle.layout.specs.declared.Found.{Found}
 use Rattle.layout.proofs.Held.{owner-held, target-held, row-fits}
-use Rattle.layout.proofs.Search.{first-place, place-none}
+use Rattle.layout.proofs.Search.{first-held, found-none}
 use Rattle.lookups.specs.Test.{testOf, rowTest}
 
 -- ---- tests
@@ -52,10 +51,8 @@ module _ {b : List ℕ} {s : State} (h : Holds b s) where
       → first (rowTest b n k) Found.At Found.Nothing 0 rowCount ≡ found rowCount (place p (s .rows))
   unfolding rowTest
   test-search p n k q =
-      first-cong (rowTest b n k) (λ i. p (rowAt s i)) Found.At Found.Nothing rowCount 0 (λ i z m.
-      let l : i < rowCount = m in
+      first-held p noRow (rowTest b n k) (s .rows) rowCount (h .fits .rows) (λ i l.
       rw (owner-held h i l, target-held h i l) (q (rowAt s i) (row-fits h i l)))
-      ∙ first-place p noRow (s .rows) rowCount (h .fits .rows)
 
   pub of-search : (n k : ℕ) → (n ≡ 0 → ⊥) → first (rowTest b n k) Found.At Found.Nothing 0 rowCount ≡ found rowCount (rowPlace s n k)
   of-search n k z = test-search (ofOn n k) n k (λ r f. of-on n k r f z)
@@ -65,12 +62,8 @@ module _ {b : List ℕ} {s : State} (h : Holds b s) where
 
   pub free-search : first (startsWith b rowsFrom rowWidth 0) Found.At Found.Nothing 0 rowCount ≡ found rowCount (place freeRow (s .rows))
   free-search =
-      first-cong (startsWith b rowsFrom rowWidth 0) (λ i. freeRow (rowAt s i)) Found.At Found.Nothing rowCount 0 (λ i z m.
-      let l : i < rowCount = m in
+      first-held freeRow noRow (startsWith b rowsFrom rowWidth 0) (s .rows) rowCount (h .fits .rows) (λ i l.
       rw (owner-held h i l) (session-free (rowAt s i) (row-fits h i l)))
-      ∙ first-place freeRow noRow (s .rows) rowCount (h .fits .rows)
 
   pub none-zero : (k : ℕ) → found rowCount (rowPlace s 0 k) ≡ Found.Nothing
-  none-zero k =
-      let e = h .fits .rows in
-      rw (place-none (ofOn 0 k) noRow (s .rows) (λ j m. none-of k (rowAt s j) (row-fits h j (rw e at m))), e)
+  none-zero k = found-none (ofOn 0 k) noRow (s .rows) rowCount (h .fits .rows) (λ i l. none-of k (rowAt s i) (row-fits h i l))

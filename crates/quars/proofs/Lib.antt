@@ -1,2 +1,2 @@
 pub mod Holding
-pub mod Asked
+pub mod Tried

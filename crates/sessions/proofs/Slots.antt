@@ -11,7 +11,6 @@ use borrow.Author.Tests.{ne-eqb}
 use Rattle.lent.specs.Bytes.{le16, bytes16, le32, bytes32, le64, bytes64, splice, win}
 use Rattle.lent.specs.Tables.{first}
 use Rattle.lent.proofs.Splice.{splice-next}
-use Rattle.lent.proofs.Walks.{first-cong}
 use Rattle.machine.specs.Sizes.{sessionCount, sessionsFrom, sessionWidth}
 use Rattle.machine.specs.Tables.{place}
 use Rattle.machine.specs.State.{Slot, noSession, session, State, free, numbered, sessionAt, sessionPlace}
@@ -25,7 +24,7 @@ use Rattle.layout.specs.Search.{found, startsWith}
 use Rattle.layout.specs.declared.Found.{Found}
 use Rattle.layout.proofs.Held.{byte-at, le16-at, le32-first, le64-at, number-held, session-fits, store-session}
 use Rattle.layout.proofs.Formed.{holds-size}
-use Rattle.layout.proofs.Search.{first-place, place-none}
+use Rattle.layout.proofs.Search.{first-held, found-none}
 
 -- ---- fields
 
@@ -42,7 +41,7 @@ module _ (b : List ℕ) (a : ℕ) where
   session-loaded = rw (← le32-first b a sessionWidth (win b a sessionWidth) refl (omega arith), ← le16-at b a sessionWidth (win b a sessionWidth) refl 6 (omega arith))
 
 -- the four stores of a session, one behind the other
-pub session-written : (b : List ℕ) (a n m c t : ℕ) → a + sessionWidth ≤ length b
+session-written : (b : List ℕ) (a n m c t : ℕ) → a + sessionWidth ≤ length b
     → splice (splice (splice (splice b a (bytes32 n)) (a + 4) (m ∷ 0 ∷ [])) (a + 6) (bytes16 c)) (a + 8) (bytes64 t) ≡ splice b a (bytes32 n ++ (m ∷ 0 ∷ (bytes16 c ++ bytes64 t)))
 session-written b a n m c t l =
     rw (splice-next b (bytes32 n) (m ∷ 0 ∷ []) a 4 refl (omega arith), splice-next b (bytes32 n ++ (m ∷ 0 ∷ [])) (bytes16 c) a 6 refl (omega arith))
@@ -61,7 +60,7 @@ session-stored {b} h i l x g m t c d e f em et ec ed ee ef =
 
 -- ---- numbers
 
-pub number-free : (e : Slot) → SlotFits e → eqb (numberIn e) 0 ≡ free e
+number-free : (e : Slot) → SlotFits e → eqb (numberIn e) 0 ≡ free e
 number-free noSession f = refl
 number-free (session x) f = ne-eqb (x .number) 0 (λ q. omega (arith, q, f .given))
 
@@ -80,10 +79,8 @@ module _ {b : List ℕ} {s : State} (h : Holds b s) where
   number-search : (p : Slot → Bool) (n : ℕ) → ((e : Slot) → SlotFits e → eqb (numberIn e) n ≡ p e)
       → first (startsWith b sessionsFrom sessionWidth n) Found.At Found.Nothing 0 sessionCount ≡ found sessionCount (place p (s .sessions))
   number-search p n q =
-      first-cong (startsWith b sessionsFrom sessionWidth n) (λ i. p (sessionAt s i)) Found.At Found.Nothing sessionCount 0 (λ i z k.
-      let l : i < sessionCount = k in
+      first-held p noSession (startsWith b sessionsFrom sessionWidth n) (s .sessions) sessionCount (h .fits .sessions) (λ i l.
       rw (number-held h i l) (q (sessionAt s i) (session-fits h i l)))
-      ∙ first-place p noSession (s .sessions) sessionCount (h .fits .sessions)
 
   pub session-search : (n : ℕ) → (n ≡ 0 → ⊥) → first (startsWith b sessionsFrom sessionWidth n) Found.At Found.Nothing 0 sessionCount ≡ found sessionCount (sessionPlace s n)
   session-search n z = number-search (numbered n) n (λ e f. numbered-is n e z)
@@ -92,6 +89,4 @@ module _ {b : List ℕ} {s : State} (h : Holds b s) where
   free-search = number-search free 0 number-free
 
   pub none-zero : found sessionCount (sessionPlace s 0) ≡ Found.Nothing
-  none-zero =
-      let e = h .fits .sessions in
-      rw (place-none (numbered 0) noSession (s .sessions) (λ j k. numbered-zero (sessionAt s j) (session-fits h j (rw e at k))), e)
+  none-zero = found-none (numbered 0) noSession (s .sessions) sessionCount (h .fits .sessions) (λ i l. numbered-zero (sessionAt s i) (session-fits h i l))

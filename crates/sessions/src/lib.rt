@@ -1,7 +1,7 @@
 // The table of sessions in the lent state: a place is read, stored and freed, and a session is found by its number, never by a place that
 // its number would give. Each contract speaks of the state that the bytes hold.
 ghost use mathlib.Core.Path.{_≡_};
-ghost use Prim.Native.Nat.{_+_, _≤_, _<_};
+ghost use Prim.Native.Nat.{_+_, _≤_, _<_, _^_};
 ghost use lib.ListN.{length, set};
 ghost use Rattle.lent.specs.Bytes.{win};
 ghost use Rattle.machine.specs.Sizes.{stateSize, sessionCount, sessionWidth};
@@ -72,7 +72,7 @@ pub fn load(s: &[u8], i: usize) -> Session
 // A number that is not 0, and a count within two bytes.
 pub fn store(s: &mut [u8], i: usize, x: Session)
     requires { ⌜ (length (now s) ≡ stateSize) × (i < sessionCount) ⌝ }
-    ensures { λ _. ⌜ ((σ : State) → Holds (now (s .entry)) σ → 0 < x .number → x .count < 65536 → Holds (now (s .exit)) (withSessions σ (set (σ .sessions) i (session x)))) ⌝ }
+    ensures { λ _. ⌜ ((σ : State) → Holds (now (s .entry)) σ → 0 < x .number → x .count < 2 ^ 16 → Holds (now (s .exit)) (withSessions σ (set (σ .sessions) i (session x)))) ⌝ }
 {
     let at = layout::SESSIONS_FROM + i * layout::SESSION_WIDTH;
     let life = x.life;

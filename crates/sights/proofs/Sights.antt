@@ -14,7 +14,7 @@ use Rattle.machine.specs.State.{Value, nothing, staged, DROP, Row, noRow, row, 
 use Rattle.machine.specs.Refusals.{cachedSight, rowSight, sight}
 use Rattle.machine.specs.Words.{INVALIDATE}
 use Rattle.machine.proofs.Views.{of-on-taken}
-use Rattle.layout.specs.Fields.{valueLength, stagedMark, stagedLength}
+use Rattle.layout.specs.Fields.{VALUED, DROPPED, valueLength, stagedMark, stagedLength}
 use Rattle.layout.specs.Search.{found}
 use Rattle.layout.specs.declared.Found.{Found}
 use Rattle.layout.proofs.Search.{found-at, found-entry, found-passes, nothing-entry}
@@ -35,23 +35,23 @@ module _ (k : ℕ) where
 -- ---- one's own row
 
 module _ (i k : ℕ) (c : Option Value) where
-  pub row-staged : (r : Row) → stagedMark (stagedIn r) ≡ 1 → placed (rowSight i k r c) ≡ Sight.At (stagedAt i) (stagedLength (stagedIn r))
+  pub row-staged : (r : Row) → stagedMark (stagedIn r) ≡ VALUED → placed (rowSight i k r c) ≡ Sight.At (stagedAt i) (stagedLength (stagedIn r))
   row-staged noRow e = absurd (omega arith)
   row-staged (row n j d nothing) e = absurd (omega arith)
   row-staged (row n j d (staged v)) e = refl
   row-staged (row n j d DROP) e = absurd (omega arith)
 
-  pub row-dropped : (r : Row) → stagedMark (stagedIn r) ≡ 2 → rowSight i k r c ≡ none
+  pub row-dropped : (r : Row) → stagedMark (stagedIn r) ≡ DROPPED → rowSight i k r c ≡ none
   row-dropped noRow e = absurd (omega arith)
   row-dropped (row n j d nothing) e = absurd (omega arith)
   row-dropped (row n j d (staged v)) e = absurd (omega arith)
   row-dropped (row n j d DROP) e = refl
 
-  module _ (r : Row) (value : stagedMark (stagedIn r) ≡ 1 → ⊥) (drop : stagedMark (stagedIn r) ≡ 2 → ⊥) where
+  module _ (r : Row) (value : stagedMark (stagedIn r) ≡ VALUED → ⊥) (drop : stagedMark (stagedIn r) ≡ DROPPED → ⊥) where
     pub row-invalidates : kindOf r ≡ INVALIDATE → rowSight i k r c ≡ none
     row-invalidates e = go r value drop e
       where
-        go : (x : Row) → (stagedMark (stagedIn x) ≡ 1 → ⊥) → (stagedMark (stagedIn x) ≡ 2 → ⊥) → kindOf x ≡ INVALIDATE → rowSight i k x c ≡ none
+        go : (x : Row) → (stagedMark (stagedIn x) ≡ VALUED → ⊥) → (stagedMark (stagedIn x) ≡ DROPPED → ⊥) → kindOf x ≡ INVALIDATE → rowSight i k x c ≡ none
         go noRow p q e = absurd (omega arith)
         go (row n j d nothing) p q e = rw (eq-eqb d INVALIDATE e)
         go (row n j d (staged v)) p q e = absurd (p refl)
@@ -60,7 +60,7 @@ module _ (i k : ℕ) (c : Option Value) where
     pub row-unstaged : (kindOf r ≡ INVALIDATE → ⊥) → rowSight i k r c ≡ cachedSight k c
     row-unstaged e = go r value drop e
       where
-        go : (x : Row) → (stagedMark (stagedIn x) ≡ 1 → ⊥) → (stagedMark (stagedIn x) ≡ 2 → ⊥) → (kindOf x ≡ INVALIDATE → ⊥) → rowSight i k x c ≡ cachedSight k c
+        go : (x : Row) → (stagedMark (stagedIn x) ≡ VALUED → ⊥) → (stagedMark (stagedIn x) ≡ DROPPED → ⊥) → (kindOf x ≡ INVALIDATE → ⊥) → rowSight i k x c ≡ cachedSight k c
         go noRow p q e = refl
         go (row n j d nothing) p q e = rw (ne-eqb d INVALIDATE e)
         go (row n j d (staged v)) p q e = absurd (p refl)

@@ -4,17 +4,16 @@ use mathlib.Core.Path.{_≡_, refl, ap}
 use mathlib.Core.Bool.{Bool, true, false}
 use mathlib.Core.List.{List}
 use mathlib.Core.Option.{Option, none, some}
-use Prim.Native.Nat.{ℕ, _≤_, _<_}
+use Prim.Native.Nat.{ℕ, _≤_, _<_, _^_}
 use native.Mathlib.Omega.{arith}
 use lib.Dec.{ltb}
 use lib.ListN.{set}
-use borrow.Author.Tests.{eqb-true, not-false}
 use Rattle.lent.specs.Tables.{if_then_else_}
 use Rattle.lent.proofs.Choices.{zero-one}
 use Rattle.machine.specs.Sizes.{stepMax}
 use Rattle.machine.specs.Tables.{first}
 use Rattle.machine.specs.Session.{advanced}
-use Rattle.machine.specs.State.{Slot, session, Staged, State, freeRow, kindOf, sessionPlace, sessionOf, rowPlace, rowOf, rowAt}
+use Rattle.machine.specs.State.{Slot, session, Staged, State, freeRow, sessionPlace, sessionOf, rowPlace, rowOf, rowAt}
 use Rattle.machine.specs.Expiry.{withSessions, withRows}
 use Rattle.machine.specs.Refusals.{countOf, stagingRefusals}
 use Rattle.machine.specs.Effects.{Outcome, told, stagedAnswer, restaged, onSlot, withSession, withStaged, stages}
@@ -39,13 +38,12 @@ stagedBy s u (Staging.Refused e) = told (Answer.Refused e) s
 stagedBy s u Staging.Repeated = told Answer.Repeated s
 stagedBy s u (Staging.At i j x) = told (stagedAnswer u) (afterStaging s i j x u)
 
--- the session's next record x, and its row of kind d on key k at place j
-pub record Stages (s : State) (n k d j : ℕ) (x : Session) : Type 0 where
+-- the session's next record x, and its row on key k at place j
+pub record Stages (s : State) (n k j : ℕ) (x : Session) : Type 0 where
   pub row : rowOf s n k ≡ rowAt s j
   pub taken : freeRow (rowAt s j) ≡ false
-  pub kind : kindOf (rowAt s j) ≡ d
   pub number : 0 < x .number
-  pub count : x .count < 65536
+  pub count : x .count < 2 ^ 16
 
 module _ (s : State) (n step k kind : ℕ) where
   abbrev tests : List (Bool × ℕ)
@@ -69,14 +67,14 @@ module _ (s : State) (n step k kind : ℕ) where
       go none q true = refl
       go none q false = ap (told (stagedAnswer u)) (set-next q)
 
-  pub staging-at : sound s ≡ true → (i j : ℕ) (x : Session) → stagingOf s n step k kind ≡ Staging.At i j x → Stages s n k kind j x
+  pub staging-at : sound s ≡ true → (i j : ℕ) (x : Session) → stagingOf s n step k kind ≡ Staging.At i j x → Stages s n k j x
   unfolding stagingOf
   staging-at ok i j x e = go (first tests) refl (ltb step (countOf s n)) e
     where
       y : Session
       y = sessionIn (sessionOf s n)
 
-      go : (o : Option ℕ) → first tests ≡ o → (t : Bool) → orElse o (if t then Staging.Repeated else Staging.At (sessionPlace s n) (rowPlace s n k) (advanced y)) ≡ Staging.At i j x → Stages s n k kind j x
+      go : (o : Option ℕ) → first tests ≡ o → (t : Bool) → orElse o (if t then Staging.Repeated else Staging.At (sessionPlace s n) (rowPlace s n k) (advanced y)) ≡ Staging.At i j x → Stages s n k j x
       go (some d) q t p = zero-one cc
       go none q true p = zero-one cc
       go none q false p =
@@ -87,7 +85,6 @@ module _ (s : State) (n step k kind : ℕ) where
           record {
             row = rw a;
             taken = rw (← a) (first-none tests q 2);
-            kind = rw (← a) (eqb-true (kindOf (rowOf s n k)) kind (not-false _ (first-none tests q 3)));
             number = rw (← b) (omega arith);
             count = rw (← b) (omega arith);
           }

@@ -16,6 +16,7 @@ use Rattle.stages.specs.Staging.{stagingOf}
 use Rattle.stages.specs.declared.Staging.{Staging}
 use Rattle.stages.proofs.Staged.{stagedBy, staged-by}
 
+-- 0 stands for the time, which STAGE does not look at
 module _ (s : State) (n step k : ℕ) (v : Value) where
   pub stage-key : keyCount ≤ k → tried s 0 (Stage n step k) v ≡ told (Answer.Refused ARG) s
   unfolding tried refusals

@@ -7,11 +7,12 @@ use native.Mathlib.Omega.{arith}
 use lib.ListN.{length, set}
 use Rattle.lent.specs.Bytes.{bytes32, splice, zeros}
 use Rattle.lent.proofs.Splice.{splice-next}
-use Rattle.machine.specs.Sizes.{rowCount, rowsFrom, rowWidth, valueMax}
+use Rattle.machine.specs.Sizes.{rowCount, rowsFrom, rowWidth, stagedAt, valueMax}
 use Rattle.machine.specs.State.{Value, row, nothing, staged, DROP, State, freeRow, rowAt}
 use Rattle.machine.specs.Expiry.{withRows}
 use Rattle.machine.specs.Effects.{restaged}
 use Rattle.layout.specs.Layout.{padded, encRow}
+use Rattle.layout.specs.Fields.{VALUED, DROPPED}
 use Rattle.layout.specs.Holds.{Holds}
 use Rattle.layout.proofs.Widths.{length-padded}
 use Rattle.layout.proofs.Formed.{holds-size}
@@ -37,13 +38,13 @@ module _ {b : List ℕ} {s : State} (h : Holds b s) (i : ℕ) (l : i < rowCount)
       (store-row h i l (row n k d nothing) (record { given = g; session = f; staged = tt }))
 
   pub value-staged : (v : Value) → length v ≤ valueMax → freeRow (rowAt s i) ≡ false
-      → Holds (splice (splice b (rowsFrom + i * rowWidth + 6) (1 ∷ length v ∷ [])) (rowsFrom + i * rowWidth + 8) (padded v)) (withRows s (set (s .rows) i (restaged (staged v) (rowAt s i))))
+      → Holds (splice (splice b (rowsFrom + i * rowWidth + 6) (VALUED ∷ length v ∷ [])) (stagedAt i) (padded v)) (withRows s (set (s .rows) i (restaged (staged v) (rowAt s i))))
   value-staged v f g =
-      rw (staged-written b (rowsFrom + i * rowWidth) 1 (length v) (padded v) (length-padded v f) (omega (arith, holds-size h)))
+      rw (staged-written b (rowsFrom + i * rowWidth) VALUED (length v) (padded v) (length-padded v f) (omega (arith, holds-size h)))
       (staged-put h i l (staged v) f g)
 
   pub drop-staged : freeRow (rowAt s i) ≡ false
-      → Holds (splice (splice b (rowsFrom + i * rowWidth + 6) (2 ∷ 0 ∷ [])) (rowsFrom + i * rowWidth + 8) (zeros valueMax)) (withRows s (set (s .rows) i (restaged DROP (rowAt s i))))
+      → Holds (splice (splice b (rowsFrom + i * rowWidth + 6) (DROPPED ∷ 0 ∷ [])) (stagedAt i) (zeros valueMax)) (withRows s (set (s .rows) i (restaged DROP (rowAt s i))))
   drop-staged g =
-      rw (staged-written b (rowsFrom + i * rowWidth) 2 0 (zeros valueMax) refl (omega (arith, holds-size h)))
+      rw (staged-written b (rowsFrom + i * rowWidth) DROPPED 0 (zeros valueMax) refl (omega (arith, holds-size h)))
       (staged-put h i l DROP tt g)

@@ -6,11 +6,12 @@ use mathlib.Core.List.{List, []}
 use mathlib.Core.Option.{Option, none, some}
 use Prim.Native.Nat.{ℕ, _≤_, _<_}
 use lib.Dec.{eqb, leb}
-use lib.ListN.{length, take, drop}
+use lib.ListN.{length}
 use borrow.Author.Tests.{le-leb, lt-leb, leb-true, leb-false}
 use Rattle.lent.specs.Bytes.{win}
 use Rattle.lent.specs.Tables.{if_then_else_}
 use Rattle.lent.proofs.Choices.{zero-one}
+use Rattle.lent.proofs.Splice.{win-none}
 use Rattle.machine.specs.Sizes.{keyCount, valueAt, stagedAt}
 use Rattle.machine.specs.State.{Value, nothing, staged, DROP, Row, noRow, row, State, stagedIn, rowPlace, rowOf, rowAt, cached}
 use Rattle.machine.specs.Refusals.{Sight as Seen, cachedSight, rowSight, sight, notLive}
@@ -26,33 +27,31 @@ use Rattle.sights.specs.declared.Sight.{Sight}
 
 -- ---- where the value stands
 
+-- a value stands at a place of the bytes
+abbrev pub Stands : List ℕ → ℕ → Value → Type 0
+Stands b at v = win b at (length v) ≡ v
+
 module _ {b : List ℕ} {s : State} (h : Holds b s) (k : ℕ) (l : k < keyCount) where
-  -- what is seen stands at its place
-  Stands : Seen → Type 0
-  Stands x = win b (x .at) (length (x .value)) ≡ x .value
+  stands-is : (x y : Seen) → Stands b (x .at) (x .value) → some x ≡ some y → Stands b (y .at) (y .value)
+  stands-is x y p e = subst (λ (z : Seen). Stands b (z .at) (z .value)) (some-eq x y e) p
 
-  stands-is : (x y : Seen) → Stands x → some x ≡ some y → Stands y
-  stands-is x y p e = subst Stands (some-eq x y e) p
-
-  cached-stands : (o : Option Value) → cached s k ≡ o → (x : Seen) → cachedSight k o ≡ some x → Stands x
-  unfolding Stands
+  cached-stands : (o : Option Value) → cached s k ≡ o → (x : Seen) → cachedSight k o ≡ some x → Stands b (x .at) (x .value)
   cached-stands none q x e = no-some x e
   cached-stands (some v) q x e = stands-is (record { at = valueAt k; value = v }) x (value-stands h k l v q) e
 
-  row-stands : (i : ℕ) (r : Row) → rowAt s i ≡ r → (x : Seen) → rowSight i k r (cached s k) ≡ some x → Stands x
-  unfolding Stands
+  row-stands : (i : ℕ) (r : Row) → rowAt s i ≡ r → (x : Seen) → rowSight i k r (cached s k) ≡ some x → Stands b (x .at) (x .value)
   row-stands i noRow q x e = cached-stands (cached s k) refl x e
   row-stands i (row n j d nothing) q x e = go (eqb d INVALIDATE) e
     where
-      go : (t : Bool) → (if t then none else cachedSight k (cached s k)) ≡ some x → win b (x .at) (length (x .value)) ≡ x .value
+      go : (t : Bool) → (if t then none else cachedSight k (cached s k)) ≡ some x → Stands b (x .at) (x .value)
       go true f = no-some x f
       go false f = cached-stands (cached s k) refl x f
   row-stands i (row n j d (staged v)) q x e =
       stands-is (record { at = stagedAt i; value = v }) x (staged-stands h i (row-inside s i n j d (staged v) (h .fits .rows) q) v (ap stagedIn q)) e
   row-stands i (row n j d DROP) q x e = no-some x e
 
-  pub sight-stands : (n : ℕ) (x : Seen) → sight s n k ≡ some x → win b (x .at) (length (x .value)) ≡ x .value
-  unfolding sight Stands
+  pub sight-stands : (n : ℕ) (x : Seen) → sight s n k ≡ some x → Stands b (x .at) (x .value)
+  unfolding sight
   sight-stands n x e = row-stands (rowPlace s n k) (rowOf s n k) refl x e
 
 -- ---- SHOW
@@ -97,21 +96,17 @@ module _ (s : State) (n k : ℕ) where
           go (some x) p = let z : length (x .value) ≡ m = cc in record { answer = ap Answer.Value z; place = cc; size = z }
 
   -- what is handed back stands in the lent bytes, at its place
-  pub shown-stands : {b : List ℕ} → Holds b s → win b (show s n k .at) (length (show s n k .value)) ≡ show s n k .value
-  unfolding win
+  pub shown-stands : {b : List ℕ} → Holds b s → Stands b (show s n k .at) (show s n k .value)
   shown-stands {b} h = key (leb keyCount k) refl
     where
-      Shown-there : Shown → Type 0
-      Shown-there x = take (length (x .value)) (drop (x .at) b) ≡ x .value
-
-      sees : k < keyCount → (o : Option Seen) → sight s n k ≡ o → Shown-there (seen o)
-      sees l none q = refl
+      sees : k < keyCount → (o : Option Seen) → sight s n k ≡ o → Stands b (seen o .at) (seen o .value)
+      sees l none q = win-none b 0
       sees l (some x) q = sight-stands h k l n x q
 
-      knows : k < keyCount → (t : Bool) → (not (eqb n 0) && notLive s n) ≡ t → Shown-there (show s n k)
-      knows l true e = rw (shown-unknown l e)
+      knows : k < keyCount → (t : Bool) → (not (eqb n 0) && notLive s n) ≡ t → Stands b (show s n k .at) (show s n k .value)
+      knows l true e = rw (shown-unknown l e) (win-none b 0)
       knows l false e = rw (shown-seen l e) (sees l (sight s n k) refl)
 
-      key : (t : Bool) → leb keyCount k ≡ t → Shown-there (show s n k)
-      key true e = rw (shown-key (leb-true keyCount k e))
+      key : (t : Bool) → leb keyCount k ≡ t → Stands b (show s n k .at) (show s n k .value)
+      key true e = rw (shown-key (leb-true keyCount k e)) (win-none b 0)
       key false e = knows (leb-false keyCount k e) (not (eqb n 0) && notLive s n) refl

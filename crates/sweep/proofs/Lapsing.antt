@@ -21,6 +21,11 @@ pub unmapped : {A : Type 0} (p : A → Bool) (f : A → A) → ((x : A) → p x 
 unmapped p f same [] h = refl
 unmapped p f same (x ∷ l) h = let b = or-no (p x) (any p l) h in ap₂ _∷_ (same x (b .0)) (unmapped p f same l (b .1))
 
+-- a map that changes nothing
+map-same : {A : Type 0} (f : A → A) → ((x : A) → f x ≡ x) → (l : List A) → map f l ≡ l
+map-same f same [] = refl
+map-same f same (x ∷ l) = ap₂ _∷_ (same x) (map-same f same l)
+
 same-lease : (now : ℕ) (e : Key) → lapsedOn now e ≡ false → lapsedLease now e ≡ e
 same-lease now e h = ap (λ (o : Option Lease). record { value = e .value; lease = o }) (unlapsed-same now (e .lease) h)
 
@@ -31,14 +36,18 @@ none-those now (session x ∷ l) h = let b = or-no (isDue now x) (any (dueSlot n
 
 -- of no sessions
 free-none : (l : List Slot) → map (freeSession []) l ≡ l
-free-none [] = refl
-free-none (noSession ∷ l) = ap (_∷_ noSession) (free-none l)
-free-none (session x ∷ l) = ap (_∷_ (session x)) (free-none l)
+free-none l = map-same (freeSession []) go l
+  where
+    go : (e : Slot) → freeSession [] e ≡ e
+    go noSession = refl
+    go (session x) = refl
 
 rows-none : (rs : List Row) → map (freeIfOf []) rs ≡ rs
-rows-none [] = refl
-rows-none (noRow ∷ rs) = ap (_∷_ noRow) (rows-none rs)
-rows-none (row n k d u ∷ rs) = ap (_∷_ (row n k d u)) (rows-none rs)
+rows-none rs = map-same (freeIfOf []) go rs
+  where
+    go : (r : Row) → freeIfOf [] r ≡ r
+    go noRow = refl
+    go (row n k d u) = refl
 
 settle-none : (f : Staged → Option Value) (rs : List Row) (ks : List Key) → settle [] f rs ks ≡ ks
 settle-none f [] ks = refl

@@ -11,7 +11,7 @@ use lib.ListN.{length, getD, drop, drop-of-length-le}
 use lib.Seq.{drop-cons}
 use borrow.Author.Tests.{eq-eqb, ne-eqb}
 use Rattle.lent.specs.Tables.{if_then_else_}
-use Rattle.lent.proofs.Choices.{zero-one}
+use Rattle.lent.proofs.Choices.{clash}
 use Rattle.machine.specs.Sizes.{sessionCount}
 use Rattle.machine.specs.State.{Lease, Slot, noSession, session, Row, noRow, row, State, numbered, sessionPlace, sessionOf, sessionAt, leaseOn}
 use Rattle.machine.specs.Sound.{tokenIn}
@@ -27,7 +27,7 @@ use Rattle.waits.specs.Waits.{rowEnd}
 -- ---- a session's end, by its number
 
 numbered-end : (n : ℕ) (e : Slot) → numbered n e ≡ true → slotEnd e ≡ lifeEnd (sessionIn e .life)
-numbered-end n noSession p = zero-one cc
+numbered-end n noSession p = clash false p refl
 numbered-end n (session x) p = refl
 
 module _ (s : State) (n : ℕ) (l : length (s .sessions) ≡ sessionCount) where

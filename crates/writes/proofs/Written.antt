@@ -23,7 +23,7 @@ use Rattle.layout.specs.Search.{found}
 use Rattle.layout.specs.declared.Found.{Found}
 use Rattle.layout.proofs.Formed.{formed, holds-decoded}
 use Rattle.layout.proofs.Search.{found-at, found-nothing}
-use Rattle.turns.proofs.Cases.{located, unlocated}
+use Rattle.turns.proofs.Tried.{located, unlocated}
 use Rattle.sights.proofs.Sights.{row-missing, row-taken}
 use Rattle.book.specs.Book.{withRegistered, withMark}
 use Rattle.replies.specs.Replies.{WRITTEN}

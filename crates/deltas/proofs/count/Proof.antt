@@ -17,7 +17,9 @@ enum-told : tie.Need-enum-told
 enum-told c = search needs
 
 returns : tie.Need-returns
-returns c = makes-drop (counted-value (c .before .before .before .before .before .before .args .operation) (readCount (c .before .before .before .before .before .before .args .value .now)) (readCount (c .before .before .before .before .before .before .args .operand .now)) (sym (c .before .before .read .ensures) ∙ c .enum-told .given .1))
+returns c = let read = c .before .before .read in
+    let args = c .before .before .before .before .before .before .args in
+    makes-drop (counted-value (args .operation) (readCount (args .value .now)) (readCount (args .operand .now)) (sym (read .ensures) ∙ c .enum-told .given .1))
 
 read-requires-2 : tie.Need-read-requires-2
 read-requires-2 c κs = search needs
@@ -29,7 +31,11 @@ enum-told-2 : tie.Need-enum-told-2
 enum-told-2 c = search needs
 
 returns-2 : tie.Need-returns-2
-returns-2 c = makes-drop (counted-operand (c .before .before .before .before .before .before .before .before .before .before .args .operation) (readCount (c .before .before .before .before .before .before .before .before .before .before .args .value .now)) (readCount (c .before .before .before .before .before .before .before .before .before .before .args .operand .now)) _ (sym (c .before .before .before .before .before .before .read .ensures) ∙ c .before .before .before .before .a .given .1) (sym (c .before .before .read2 .ensures) ∙ c .enum-told2 .given .1))
+returns-2 c = let read2 = c .before .before .read2 in
+    let a = c .before .before .before .before .a in
+    let read = c .before .before .before .before .before .before .read in
+    let args = c .before .before .before .before .before .before .before .before .before .before .args in
+    makes-drop (counted-operand (args .operation) (readCount (args .value .now)) (readCount (args .operand .now)) _ (sym (read .ensures) ∙ a .given .1) (sym (read2 .ensures) ∙ c .enum-told2 .given .1))
 
 calculate-requires : tie.Need-calculate-requires
 calculate-requires c κs = search needs
@@ -41,7 +47,14 @@ same-length : tie.Need-same-length
 same-length c = search needs
 
 returns-3 : tie.Need-returns-3
-returns-3 c = counted (c .before .before .before .before .before .before .before .before .before .before .before .before .before .before .before .before .args .operation) _ _ _ _ (readCount (c .before .before .before .before .before .before .before .before .before .before .before .before .before .before .before .before .args .value .now)) (readCount (c .before .before .before .before .before .before .before .before .before .before .before .before .before .before .before .before .args .operand .now)) (c .before .before .before .before .before .before .before .before .before .before .before .before .before .before .before .before .args .out .now) _ (sym (c .before .before .before .before .before .before .before .before .before .before .before .before .read .ensures) ∙ c .before .before .before .before .before .before .before .before .before .before .a .given .1) (sym (c .before .before .before .before .before .before .before .before .read2 .ensures) ∙ c .before .before .before .before .before .before .b .given .1) (c .before .before .before .before .calculate .ensures) (omega arith) (c .before .before .write .ensures .0) (c .before .before .write .ensures .1)
+returns-3 c = let write = c .before .before .write in
+    let calculate = c .before .before .before .before .calculate in
+    let b = c .before .before .before .before .before .before .b in
+    let read2 = c .before .before .before .before .before .before .before .before .read2 in
+    let a = c .before .before .before .before .before .before .before .before .before .before .a in
+    let read = c .before .before .before .before .before .before .before .before .before .before .before .before .read in
+    let args = c .before .before .before .before .before .before .before .before .before .before .before .before .before .before .before .before .args in
+    counted (args .operation) _ _ _ _ (readCount (args .value .now)) (readCount (args .operand .now)) (args .out .now) _ (sym (read .ensures) ∙ a .given .1) (sym (read2 .ensures) ∙ b .given .1) (calculate .ensures) (omega arith) (write .ensures .0) (write .ensures .1)
 
 pub count-spec : {M : Type 1} → statement M
 count-spec =

@@ -21,7 +21,11 @@ returns-3 : tie.Need-returns-3
 returns-3 c = λ σ h ok. gives (delta-step _ _ _ _ _ _ (c .if3 .taken)) h
 
 returns-4 : tie.Need-returns-4
-returns-4 c = λ σ h ok. gives (delta-long _ _ _ _ _ _ (c .before .before .before .before .if1 .left) (test-passed (c .before .before .before .is-operation .ensures) (c .before .before .if2 .left)) (c .before .if3 .left) (c .if4 .taken)) h
+returns-4 c = let if3 = c .before .if3 in
+    let if2 = c .before .before .if2 in
+    let is-operation = c .before .before .before .is-operation in
+    let if1 = c .before .before .before .before .if1 in
+    λ σ h ok. gives (delta-long _ _ _ _ _ _ (if1 .left) (test-passed (is-operation .ensures) (if2 .left)) (if3 .left) (c .if4 .taken)) h
 
 find-requires : tie.Need-find-requires
 find-requires c κs = search needs
@@ -36,31 +40,59 @@ enum-known-place : tie.Need-enum-known-place
 enum-known-place c = search needs
 
 store-requires : tie.Need-store-requires
-store-requires c κs = (c .before .before .before .before .before .before .before .before .before .before .before .before .before .pre, rw (c .before .before .place .given .1) at (c .before .before .before .before .find .ensures .1) .0)
+store-requires c κs = let place = c .before .before .place in
+    let find = c .before .before .before .before .find in
+    let pre = c .before .before .before .before .before .before .before .before .before .before .before .before .before .pre in
+    (pre, rw (place .given .1) at (find .ensures .1) .0)
 
 change-requires : tie.Need-change-requires
-change-requires c κs = (search needs, (rw (c .before .before .before .before .before .before .place .given .1) at (c .before .before .before .before .before .before .before .before .find .ensures .1) .1, c .before .before .before .before .before .before .before .before .before .before .before .before .before .before .if1 .left))
+change-requires c κs = let place = c .before .before .before .before .before .before .place in
+    let find = c .before .before .before .before .before .before .before .before .find in
+    let if1 = c .before .before .before .before .before .before .before .before .before .before .before .before .before .before .if1 in
+    (search needs, (rw (place .given .1) at (find .ensures .1) .1, if1 .left))
 
 same-length : tie.Need-same-length
 same-length c = search needs
 
 returns-5 : tie.Need-returns-5
-returns-5 c = λ σ h ok. gives (delta-found _ _ _ _ _ _ (c .before .before .before .before .before .before .before .before .before .if1 .left) (test-passed (c .before .before .before .before .before .before .before .before .is-operation .ensures) (c .before .before .before .before .before .before .before .if2 .left)) (c .before .before .before .before .before .before .if3 .left) (c .before .before .before .before .before .if4 .left) (sym (c .before .before .before .find .ensures .0 σ h) ∙ c .before .e .given .1)) h
+returns-5 c = let e = c .before .e in
+    let find = c .before .before .before .find in
+    let if4 = c .before .before .before .before .before .if4 in
+    let if3 = c .before .before .before .before .before .before .if3 in
+    let if2 = c .before .before .before .before .before .before .before .if2 in
+    let is-operation = c .before .before .before .before .before .before .before .before .is-operation in
+    let if1 = c .before .before .before .before .before .before .before .before .before .if1 in
+    λ σ h ok. gives (delta-found _ _ _ _ _ _ (if1 .left) (test-passed (is-operation .ensures) (if2 .left)) (if3 .left) (if4 .left) (sym (find .ensures .0 σ h) ∙ e .given .1)) h
 
 same-length-2 : tie.Need-same-length-2
 same-length-2 c = search needs
 
 returns-6 : tie.Need-returns-6
-returns-6 c = λ σ h ok. gives (delta-found _ _ _ _ _ _ (c .before .before .before .before .before .before .before .before .if1 .left) (test-passed (c .before .before .before .before .before .before .before .is-operation .ensures) (c .before .before .before .before .before .before .if2 .left)) (c .before .before .before .before .before .if3 .left) (c .before .before .before .before .if4 .left) (sym (c .before .before .find .ensures .0 σ h) ∙ c .enum-told .given .1)) h
+returns-6 c = let find = c .before .before .find in
+    let if4 = c .before .before .before .before .if4 in
+    let if3 = c .before .before .before .before .before .if3 in
+    let if2 = c .before .before .before .before .before .before .if2 in
+    let is-operation = c .before .before .before .before .before .before .before .is-operation in
+    let if1 = c .before .before .before .before .before .before .before .before .if1 in
+    λ σ h ok. gives (delta-found _ _ _ _ _ _ (if1 .left) (test-passed (is-operation .ensures) (if2 .left)) (if3 .left) (if4 .left) (sym (find .ensures .0 σ h) ∙ c .enum-told .given .1)) h
 
 same-length-3 : tie.Need-same-length-3
 same-length-3 c = search needs
 
 returns-7 : tie.Need-returns-7
-returns-7 c = λ σ h ok.
-    let q = sym (c .before .before .before .before .before .before .before .before .before .before .before .find .ensures .0 σ h) ∙ c .before .before .before .before .before .before .before .before .before .place .given .1 in
+returns-7 c = let change = c .before .before .change in
+    let store = c .before .before .before .before .before .before .store in
+    let place = c .before .before .before .before .before .before .before .before .before .place in
+    let find = c .before .before .before .before .before .before .before .before .before .before .before .find in
+    let if4 = c .before .before .before .before .before .before .before .before .before .before .before .before .before .if4 in
+    let if3 = c .before .before .before .before .before .before .before .before .before .before .before .before .before .before .if3 in
+    let if2 = c .before .before .before .before .before .before .before .before .before .before .before .before .before .before .before .if2 in
+    let is-operation = c .before .before .before .before .before .before .before .before .before .before .before .before .before .before .before .before .is-operation in
+    let if1 = c .before .before .before .before .before .before .before .before .before .before .before .before .before .before .before .before .before .if1 in
+    λ σ h ok.
+    let q = sym (find .ensures .0 σ h) ∙ place .given .1 in
     let a = staging-at σ _ _ _ _ ok _ _ _ q in
-    rw (delta-changes _ _ _ _ _ _ (c .before .before .before .before .before .before .before .before .before .before .before .before .before .before .before .before .before .if1 .left) (test-passed (c .before .before .before .before .before .before .before .before .before .before .before .before .before .before .before .before .is-operation .ensures) (c .before .before .before .before .before .before .before .before .before .before .before .before .before .before .before .if2 .left)) (c .before .before .before .before .before .before .before .before .before .before .before .before .before .before .if3 .left) _ _ _ (c .before .before .before .before .before .before .before .before .before .before .before .before .before .if4 .left) q (a .row)) (c .before .before .change .ensures _ (c .before .before .before .before .before .before .store .ensures σ h (a .number) (a .count)) (a .taken))
+    rw (delta-changes _ _ _ _ _ _ (if1 .left) (test-passed (is-operation .ensures) (if2 .left)) (if3 .left) _ _ _ (if4 .left) q (a .row)) (change .ensures _ (store .ensures σ h (a .number) (a .count)) (a .taken))
 
 pub delta-spec : {M : Type 1} → statement M
 delta-spec =

@@ -24,7 +24,10 @@ same-length : tie.Need-same-length
 same-length c = search needs
 
 returns-3 : tie.Need-returns-3
-returns-3 c = rw (c .before .before .copy-in2 .ensures, c .before .before .before .before .before .before .copy-in .ensures) (joined (c .before .before .before .before .before .before .before .before .before .before .before .before .before .args .a .now) (c .before .before .before .before .before .before .before .before .before .before .before .before .before .args .b .now) (c .before .before .before .before .before .before .before .before .before .before .before .before .before .args .out .now) (omega arith) (omega arith))
+returns-3 c = let copy-in2 = c .before .before .copy-in2 in
+    let copy-in = c .before .before .before .before .before .before .copy-in in
+    let args = c .before .before .before .before .before .before .before .before .before .before .before .before .before .args in
+    rw (copy-in2 .ensures, copy-in .ensures) (joined (args .a .now) (args .b .now) (args .out .now) (omega arith) (omega arith))
 
 pub join-spec : {M : Type 1} → statement M
 join-spec =

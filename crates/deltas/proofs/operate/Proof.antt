@@ -17,19 +17,28 @@ same-length : tie.Need-same-length
 same-length c = search needs
 
 returns : tie.Need-returns
-returns c = rw (c .before .before .before .before .match .keys1, operate-append (c .before .before .before .before .before .before .before .before .args .operand .now) (c .before .before .before .before .before .before .before .before .args .value .now)) (c .before .before .join .ensures)
+returns c = let join = c .before .before .join in
+    let match = c .before .before .before .before .match in
+    let args = c .before .before .before .before .before .before .before .before .args in
+    rw (match .keys1, operate-append (args .operand .now) (args .value .now)) (join .ensures)
 
 same-length-2 : tie.Need-same-length-2
 same-length-2 c = search needs
 
 returns-2 : tie.Need-returns-2
-returns-2 c = rw (c .before .before .before .before .match .keys2, operate-prepend (c .before .before .before .before .before .before .before .before .args .operand .now) (c .before .before .before .before .before .before .before .before .args .value .now)) (c .before .before .join2 .ensures)
+returns-2 c = let join2 = c .before .before .join2 in
+    let match = c .before .before .before .before .match in
+    let args = c .before .before .before .before .before .before .before .before .args in
+    rw (match .keys2, operate-prepend (args .operand .now) (args .value .now)) (join2 .ensures)
 
 same-length-3 : tie.Need-same-length-3
 same-length-3 c = search needs
 
 returns-3 : tie.Need-returns-3
-returns-3 c = rw (operate-count (c .before .before .before .before .before .before .before .before .args .operand .now) (c .before .before .before .before .before .before .before .before .args .value .now) (c .before .before .before .before .before .before .before .before .args .operation) (c .before .before .before .before .match .rest .0 .1) (c .before .before .before .before .match .rest .1)) (c .before .before .count .ensures)
+returns-3 c = let count = c .before .before .count in
+    let match = c .before .before .before .before .match in
+    let args = c .before .before .before .before .before .before .before .before .args in
+    rw (operate-count (args .operand .now) (args .value .now) (args .operation) (match .rest .0 .1) (match .rest .1)) (count .ensures)
 
 pub operate-spec : {M : Type 1} → statement M
 operate-spec =

@@ -2,7 +2,8 @@
 use mathlib.Core.Path.{sym, _∙_}
 use borrow.Author.Needs.{needs}
 use Rattle.lent.proofs.Choices.{test-failed, test-passed}
-use Rattle.deltas.proofs.Working.{works-drop, works-staged, works-absent, works-cached}
+use Rattle.machine.specs.State.{stagedIn, rowAt, cached}
+use Rattle.deltas.proofs.Working.{changed-drop, works-staged, changed-absent, works-cached}
 use Rattle.deltas.proofs.work.Statement.{statement}
 use Rattle.deltas.proofs.work.Tie as tie
 
@@ -12,7 +13,7 @@ mark-requires c κs = search needs
 returns : tie.Need-returns
 returns c = let args = c .before .before .before .before .before .args in
     let mark = c .before .mark in
-    (λ σ h. works-drop h (args .row) (args .k) (args .operation) (args .operand .now) (sym (mark .ensures σ h) ∙ c .if1 .taken), tt)
+    (λ σ h. changed-drop (args .operation) (args .operand .now) (stagedIn (rowAt σ (args .row))) (cached σ (args .k)) (sym (mark .ensures σ h) ∙ c .if1 .taken), tt)
 
 staged-length-requires : tie.Need-staged-length-requires
 staged-length-requires c κs = search needs
@@ -50,7 +51,11 @@ returns-2 c = let operate = c .before .before .operate in
     let if2 = c .before .before .before .before .before .before .if2 in
     let mark = c .before .before .before .before .before .before .before .before .mark in
     let args = c .before .before .before .before .before .before .before .before .before .before .before .before .args in
-    (λ σ h. works-staged h (args .row) (args .k) (args .operation) (args .operand .now) (c .before .before .before .before .before .before .before .before .before .before .before .before .pre .1 .0) (sym (mark .ensures σ h) ∙ if2 .taken) (staged-length .ensures .0 σ h) (operate .ensures .value), operate .ensures .short)
+    let pre = c .before .before .before .before .before .before .before .before .before .before .before .before .pre in (
+      λ σ h. works-staged h (args .row) (args .k) (args .operation) (args .operand .now) (pre .1 .0)
+          (sym (mark .ensures σ h) ∙ if2 .taken) (staged-length .ensures .0 σ h) (operate .ensures .value),
+      operate .ensures .short,
+    )
 
 has-value-requires : tie.Need-has-value-requires
 has-value-requires c κs = search needs
@@ -60,8 +65,11 @@ returns-3 c = let has-value = c .before .has-value in
     let if2 = c .before .before .if2 in
     let if1 = c .before .before .before .if1 in
     let mark = c .before .before .before .before .mark in
-    let args = c .before .before .before .before .before .before .before .before .args in
-    (λ σ h. works-absent h (args .row) (args .k) (args .operation) (args .operand .now) (λ q. if1 .left (mark .ensures σ h ∙ q)) (λ q. if2 .left (mark .ensures σ h ∙ q)) (test-failed (has-value .ensures σ h) (c .if3 .taken)), tt)
+    let args = c .before .before .before .before .before .before .before .before .args in (
+      λ σ h. changed-absent (args .operation) (args .operand .now) (stagedIn (rowAt σ (args .row))) (cached σ (args .k))
+          (λ q. if1 .left (mark .ensures σ h ∙ q)) (λ q. if2 .left (mark .ensures σ h ∙ q)) (test-failed (has-value .ensures σ h) (c .if3 .taken)),
+      tt,
+    )
 
 value-length-requires : tie.Need-value-length-requires
 value-length-requires c κs = search needs
@@ -94,7 +102,7 @@ same-length-2 : tie.Need-same-length-2
 same-length-2 c = search needs
 
 returns-4 : tie.Need-returns-4
-returns-4 c = let operate = c .before .before .operate2 in
+returns-4 c = let operate2 = c .before .before .operate2 in
     let value-length = c .before .before .before .before .before .value-length in
     let if3 = c .before .before .before .before .before .before .if3 in
     let has-value = c .before .before .before .before .before .before .before .has-value in
@@ -102,7 +110,12 @@ returns-4 c = let operate = c .before .before .operate2 in
     let if1 = c .before .before .before .before .before .before .before .before .before .if1 in
     let mark = c .before .before .before .before .before .before .before .before .before .before .mark in
     let args = c .before .before .before .before .before .before .before .before .before .before .before .before .before .before .args in
-    (λ σ h. works-cached h (args .row) (args .k) (args .operation) (args .operand .now) (λ q. if1 .left (mark .ensures σ h ∙ q)) (λ q. if2 .left (mark .ensures σ h ∙ q)) (c .before .before .before .before .before .before .before .before .before .before .before .before .before .before .pre .1 .1 .0) (test-passed (has-value .ensures σ h) (if3 .left)) (value-length .ensures .0 σ h) (operate .ensures .value), operate .ensures .short)
+    let pre = c .before .before .before .before .before .before .before .before .before .before .before .before .before .before .pre in (
+      λ σ h. works-cached h (args .row) (args .k) (args .operation) (args .operand .now)
+          (λ q. if1 .left (mark .ensures σ h ∙ q)) (λ q. if2 .left (mark .ensures σ h ∙ q)) (pre .1 .1 .0)
+          (test-passed (has-value .ensures σ h) (if3 .left)) (value-length .ensures .0 σ h) (operate2 .ensures .value),
+      operate2 .ensures .short,
+    )
 
 pub work-spec : {M : Type 1} → statement M
 work-spec =

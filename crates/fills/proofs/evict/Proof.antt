@@ -29,8 +29,11 @@ same-length-2 : tie.Need-same-length-2
 same-length-2 c = search needs
 
 returns-3 : tie.Need-returns-3
-returns-3 c = let args = c .before .before .before .before .before .before .before .before .before .args in
-    λ σ h e. gives (evict-evicted σ (args .key) (omega arith) (not-true _ (test-passed (c .before .before .before .before .before .has-value .ensures σ h) (c .before .before .before .before .if2 .left)))) (c .before .before .drop-value .ensures σ h)
+returns-3 c = let drop-value = c .before .before .drop-value in
+    let if2 = c .before .before .before .before .if2 in
+    let has-value = c .before .before .before .before .before .has-value in
+    let args = c .before .before .before .before .before .before .before .before .before .args in
+    λ σ h e. gives (evict-evicted σ (args .key) (omega arith) (not-true _ (test-passed (has-value .ensures σ h) (if2 .left)))) (drop-value .ensures σ h)
 
 pub evict-spec : {M : Type 1} → statement M
 evict-spec =

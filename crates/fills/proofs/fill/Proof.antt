@@ -46,9 +46,12 @@ same-length-3 : tie.Need-same-length-3
 same-length-3 c = search needs
 
 returns-5 : tie.Need-returns-5
-returns-5 c = let lease-token = c .before .before .before .before .before .before .lease-token in
+returns-5 c = let fill = c .before .before .fill in
+    let if4 = c .before .before .before .before .if4 in
+    let if3 = c .before .before .before .before .before .if3 in
+    let lease-token = c .before .before .before .before .before .before .lease-token in
     let args = c .before .before .before .before .before .before .before .before .before .before .before .before .args in
-    λ σ h e. gives (fill-stored σ (args .token) (args .key) (args .value .now) (omega arith) (omega arith) (λ q. c .before .before .before .before .before .if3 .left (lease-token .ensures σ h ∙ q)) (sym (lease-token .ensures σ h) ∙ c .before .before .before .before .if4 .left)) (c .before .before .fill .ensures σ h)
+    λ σ h e. gives (fill-stored σ (args .token) (args .key) (args .value .now) (omega arith) (omega arith) (λ q. if3 .left (lease-token .ensures σ h ∙ q)) (sym (lease-token .ensures σ h) ∙ if4 .left)) (fill .ensures σ h)
 
 pub fill-spec : {M : Type 1} → statement M
 fill-spec =

@@ -1,10 +1,11 @@
 -- A blocked key is BACKOFF. The next token of a sound state is not 0, so outside the range there is none left to give (NUMBERS); else it is given.
-use mathlib.Core.Path.{refl, sym, ap, _∙_}
+use mathlib.Core.Path.{sym, ap, _∙_}
 use native.Mathlib.Omega.{arith}
 use Rattle.machine.specs.declared.Answer.{Answer}
 use Rattle.machine.proofs.SoundFacts.{next-token}
-use Rattle.gets.proofs.Got.{absent-blocked, absent-refused, absent-leased}
+use Rattle.gets.proofs.Tried.{absent-blocked, absent-refused, absent-leased}
 use borrow.Author.Needs.{needs}
+use Rattle.outcome.proofs.Told.{gives}
 use Rattle.gets.proofs.absent.Statement.{statement}
 use Rattle.gets.proofs.absent.Tie as tie
 
@@ -18,8 +19,10 @@ same-length : tie.Need-same-length
 same-length c = search needs
 
 returns : tie.Need-returns
-returns c = λ σ h e. let a = c .before .before .before .before .before .before .args in
-    rw (absent-blocked σ (a .time) (a .k) (sym (c .before .before .before .is-blocked .ensures σ h e) ∙ c .before .before .if1 .taken)) (record { answer = ap Answer.Backoff (c .wait .ensures σ h); holds = h })
+returns c = let if1 = c .before .before .if1 in
+    let is-blocked = c .before .before .before .is-blocked in
+    let args = c .before .before .before .before .before .before .args in
+    λ σ h e. rw (absent-blocked σ (args .time) (args .k) (sym (is-blocked .ensures σ h e) ∙ if1 .taken)) (record { answer = ap Answer.Backoff (c .wait .ensures σ h); holds = h })
 
 next-token-requires : tie.Need-next-token-requires
 next-token-requires c κs = search needs
@@ -31,9 +34,13 @@ same-length-2 : tie.Need-same-length-2
 same-length-2 c = search needs
 
 returns-2 : tie.Need-returns-2
-returns-2 c = λ σ h e. let a = c .before .before .before .before .before .before .before .before .before .before .before .before .args in
-    let t = c .before .before .before .before .before .before .next-token .ensures σ h in
-    rw (absent-leased σ (a .time) (a .k) (sym (c .before .before .before .before .before .before .before .before .before .is-blocked .ensures σ h e) ∙ c .before .before .before .before .before .before .before .before .if1 .left) (omega (arith, t))) (c .before .before .lease .ensures σ h t)
+returns-2 c = let lease = c .before .before .lease in
+    let next-token = c .before .before .before .before .before .before .next-token in
+    let if1 = c .before .before .before .before .before .before .before .before .if1 in
+    let is-blocked = c .before .before .before .before .before .before .before .before .before .is-blocked in
+    let args = c .before .before .before .before .before .before .before .before .before .before .before .before .args in
+    λ σ h e. let t = next-token .ensures σ h in
+    rw (absent-leased σ (args .time) (args .k) (sym (is-blocked .ensures σ h e) ∙ if1 .left) (omega (arith, t))) (lease .ensures σ h t)
 
 same-length-3 : tie.Need-same-length-3
 same-length-3 c = search needs
@@ -45,8 +52,11 @@ same-length-4 : tie.Need-same-length-4
 same-length-4 c = search needs
 
 returns-4 : tie.Need-returns-4
-returns-4 c = λ σ h e. let a = c .before .before .before .before .before .before .before .before .args in
-    rw (absent-refused σ (a .time) (a .k) (sym (c .before .before .before .before .before .is-blocked .ensures σ h e) ∙ c .before .before .before .before .if1 .left) (omega (arith, c .before .before .next-token .ensures σ h))) (record { answer = refl; holds = h })
+returns-4 c = let next-token = c .before .before .next-token in
+    let if1 = c .before .before .before .before .if1 in
+    let is-blocked = c .before .before .before .before .before .is-blocked in
+    let args = c .before .before .before .before .before .before .before .before .args in
+    λ σ h e. gives (absent-refused σ (args .time) (args .k) (sym (is-blocked .ensures σ h e) ∙ if1 .left) (omega (arith, next-token .ensures σ h))) h
 
 pub absent-spec : {M : Type 1} → statement M
 absent-spec =

@@ -1,18 +1,19 @@
 -- Each test that refuses, in its order; then a row of the session's own decides.
 use Rattle.machine.specs.Sizes.{rowCount}
-use mathlib.Core.Path.{refl, sym, ap, _∙_}
+use mathlib.Core.Path.{sym, ap, _∙_}
 use native.Mathlib.Omega.{arith}
 use Prim.Native.Nat.{_<_}
 use Rattle.sights.specs.Sights.{placed}
 use Rattle.gets.specs.Got.{asked}
 use Rattle.sights.proofs.Sights.{row-missing, row-taken, sight-row, sight-cached}
-use Rattle.gets.proofs.Got.{got-key, got-unknown, got-held, got-others}
+use Rattle.gets.proofs.Tried.{got-key, got-unknown, got-held, got-others}
 use borrow.Author.Needs.{needs}
+use Rattle.outcome.proofs.Told.{gives}
 use Rattle.gets.proofs.get.Statement.{statement}
 use Rattle.gets.proofs.get.Tie as tie
 
 returns : tie.Need-returns
-returns c = λ σ h e. let a = c .before .before .args in rw (got-key σ (a .time) (a .session) (a .key) (c .if1 .taken)) (record { answer = refl; holds = h })
+returns c = λ σ h e. let a = c .before .before .args in gives (got-key σ (a .time) (a .session) (a .key) (c .if1 .taken)) h
 
 is-unknown-requires : tie.Need-is-unknown-requires
 is-unknown-requires c κs = search needs
@@ -21,8 +22,10 @@ same-length : tie.Need-same-length
 same-length c = search needs
 
 returns-2 : tie.Need-returns-2
-returns-2 c = λ σ h e. let a = c .before .before .before .before .before .args in
-    rw (got-unknown σ (a .time) (a .session) (a .key) (c .before .before .before .if1 .left) (sym (c .before .is-unknown .ensures σ h) ∙ c .if2 .taken)) (record { answer = refl; holds = h })
+returns-2 c = let is-unknown = c .before .is-unknown in
+    let if1 = c .before .before .before .if1 in
+    let args = c .before .before .before .before .before .args in
+    λ σ h e. gives (got-unknown σ (args .time) (args .session) (args .key) (if1 .left) (sym (is-unknown .ensures σ h) ∙ c .if2 .taken)) h
 
 find-requires : tie.Need-find-requires
 find-requires c κs = search needs
@@ -31,7 +34,9 @@ enum-known-row : tie.Need-enum-known-row
 enum-known-row c = search needs
 
 row-sight-requires : tie.Need-row-sight-requires
-row-sight-requires c κs = let l : c .before .before .row .given .0 .0 < rowCount = rw (c .before .before .row .given .1) at (c .before .before .before .before .find .ensures .1) in omega arith
+row-sight-requires c κs = let row = c .before .before .row in
+    let find = c .before .before .before .before .find in
+    let l : row .given .0 .0 < rowCount = rw (row .given .1) at (find .ensures .1) in omega arith
 
 asked-requires : tie.Need-asked-requires
 asked-requires c κs = search needs
@@ -46,23 +51,35 @@ same-length-2 : tie.Need-same-length-2
 same-length-2 c = search needs
 
 returns-3 : tie.Need-returns-3
-returns-3 c = λ σ h e. let a = c .before .before .before .before .before .before .before .before .before .before .before .before .before .args in
-    let i = c .before .before .before .before .row .given .0 .0 in
-    let f = sym (c .before .before .before .before .before .before .find .ensures .0 σ h) ∙ c .before .before .before .before .row .given .1 in
-    got-held σ (a .time) (a .session) (a .key) (c .before .before .before .before .before .before .before .before .before .before .before .if1 .left) (sym (c .before .before .before .before .before .before .before .before .before .is-unknown .ensures σ h) ∙ c .before .before .before .before .before .before .before .before .if2 .left) _ h
-    (row-taken σ (a .session) (a .key) i (h .fits .rows) f)
-    (c .asked .ensures ∙ ap asked (c .before .row-sight .ensures .0 σ h ∙ sym (ap placed (sight-row σ (a .session) (a .key) i f))))
+returns-3 c = let row-sight = c .before .row-sight in
+    let row = c .before .before .before .before .row in
+    let find = c .before .before .before .before .before .before .find in
+    let if2 = c .before .before .before .before .before .before .before .before .if2 in
+    let is-unknown = c .before .before .before .before .before .before .before .before .before .is-unknown in
+    let if1 = c .before .before .before .before .before .before .before .before .before .before .before .if1 in
+    let args = c .before .before .before .before .before .before .before .before .before .before .before .before .before .args in
+    λ σ h e. let i = row .given .0 .0 in
+    let f = sym (find .ensures .0 σ h) ∙ row .given .1 in
+    got-held σ (args .time) (args .session) (args .key) (if1 .left) (sym (is-unknown .ensures σ h) ∙ if2 .left) _ h
+    (row-taken σ (args .session) (args .key) i (h .fits .rows) f)
+    (c .asked .ensures ∙ ap asked (row-sight .ensures .0 σ h ∙ sym (ap placed (sight-row σ (args .session) (args .key) i f))))
 
 same-length-3 : tie.Need-same-length-3
 same-length-3 c = search needs
 
 returns-4 : tie.Need-returns-4
-returns-4 c = λ σ h e. let a = c .before .before .before .before .before .before .before .before .before .before .before .before .before .args in
-    let f = sym (c .before .before .before .before .before .before .find .ensures .0 σ h) ∙ c .before .before .before .before .enum-told .given .1 in
-    rw (got-others σ (a .time) (a .session) (a .key) (c .before .before .before .before .before .before .before .before .before .before .before .if1 .left) (sym (c .before .before .before .before .before .before .before .before .before .is-unknown .ensures σ h) ∙ c .before .before .before .before .before .before .before .before .if2 .left)
-    (row-missing σ (a .session) (a .key) (h .fits .rows) f)
-    (sight-cached σ (a .session) (a .key) (h .fits .rows) f))
-    (c .before .before .others .ensures σ h e)
+returns-4 c = let others = c .before .before .others in
+    let enum-told = c .before .before .before .before .enum-told in
+    let find = c .before .before .before .before .before .before .find in
+    let if2 = c .before .before .before .before .before .before .before .before .if2 in
+    let is-unknown = c .before .before .before .before .before .before .before .before .before .is-unknown in
+    let if1 = c .before .before .before .before .before .before .before .before .before .before .before .if1 in
+    let args = c .before .before .before .before .before .before .before .before .before .before .before .before .before .args in
+    λ σ h e. let f = sym (find .ensures .0 σ h) ∙ enum-told .given .1 in
+    rw (got-others σ (args .time) (args .session) (args .key) (if1 .left) (sym (is-unknown .ensures σ h) ∙ if2 .left)
+    (row-missing σ (args .session) (args .key) (h .fits .rows) f)
+    (sight-cached σ (args .session) (args .key) (h .fits .rows) f))
+    (others .ensures σ h e)
 
 pub get-spec : {M : Type 1} → statement M
 get-spec =

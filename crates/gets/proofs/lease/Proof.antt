@@ -1,5 +1,5 @@
 -- The lease with the token, and the next token after it, are what `leased` sets.
-use Rattle.gets.proofs.Got.{lease-gives}
+use Rattle.gets.proofs.Tried.{lease-gives}
 use borrow.Author.Needs.{needs}
 use Rattle.gets.proofs.lease.Statement.{statement}
 use Rattle.gets.proofs.lease.Tie as tie
@@ -23,8 +23,11 @@ same-length : tie.Need-same-length
 same-length c = search needs
 
 returns : tie.Need-returns
-returns c = λ σ h e. let a = c .before .before .before .before .before .before .before .before .before .before .before .args in
-    lease-gives σ (a .time) (a .k) (a .token) (c .before .before .before .before .before .before .before .before .read-life .result) e (c .before .before .before .before .before .before .before .before .read-life .ensures .0 σ h) (c .before .before .store-next-token .ensures _ (c .before .before .before .before .before .before .put-lease .ensures σ h (search needs)))
+returns c = let store-next-token = c .before .before .store-next-token in
+    let put-lease = c .before .before .before .before .before .before .put-lease in
+    let read-life = c .before .before .before .before .before .before .before .before .read-life in
+    let args = c .before .before .before .before .before .before .before .before .before .before .before .args in
+    λ σ h e. lease-gives σ (args .time) (args .k) (args .token) (read-life .result) e (read-life .ensures .0 σ h) (store-next-token .ensures _ (put-lease .ensures σ h (search needs)))
 
 pub lease-spec : {M : Type 1} → statement M
 lease-spec =

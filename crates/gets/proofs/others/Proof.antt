@@ -1,6 +1,6 @@
 -- A cached value is the HIT; without one the key is absent.
 use mathlib.Core.Path.{sym, _∙_}
-use Rattle.gets.proofs.Got.{others-hit, others-absent}
+use Rattle.gets.proofs.Tried.{others-hit, others-absent}
 use borrow.Author.Needs.{needs}
 use Rattle.gets.proofs.others.Statement.{statement}
 use Rattle.gets.proofs.others.Tie as tie

@@ -1,4 +1,4 @@
--- The clock is a part of the header.
+-- The clock is a part of the header, so its bytes alone change (`clock-put`).
 use Rattle.layout.proofs.Parts.{clock-put}
 use borrow.Author.Needs.{needs}
 use Rattle.header.proofs.store_clock.Statement.{statement}

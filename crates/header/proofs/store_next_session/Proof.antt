@@ -1,4 +1,4 @@
--- The next session number is a part of the header.
+-- The next session number is a part of the header, so its bytes alone change (`session-next-put`).
 use Rattle.layout.proofs.Parts.{session-next-put}
 use borrow.Author.Needs.{needs}
 use Rattle.header.proofs.store_next_session.Statement.{statement}

@@ -1,4 +1,4 @@
--- The next token is a part of the header.
+-- The next token is a part of the header, so its bytes alone change (`token-next-put`).
 use Rattle.layout.proofs.Parts.{token-next-put}
 use borrow.Author.Needs.{needs}
 use Rattle.header.proofs.store_next_token.Statement.{statement}

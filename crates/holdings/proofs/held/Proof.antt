@@ -22,11 +22,14 @@ line-of-requires : tie.Need-line-of-requires
 line-of-requires c κs = search needs
 
 returns : tie.Need-returns
-returns c = let k = c .before .before .before .before .before .before .before .args .k in (
-  λ σ h e. let r = held-row σ k (c .before .before .before .row .given .0 .0) (h .fits .rows) e (sym (c .before .before .before .before .before .first-on .ensures .0 σ h) ∙ c .before .before .before .row .given .1) in
-      c .line-of .ensures .1 (rw (c .before .kind .ensures σ h) (r .1)) (rw (c .before .kind .ensures σ h) (r .2)) ∙ rw (c .before .kind .ensures σ h) (sym (r .0)),
-  c .line-of .ensures .0,
-)
+returns c = let kind = c .before .kind in
+    let row = c .before .before .before .row in
+    let first-on = c .before .before .before .before .before .first-on in
+    let k = c .before .before .before .before .before .before .before .args .k in (
+      λ σ h e. let r = held-row σ k (row .given .0 .0) (h .fits .rows) e (sym (first-on .ensures .0 σ h) ∙ row .given .1) in
+          c .line-of .ensures .1 (rw (kind .ensures σ h) (r .1)) (rw (kind .ensures σ h) (r .2)) ∙ rw (kind .ensures σ h) (sym (r .0)),
+      c .line-of .ensures .0,
+    )
 
 enum-told : tie.Need-enum-told
 enum-told c = search needs
@@ -35,12 +38,18 @@ lease-token-requires : tie.Need-lease-token-requires
 lease-token-requires c κs = search needs
 
 returns-2 : tie.Need-returns-2
-returns-2 c = let k = c .before .before .before .before .before .before .args .k in
-    (λ σ h e. sym (held-free σ k (h .fits .rows) (sym (c .before .before .before .before .first-on .ensures .0 σ h) ∙ c .before .before .enum-told .given .1) (key-fits h k (omega arith) .lease) (sym (c .before .lease-token .ensures σ h) ∙ c .if1 .taken)), omega arith)
+returns-2 c = let lease-token = c .before .lease-token in
+    let enum-told = c .before .before .enum-told in
+    let first-on = c .before .before .before .before .first-on in
+    let k = c .before .before .before .before .before .before .args .k in
+    (λ σ h e. sym (held-free σ k (h .fits .rows) (sym (first-on .ensures .0 σ h) ∙ enum-told .given .1) (key-fits h k (omega arith) .lease) (sym (lease-token .ensures σ h) ∙ c .if1 .taken)), omega arith)
 
 returns-3 : tie.Need-returns-3
-returns-3 c = let k = c .before .before .before .before .before .before .args .k in
-    (λ σ h e. sym (held-lease σ k (h .fits .rows) (sym (c .before .before .before .before .first-on .ensures .0 σ h) ∙ c .before .before .enum-told .given .1) (λ q. c .if1 .left (c .before .lease-token .ensures σ h ∙ q))), omega arith)
+returns-3 c = let lease-token = c .before .lease-token in
+    let enum-told = c .before .before .enum-told in
+    let first-on = c .before .before .before .before .first-on in
+    let k = c .before .before .before .before .before .before .args .k in
+    (λ σ h e. sym (held-lease σ k (h .fits .rows) (sym (first-on .ensures .0 σ h) ∙ enum-told .given .1) (λ q. c .if1 .left (lease-token .ensures σ h ∙ q))), omega arith)
 
 pub held-spec : {M : Type 1} → statement M
 held-spec =

@@ -24,7 +24,10 @@ same-length : tie.Need-same-length
 same-length c = search needs
 
 returns : tie.Need-returns
-returns c = λ σ h. rw (c .before .before .clear .ensures) (value-filled h (c .before .before .before .before .before .before .before .before .before .before .args .k) (omega arith) (c .before .before .before .before .before .before .before .before .before .before .args .v .now) (c .before .before .before .before .before .before .put-value .ensures σ h))
+returns c = let clear = c .before .before .clear in
+    let put-value = c .before .before .before .before .before .before .put-value in
+    let args = c .before .before .before .before .before .before .before .before .before .before .args in
+    λ σ h. rw (clear .ensures) (value-filled h (args .k) (omega arith) (args .v .now) (put-value .ensures σ h))
 
 pub fill-spec : {M : Type 1} → statement M
 fill-spec =

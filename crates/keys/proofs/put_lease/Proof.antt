@@ -27,7 +27,10 @@ same-length : tie.Need-same-length
 same-length c = search needs
 
 returns : tie.Need-returns
-returns c = λ σ h g. rw (c .before .before .store-u64 .ensures, c .before .before .before .before .before .before .store-u32 .ensures) (lease-written h (c .before .before .before .before .before .before .before .before .before .args .k) (omega arith) (c .before .before .before .before .before .before .before .before .before .args .token) (c .before .before .before .before .before .before .before .before .before .args .until) (omega arith) (omega arith) (omega arith))
+returns c = let store-u64 = c .before .before .store-u64 in
+    let store-u32 = c .before .before .before .before .before .before .store-u32 in
+    let args = c .before .before .before .before .before .before .before .before .before .args in
+    λ σ h g. rw (store-u64 .ensures, store-u32 .ensures) (lease-written h (args .k) (omega arith) (args .token) (args .until) (omega arith) (omega arith) (omega arith))
 
 pub put-lease-spec : {M : Type 1} → statement M
 put-lease-spec =

@@ -28,7 +28,10 @@ same-length : tie.Need-same-length
 same-length c = search needs
 
 returns : tie.Need-returns
-returns c = λ σ h. rw (c .before .before .store-value .ensures, c .before .before .before .before .before .before .store-pair .ensures) (value-put h (c .before .before .before .before .before .before .before .before .before .before .args .k) (omega arith) (some (c .before .before .before .before .before .before .before .before .before .before .args .v .now)) (omega arith))
+returns c = let store-value = c .before .before .store-value in
+    let store-pair = c .before .before .before .before .before .before .store-pair in
+    let args = c .before .before .before .before .before .before .before .before .before .before .args in
+    λ σ h. rw (store-value .ensures, store-pair .ensures) (value-put h (args .k) (omega arith) (some (args .v .now)) (omega arith))
 
 pub put-value-spec : {M : Type 1} → statement M
 put-value-spec =

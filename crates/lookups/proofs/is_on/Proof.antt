@@ -40,7 +40,11 @@ returns-3 c = rw (← c .before .before .before .before .before .load-u32 .ensur
 
 returns-4 : tie.Need-returns-4
 unfolding rowTest
-returns-4 c = rw (← c .before .before .before .before .before .load-u32 .ensures, c .before .before .index .ensures .0) (rw (ne-eqb _ 0 (c .before .before .before .before .if1 .left), ne-eqb _ 0 (c .before .if2 .left), eq-eqb _ _ (c .if3 .left)))
+returns-4 c = let if2 = c .before .if2 in
+    let index = c .before .before .index in
+    let if1 = c .before .before .before .before .if1 in
+    let load-u32 = c .before .before .before .before .before .load-u32 in
+    rw (← load-u32 .ensures, index .ensures .0) (rw (ne-eqb _ 0 (if1 .left), ne-eqb _ 0 (if2 .left), eq-eqb _ _ (c .if3 .left)))
 
 pub is-on-spec : {M : Type 1} → statement M
 is-on-spec =

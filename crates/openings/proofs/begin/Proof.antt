@@ -5,7 +5,7 @@ use Rattle.machine.specs.Sizes.{sessionCount}
 use Rattle.machine.specs.Tables.{place}
 use Rattle.machine.specs.State.{free}
 use Rattle.layout.proofs.Search.{found-at}
-use Rattle.openings.proofs.Cases.{begin-full}
+use Rattle.openings.proofs.Tried.{begin-full}
 use borrow.Author.Needs.{needs}
 use Rattle.openings.proofs.begin.Statement.{statement}
 use Rattle.openings.proofs.begin.Tie as tie
@@ -26,7 +26,10 @@ same-length : tie.Need-same-length
 same-length c = search needs
 
 returns : tie.Need-returns
-returns c = λ σ h ok. c .before .before .«open» .ensures σ h ok (found-at sessionCount (place free (σ .sessions)) (c .before .before .before .before .before .f .given .0 .0) (sym (c .before .before .before .before .before .before .before .free-place .ensures .0 σ h) ∙ c .before .before .before .before .before .f .given .1) .0)
+returns c = let «open» = c .before .before .«open» in
+    let f = c .before .before .before .before .before .f in
+    let free-place = c .before .before .before .before .before .before .before .free-place in
+    λ σ h ok. «open» .ensures σ h ok (found-at sessionCount (place free (σ .sessions)) (f .given .0 .0) (sym (free-place .ensures .0 σ h) ∙ f .given .1) .0)
 
 same-length-2 : tie.Need-same-length-2
 same-length-2 c = search needs

@@ -5,7 +5,7 @@ use Rattle.machine.proofs.SoundFacts as facts
 use Rattle.machine.specs.State.{session}
 use Rattle.machine.specs.Expiry.{withSessions}
 use lib.ListN.{set}
-use Rattle.openings.proofs.Cases.{begin-spent, begin-gives}
+use Rattle.openings.proofs.Tried.{begin-spent, begin-gives}
 use borrow.Author.Needs.{needs}
 use Rattle.openings.proofs.open.Statement.{statement}
 use Rattle.openings.proofs.open.Tie as tie
@@ -17,7 +17,9 @@ same-length : tie.Need-same-length
 same-length c = search needs
 
 returns : tie.Need-returns
-returns c = λ σ h ok p. gives (begin-spent σ ok (c .before .before .before .before .args .time) (c .before .before .before .before .args .i) (search needs) p (c .before .next-session .result) (c .before .next-session .ensures σ h) (search needs)) h
+returns c = let next-session = c .before .next-session in
+    let args = c .before .before .before .before .args in
+    λ σ h ok p. gives (begin-spent σ ok (args .time) (args .i) (search needs) p (next-session .result) (next-session .ensures σ h) (search needs)) h
 
 write-life-requires : tie.Need-write-life-requires
 write-life-requires c κs = search needs
@@ -41,9 +43,17 @@ same-length-2 : tie.Need-same-length-2
 same-length-2 c = search needs
 
 returns-2 : tie.Need-returns-2
-returns-2 c = λ σ h ok p.
-    begin-gives σ ok (c .before .before .before .before .before .before .before .before .before .before .before .before .before .before .before .args .time) (c .before .before .before .before .before .before .before .before .before .before .before .before .before .before .before .args .i) (search needs) p _ (c .before .before .before .before .before .before .before .before .before .before .before .before .next-session .result) (c .before .before .before .before .before .before .before .before .before .write-life .result) (c .before .before .before .before .before .before .before .«open» .result) (c .before .before .before .before .before .before .before .before .before .before .before .before .next-session .ensures σ h) (c .before .before .before .before .before .before .before .before .before .write-life .ensures .0 σ h) (search needs) (c .before .before .before .before .before .before .before .«open» .ensures)
-    (c .before .before .store-next-session .ensures (withSessions σ (set (σ .sessions) (c .before .before .before .before .before .before .before .before .before .before .before .before .before .before .before .args .i) (session (c .before .before .before .before .before .before .before .«open» .result)))) (c .before .before .before .before .before .before .store .ensures σ h (rw (c .before .before .before .before .before .before .before .«open» .ensures) (rw (c .before .before .before .before .before .before .before .before .before .before .before .before .next-session .ensures σ h) (facts.next-session σ ok .0))) (rw (c .before .before .before .before .before .before .before .«open» .ensures) (omega arith))))
+returns-2 c = let store-next-session = c .before .before .store-next-session in
+    let store = c .before .before .before .before .before .before .store in
+    let opened = c .before .before .before .before .before .before .before .«open» in
+    let write-life = c .before .before .before .before .before .before .before .before .before .write-life in
+    let next-session = c .before .before .before .before .before .before .before .before .before .before .before .before .next-session in
+    let entry = c .before .before .before .before .before .before .before .before .before .before .before .before .before .before .before in
+    λ σ h ok p.
+    begin-gives σ ok (entry .args .time) (entry .args .i) (entry .pre .1 .0) p _ (next-session .result) (write-life .result) (opened .result)
+    (next-session .ensures σ h) (write-life .ensures .0 σ h) (search needs) (opened .ensures)
+    (store-next-session .ensures (withSessions σ (set (σ .sessions) (entry .args .i) (session (opened .result))))
+    (store .ensures σ h (rw (opened .ensures) (rw (next-session .ensures σ h) (facts.next-session σ ok .0))) (rw (opened .ensures) (omega arith))))
 
 pub open-spec : {M : Type 1} → statement M
 open-spec =

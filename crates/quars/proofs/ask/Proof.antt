@@ -1,8 +1,7 @@
 -- Each verdict of the table is the definition's, since what is held is.
 use mathlib.Core.Path.{sym, _∙_}
-use Rattle.layout.proofs.Held.{session-fits}
-use Rattle.machine.specs.State.{sessionAt}
-use Rattle.quars.proofs.Asked.{ask-by, number-given}
+use Rattle.layout.proofs.Held.{number-given}
+use Rattle.quars.proofs.Tried.{ask-by}
 use borrow.Author.Needs.{needs}
 use Rattle.quars.proofs.ask.Statement.{statement}
 use Rattle.quars.proofs.ask.Tie as tie
@@ -41,25 +40,51 @@ same-length : tie.Need-same-length
 same-length c = search needs
 
 returns : tie.Need-returns
-returns c = λ σ h ok here. rw (ask-by σ (c .before .before .before .before .before .before .before .before .before .before .args .n) (c .before .before .before .before .before .before .before .before .before .before .args .k) (c .before .before .before .before .before .before .before .before .before .before .args .kind) _ (c .before .before .before .before .before .before .before .held .result) (c .before .before .before .before .before .before .before .held .ensures .0 σ h ok) (sym (c .before .before .before .before .before .before .decide .ensures) ∙ c .before .before .before .before .enum-told .given .1)) (c .before .before .grant .ensures σ h (number-given (c .before .before .before .before .before .before .before .before .before .before .args .n) (sessionAt σ (c .before .before .before .before .before .before .before .before .before .before .args .place)) (session-fits h (c .before .before .before .before .before .before .before .before .before .before .args .place) (c .before .before .before .before .before .before .before .before .before .before .pre .1 .0)) here))
+returns c = let grant = c .before .before .grant in
+    let enum-told = c .before .before .before .before .enum-told in
+    let decide = c .before .before .before .before .before .before .decide in
+    let held = c .before .before .before .before .before .before .before .held in
+    let args = c .before .before .before .before .before .before .before .before .before .before .args in
+    let pre = c .before .before .before .before .before .before .before .before .before .before .pre in
+    λ σ h ok here. rw (ask-by σ (args .n) (args .k) (args .kind) _ (held .result) (held .ensures .0 σ h ok) (sym (decide .ensures) ∙ enum-told .given .1))
+    (grant .ensures σ h (number-given h (args .place) (pre .1 .0) (args .n) here))
 
 same-length-2 : tie.Need-same-length-2
 same-length-2 c = search needs
 
 returns-2 : tie.Need-returns-2
-returns-2 c = λ σ h ok here. rw (ask-by σ (c .before .before .before .before .before .before .before .before .before .before .args .n) (c .before .before .before .before .before .before .before .before .before .before .args .k) (c .before .before .before .before .before .before .before .before .before .before .args .kind) _ (c .before .before .before .before .before .before .before .held .result) (c .before .before .before .before .before .before .before .held .ensures .0 σ h ok) (sym (c .before .before .before .before .before .before .decide .ensures) ∙ c .before .before .before .before .enum-told2 .given .1)) (c .before .before .grant2 .ensures σ h (number-given (c .before .before .before .before .before .before .before .before .before .before .args .n) (sessionAt σ (c .before .before .before .before .before .before .before .before .before .before .args .place)) (session-fits h (c .before .before .before .before .before .before .before .before .before .before .args .place) (c .before .before .before .before .before .before .before .before .before .before .pre .1 .0)) here))
+returns-2 c = let grant2 = c .before .before .grant2 in
+    let enum-told2 = c .before .before .before .before .enum-told2 in
+    let decide = c .before .before .before .before .before .before .decide in
+    let held = c .before .before .before .before .before .before .before .held in
+    let args = c .before .before .before .before .before .before .before .before .before .before .args in
+    let pre = c .before .before .before .before .before .before .before .before .before .before .pre in
+    λ σ h ok here. rw (ask-by σ (args .n) (args .k) (args .kind) _ (held .result) (held .ensures .0 σ h ok) (sym (decide .ensures) ∙ enum-told2 .given .1))
+    (grant2 .ensures σ h (number-given h (args .place) (pre .1 .0) (args .n) here))
 
 same-length-3 : tie.Need-same-length-3
 same-length-3 c = search needs
 
 returns-3 : tie.Need-returns-3
-returns-3 c = λ σ h ok here. rw (ask-by σ (c .before .before .before .before .before .before .before .before .before .before .args .n) (c .before .before .before .before .before .before .before .before .before .before .args .k) (c .before .before .before .before .before .before .before .before .before .before .args .kind) _ (c .before .before .before .before .before .before .before .held .result) (c .before .before .before .before .before .before .before .held .ensures .0 σ h ok) (sym (c .before .before .before .before .before .before .decide .ensures) ∙ c .before .before .before .before .enum-told3 .given .1)) (c .before .before .abort .ensures σ h ok here)
+returns-3 c = let abort = c .before .before .abort in
+    let enum-told3 = c .before .before .before .before .enum-told3 in
+    let decide = c .before .before .before .before .before .before .decide in
+    let held = c .before .before .before .before .before .before .before .held in
+    let args = c .before .before .before .before .before .before .before .before .before .before .args in
+    λ σ h ok here. rw (ask-by σ (args .n) (args .k) (args .kind) _ (held .result) (held .ensures .0 σ h ok) (sym (decide .ensures) ∙ enum-told3 .given .1))
+    (abort .ensures σ h ok here)
 
 same-length-4 : tie.Need-same-length-4
 same-length-4 c = search needs
 
 returns-4 : tie.Need-returns-4
-returns-4 c = λ σ h ok here. rw (ask-by σ (c .before .before .before .before .before .before .before .before .before .before .args .n) (c .before .before .before .before .before .before .before .before .before .before .args .k) (c .before .before .before .before .before .before .before .before .before .before .args .kind) _ (c .before .before .before .before .before .before .before .held .result) (c .before .before .before .before .before .before .before .held .ensures .0 σ h ok) (sym (c .before .before .before .before .before .before .decide .ensures) ∙ c .before .before .before .before .enum-told4 .given .1)) (c .before .before .abort2 .ensures σ h ok here)
+returns-4 c = let abort2 = c .before .before .abort2 in
+    let enum-told4 = c .before .before .before .before .enum-told4 in
+    let decide = c .before .before .before .before .before .before .decide in
+    let held = c .before .before .before .before .before .before .before .held in
+    let args = c .before .before .before .before .before .before .before .before .before .before .args in
+    λ σ h ok here. rw (ask-by σ (args .n) (args .k) (args .kind) _ (held .result) (held .ensures .0 σ h ok) (sym (decide .ensures) ∙ enum-told4 .given .1))
+    (abort2 .ensures σ h ok here)
 
 pub ask-spec : {M : Type 1} → statement M
 ask-spec =

@@ -1,7 +1,7 @@
 -- Without a free row the table is full; else the row is written there and the I lease cleared.
 use mathlib.Core.Path.{sym, _∙_}
 use Rattle.outcome.proofs.Told.{gives}
-use Rattle.quars.proofs.Asked.{grant-full, grant-room}
+use Rattle.quars.proofs.Tried.{grant-full, grant-room}
 use borrow.Author.Needs.{needs}
 use Rattle.quars.proofs.grant.Statement.{statement}
 use Rattle.quars.proofs.grant.Tie as tie
@@ -19,7 +19,9 @@ same-length : tie.Need-same-length
 same-length c = search needs
 
 returns : tie.Need-returns
-returns c = λ σ h g. gives (grant-full σ (c .before .before .before .before .before .args .n) (c .before .before .before .before .before .args .k) (c .before .before .before .before .before .args .kind) (h .fits .rows) (sym (c .before .before .free-place .ensures .0 σ h) ∙ c .enum-told .given .1)) h
+returns c = let free-place = c .before .before .free-place in
+    let args = c .before .before .before .before .before .args in
+    λ σ h g. gives (grant-full σ (args .n) (args .k) (args .kind) (h .fits .rows) (sym (free-place .ensures .0 σ h) ∙ c .enum-told .given .1)) h
 
 put-requires : tie.Need-put-requires
 put-requires c κs = (search needs, rw (c .before .before .i .given .1) at (c .before .before .before .before .free-place .ensures .1))
@@ -31,7 +33,12 @@ same-length-2 : tie.Need-same-length-2
 same-length-2 c = search needs
 
 returns-2 : tie.Need-returns-2
-returns-2 c = λ σ h g. gives (grant-room σ (c .before .before .before .before .before .before .before .before .before .before .before .before .before .before .args .n) (c .before .before .before .before .before .before .before .before .before .before .before .before .before .before .args .k) (c .before .before .before .before .before .before .before .before .before .before .before .before .before .before .args .kind) (h .fits .rows) (c .before .before .before .before .before .before .before .before .before .i .given .0 .0) (sym (c .before .before .before .before .before .before .before .before .before .before .before .free-place .ensures .0 σ h) ∙ c .before .before .before .before .before .before .before .before .before .i .given .1)) (c .before .before .drop-lease .ensures _ (c .before .before .before .before .before .before .put .ensures σ h g))
+returns-2 c = let drop-lease = c .before .before .drop-lease in
+    let put = c .before .before .before .before .before .before .put in
+    let i = c .before .before .before .before .before .before .before .before .before .i in
+    let free-place = c .before .before .before .before .before .before .before .before .before .before .before .free-place in
+    let args = c .before .before .before .before .before .before .before .before .before .before .before .before .before .before .args in
+    λ σ h g. gives (grant-room σ (args .n) (args .k) (args .kind) (h .fits .rows) (i .given .0 .0) (sym (free-place .ensures .0 σ h) ∙ i .given .1)) (drop-lease .ensures _ (put .ensures σ h g))
 
 pub grant-spec : {M : Type 1} → statement M
 grant-spec =

@@ -1,7 +1,7 @@
 -- A row of that kind is HELD; without one the table is asked.
 use mathlib.Core.Path.{sym, _∙_}
 use Rattle.outcome.proofs.Told.{gives}
-use Rattle.quars.proofs.Asked.{hold-own, hold-asks}
+use Rattle.quars.proofs.Tried.{hold-own, hold-asks}
 use borrow.Author.Needs.{needs}
 use Rattle.quars.proofs.hold.Statement.{statement}
 use Rattle.quars.proofs.hold.Tie as tie
@@ -13,7 +13,9 @@ same-length : tie.Need-same-length
 same-length c = search needs
 
 returns : tie.Need-returns
-returns c = λ σ h ok here. gives (hold-own σ (c .before .before .before .before .args .n) (c .before .before .before .before .args .k) (c .before .before .before .before .args .kind) (sym (c .before .holds .ensures σ h) ∙ c .if1 .taken)) h
+returns c = let holds = c .before .holds in
+    let args = c .before .before .before .before .args in
+    λ σ h ok here. gives (hold-own σ (args .n) (args .k) (args .kind) (sym (holds .ensures σ h) ∙ c .if1 .taken)) h
 
 ask-requires : tie.Need-ask-requires
 ask-requires c κs = search needs
@@ -22,7 +24,11 @@ same-length-2 : tie.Need-same-length-2
 same-length-2 c = search needs
 
 returns-2 : tie.Need-returns-2
-returns-2 c = λ σ h ok here. rw (hold-asks σ (c .before .before .before .before .before .before .before .before .args .n) (c .before .before .before .before .before .before .before .before .args .k) (c .before .before .before .before .before .before .before .before .args .kind) (sym (c .before .before .before .before .before .holds .ensures σ h) ∙ c .before .before .before .before .if1 .left)) (c .before .before .ask .ensures σ h ok here)
+returns-2 c = let ask = c .before .before .ask in
+    let if1 = c .before .before .before .before .if1 in
+    let holds = c .before .before .before .before .before .holds in
+    let args = c .before .before .before .before .before .before .before .before .args in
+    λ σ h ok here. rw (hold-asks σ (args .n) (args .k) (args .kind) (sym (holds .ensures σ h) ∙ if1 .left)) (ask .ensures σ h ok here)
 
 pub hold-spec : {M : Type 1} → statement M
 hold-spec =

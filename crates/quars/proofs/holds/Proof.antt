@@ -15,13 +15,19 @@ enum-told : tie.Need-enum-told
 enum-told c = search needs
 
 returns : tie.Need-returns
-returns c = λ σ h. sym (holds-none σ (h .fits .rows) (c .before .before .before .before .args .n) (c .before .before .before .before .args .k) (c .before .before .before .before .args .kind) (c .before .before .before .before .pre .1) (sym (c .before .before .find .ensures .0 σ h) ∙ c .enum-told .given .1))
+returns c = let find = c .before .before .find in
+    let args = c .before .before .before .before .args in
+    let pre = c .before .before .before .before .pre in
+    λ σ h. sym (holds-none σ (h .fits .rows) (args .n) (args .k) (args .kind) (pre .1) (sym (find .ensures .0 σ h) ∙ c .enum-told .given .1))
 
 kind-requires : tie.Need-kind-requires
 kind-requires c κs = (c .before .before .before .before .before .pre .0, rw (c .before .i .given .1) at (c .before .before .before .find .ensures .1))
 
 returns-2 : tie.Need-returns-2
-returns-2 c = λ σ h. holds-row σ (h .fits .rows) (c .before .before .before .before .before .before .args .n) (c .before .before .before .before .before .before .args .k) (c .before .before .before .before .before .before .args .kind) (c .before .before .i .given .0 .0) (c .kind .result) (sym (c .before .before .before .before .find .ensures .0 σ h) ∙ c .before .before .i .given .1) (c .kind .ensures σ h)
+returns-2 c = let i = c .before .before .i in
+    let find = c .before .before .before .before .find in
+    let args = c .before .before .before .before .before .before .args in
+    λ σ h. holds-row σ (h .fits .rows) (args .n) (args .k) (args .kind) (i .given .0 .0) (c .kind .result) (sym (find .ensures .0 σ h) ∙ i .given .1) (c .kind .ensures σ h)
 
 pub holds-spec : {M : Type 1} → statement M
 holds-spec =

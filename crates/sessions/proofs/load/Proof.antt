@@ -28,7 +28,10 @@ load-u16-requires : tie.Need-load-u16-requires
 load-u16-requires c κs = search needs
 
 returns : tie.Need-returns
-returns c = λ σ h. rw (c .before .before .load-u32 .ensures, c .before .load-life .ensures, c .load-u16 .ensures .0) (sym (session-loaded (c .before .before .before .before .args .s .now) (sessionsFrom + c .before .before .before .before .args .i * sessionWidth)) ∙ session-is h (c .before .before .before .before .args .i) (omega arith))
+returns c = let load-life = c .before .load-life in
+    let load-u32 = c .before .before .load-u32 in
+    let args = c .before .before .before .before .args in
+    λ σ h. rw (load-u32 .ensures, load-life .ensures, c .load-u16 .ensures .0) (sym (session-loaded (args .s .now) (sessionsFrom + args .i * sessionWidth)) ∙ session-is h (args .i) (omega arith))
 
 pub load-spec : {M : Type 1} → statement M
 load-spec =

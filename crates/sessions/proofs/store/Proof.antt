@@ -42,8 +42,17 @@ same-length : tie.Need-same-length
 same-length c = search needs
 
 returns : tie.Need-returns
-returns c = λ σ h p q.
-    session-stored h (c .before .before .before .before .before .before .before .before .before .before .before .before .before .before .before .before .before .before .before .args .i) (omega arith) (c .before .before .before .before .before .before .before .before .before .before .before .before .before .before .before .before .before .before .before .args .x) (record { given = p; number = omega (arith, c .before .before .before .before .before .before .before .before .before .before .before .before .before .before .before .before .before .before .before .good); count = q; until = omega (arith, c .before .before .before .until-of .ok, c .before .before .before .until-of .ensures) }) _ _ _ _ _ _ (c .before .before .before .before .before .before .before .before .before .before .before .before .mark-of .ensures) (c .before .before .before .until-of .ensures) (c .before .before .before .before .before .before .before .before .before .before .before .before .before .before .before .before .store-u32 .ensures) (c .before .before .before .before .before .before .before .before .before .before .before .store-pair .ensures) (c .before .before .before .before .before .before .before .store-u16 .ensures) (c .before .before .store-u64 .ensures)
+returns c = let store-u64 = c .before .before .store-u64 in
+    let until-of = c .before .before .before .until-of in
+    let store-u16 = c .before .before .before .before .before .before .before .store-u16 in
+    let store-pair = c .before .before .before .before .before .before .before .before .before .before .before .store-pair in
+    let mark-of = c .before .before .before .before .before .before .before .before .before .before .before .before .mark-of in
+    let store-u32 = c .before .before .before .before .before .before .before .before .before .before .before .before .before .before .before .before .store-u32 in
+    let entry = c .before .before .before .before .before .before .before .before .before .before .before .before .before .before .before .before .before .before .before in
+    λ σ h p q.
+    session-stored h (entry .args .i) (entry .pre .1) (entry .args .x)
+    (record { given = p; number = omega (arith, entry .good); count = q; until = omega (arith, until-of .ok, until-of .ensures) }) _ _ _ _ _ _
+    (mark-of .ensures) (until-of .ensures) (store-u32 .ensures) (store-pair .ensures) (store-u16 .ensures) (store-u64 .ensures)
 
 pub store-spec : {M : Type 1} → statement M
 store-spec =

@@ -18,10 +18,16 @@ enum-told-2 : tie.Need-enum-told-2
 enum-told-2 c = search needs
 
 returns-2 : tie.Need-returns-2
-returns-2 c = λ σ h. sym (known-live σ (c .before .before .before .before .before .args .session) (c .before .before .before .if1 .left) (h .fits .sessions) _ (sym (c .before .before .find .ensures .0 σ h) ∙ c .enum-told .given .1))
+returns-2 c = let find = c .before .before .find in
+    let if1 = c .before .before .before .if1 in
+    let args = c .before .before .before .before .before .args in
+    λ σ h. sym (known-live σ (args .session) (if1 .left) (h .fits .sessions) _ (sym (find .ensures .0 σ h) ∙ c .enum-told .given .1))
 
 returns-3 : tie.Need-returns-3
-returns-3 c = λ σ h. sym (unknown-missing σ (c .before .before .before .before .before .args .session) (c .before .before .before .if1 .left) (h .fits .sessions) (sym (c .before .before .find .ensures .0 σ h) ∙ c .enum-told2 .given .1))
+returns-3 c = let find = c .before .before .find in
+    let if1 = c .before .before .before .if1 in
+    let args = c .before .before .before .before .before .args in
+    λ σ h. sym (unknown-missing σ (args .session) (if1 .left) (h .fits .sessions) (sym (find .ensures .0 σ h) ∙ c .enum-told2 .given .1))
 
 pub is-unknown-spec : {M : Type 1} → statement M
 is-unknown-spec =

@@ -35,15 +35,24 @@ kind-requires : tie.Need-kind-requires
 kind-requires c κs = search needs
 
 returns-3 : tie.Need-returns-3
-returns-3 c = let a = c .before .before .before .before .before .before .args in
-    (λ σ h. sym (ap placed (row-invalidates (a .i) (a .k) (cached σ (a .k)) (rowAt σ (a .i)) (λ e. c .before .before .before .if1 .left (c .before .before .before .before .mark .ensures σ h ∙ e)) (λ e. c .before .before .if2 .left (c .before .before .before .before .mark .ensures σ h ∙ e)) (sym (c .before .kind .ensures σ h) ∙ c .if3 .taken))), tt)
+returns-3 c = let kind = c .before .kind in
+    let if2 = c .before .before .if2 in
+    let if1 = c .before .before .before .if1 in
+    let mark = c .before .before .before .before .mark in
+    let args = c .before .before .before .before .before .before .args in
+    (λ σ h. sym (ap placed (row-invalidates (args .i) (args .k) (cached σ (args .k)) (rowAt σ (args .i)) (λ e. if1 .left (mark .ensures σ h ∙ e)) (λ e. if2 .left (mark .ensures σ h ∙ e)) (sym (kind .ensures σ h) ∙ c .if3 .taken))), tt)
 
 cached-sight-requires : tie.Need-cached-sight-requires
 cached-sight-requires c κs = search needs
 
 returns-4 : tie.Need-returns-4
-returns-4 c = let a = c .before .before .before .before .before .before .before .args in
-    (λ σ h. c .cached-sight .ensures .0 σ h ∙ sym (ap placed (row-unstaged (a .i) (a .k) (cached σ (a .k)) (rowAt σ (a .i)) (λ e. c .before .before .before .before .if1 .left (c .before .before .before .before .before .mark .ensures σ h ∙ e)) (λ e. c .before .before .before .if2 .left (c .before .before .before .before .before .mark .ensures σ h ∙ e)) (λ e. c .before .if3 .left (c .before .before .kind .ensures σ h ∙ e)))), c .cached-sight .ensures .1)
+returns-4 c = let if3 = c .before .if3 in
+    let kind = c .before .before .kind in
+    let if2 = c .before .before .before .if2 in
+    let if1 = c .before .before .before .before .if1 in
+    let mark = c .before .before .before .before .before .mark in
+    let args = c .before .before .before .before .before .before .before .args in
+    (λ σ h. c .cached-sight .ensures .0 σ h ∙ sym (ap placed (row-unstaged (args .i) (args .k) (cached σ (args .k)) (rowAt σ (args .i)) (λ e. if1 .left (mark .ensures σ h ∙ e)) (λ e. if2 .left (mark .ensures σ h ∙ e)) (λ e. if3 .left (kind .ensures σ h ∙ e)))), c .cached-sight .ensures .1)
 
 pub row-sight-spec : {M : Type 1} → statement M
 row-sight-spec =

@@ -24,7 +24,10 @@ kind-requires : tie.Need-kind-requires
 kind-requires c κs = (c .before .before .before .before .before .before .pre .0, rw (c .before .row .given .1) at (c .before .before .before .find .ensures .1))
 
 returns-2 : tie.Need-returns-2
-returns-2 c = (λ σ h q. sym (staging-kind _ _ _ _ _ _ _ q (h .fits .rows) _ (sym (c .before .before .before .before .before .find .ensures .0 σ h) ∙ c .before .before .before .row .given .1) (λ e. c .if1 .taken (c .before .kind .ensures σ h ∙ e))), tt)
+returns-2 c = let kind = c .before .kind in
+    let row = c .before .before .before .row in
+    let find = c .before .before .before .before .before .find in
+    (λ σ h q. sym (staging-kind _ _ _ _ _ _ _ q (h .fits .rows) _ (sym (find .ensures .0 σ h) ∙ row .given .1) (λ e. c .if1 .taken (kind .ensures σ h ∙ e))), tt)
 
 step-requires : tie.Need-step-requires
 step-requires c κs = search needs
@@ -39,13 +42,30 @@ enum-known-next : tie.Need-enum-known-next
 enum-known-next c = search needs
 
 returns-3 : tie.Need-returns-3
-returns-3 c = (λ σ h q. sym (staging-steps _ _ _ _ _ _ _ q (h .fits .rows) _ (sym (c .before .before .before .before .before .before .before .before .find .ensures .0 σ h) ∙ c .before .before .before .before .before .before .row .given .1) _ (sym (c .before .before .before .before .kind .ensures σ h) ∙ c .before .before .before .if1 .left) (sym (c .before .before .step .ensures) ∙ c .enum-told2 .given .1)), tt)
+returns-3 c = let step = c .before .before .step in
+    let if1 = c .before .before .before .if1 in
+    let kind = c .before .before .before .before .kind in
+    let row = c .before .before .before .before .before .before .row in
+    let find = c .before .before .before .before .before .before .before .before .find in
+    (λ σ h q. sym (staging-steps _ _ _ _ _ _ _ q (h .fits .rows) _ (sym (find .ensures .0 σ h) ∙ row .given .1) _ (sym (kind .ensures σ h) ∙ if1 .left) (sym (step .ensures) ∙ c .enum-told2 .given .1)), tt)
 
 returns-4 : tie.Need-returns-4
-returns-4 c = (λ σ h q. sym (staging-steps _ _ _ _ _ _ _ q (h .fits .rows) _ (sym (c .before .before .before .before .before .before .before .before .find .ensures .0 σ h) ∙ c .before .before .before .before .before .before .row .given .1) _ (sym (c .before .before .before .before .kind .ensures σ h) ∙ c .before .before .before .if1 .left) (sym (c .before .before .step .ensures) ∙ c .enum-told3 .given .1)), tt)
+returns-4 c = let step = c .before .before .step in
+    let if1 = c .before .before .before .if1 in
+    let kind = c .before .before .before .before .kind in
+    let row = c .before .before .before .before .before .before .row in
+    let find = c .before .before .before .before .before .before .before .before .find in
+    (λ σ h q. sym (staging-steps _ _ _ _ _ _ _ q (h .fits .rows) _ (sym (find .ensures .0 σ h) ∙ row .given .1) _ (sym (kind .ensures σ h) ∙ if1 .left) (sym (step .ensures) ∙ c .enum-told3 .given .1)), tt)
 
 returns-5 : tie.Need-returns-5
-returns-5 c = (λ σ h q. sym (staging-steps _ _ _ _ _ _ _ q (h .fits .rows) _ (sym (c .before .before .before .before .before .before .before .before .before .find .ensures .0 σ h) ∙ c .before .before .before .before .before .before .before .row .given .1) _ (sym (c .before .before .before .before .before .kind .ensures σ h) ∙ c .before .before .before .before .if1 .left) (sym (c .before .before .before .step .ensures) ∙ c .before .next .given .1)), (c .before .before .before .before .before .before .before .before .before .before .before .before .pre .1 .0, rw (c .before .before .before .before .before .before .before .row .given .1) at (c .before .before .before .before .before .before .before .before .before .find .ensures .1)))
+returns-5 c = let next = c .before .next in
+    let step = c .before .before .before .step in
+    let if1 = c .before .before .before .before .if1 in
+    let kind = c .before .before .before .before .before .kind in
+    let row = c .before .before .before .before .before .before .before .row in
+    let find = c .before .before .before .before .before .before .before .before .before .find in
+    let pre = c .before .before .before .before .before .before .before .before .before .before .before .before .pre in
+    (λ σ h q. sym (staging-steps _ _ _ _ _ _ _ q (h .fits .rows) _ (sym (find .ensures .0 σ h) ∙ row .given .1) _ (sym (kind .ensures σ h) ∙ if1 .left) (sym (step .ensures) ∙ next .given .1)), (pre .1 .0, rw (row .given .1) at (find .ensures .1)))
 
 pub steps-spec : {M : Type 1} → statement M
 steps-spec =

@@ -32,7 +32,11 @@ same-length : tie.Need-same-length
 same-length c = search needs
 
 returns : tie.Need-returns
-returns c = λ σ h g. rw (c .before .before .clear .ensures, c .before .before .before .before .before .before .store-pair .ensures, c .before .before .before .before .before .before .before .before .before .before .store-u32 .ensures) (row-put h (c .before .before .before .before .before .before .before .before .before .before .before .before .before .args .i) (search needs) (c .before .before .before .before .before .before .before .before .before .before .before .before .before .args .session) (c .before .before .before .before .before .before .before .before .before .before .before .before .before .args .key) (c .before .before .before .before .before .before .before .before .before .before .before .before .before .args .kind) g (search needs))
+returns c = let clear = c .before .before .clear in
+    let store-pair = c .before .before .before .before .before .before .store-pair in
+    let store-u32 = c .before .before .before .before .before .before .before .before .before .before .store-u32 in
+    let args = c .before .before .before .before .before .before .before .before .before .before .before .before .before .args in
+    λ σ h g. rw (clear .ensures, store-pair .ensures, store-u32 .ensures) (row-put h (args .i) (search needs) (args .session) (args .key) (args .kind) g (search needs))
 
 pub put-spec : {M : Type 1} → statement M
 put-spec =

@@ -29,7 +29,10 @@ same-length : tie.Need-same-length
 same-length c = search needs
 
 returns : tie.Need-returns
-returns c = λ σ h g. rw (c .before .before .store-value .ensures, c .before .before .before .before .before .before .store-pair .ensures) (value-staged h (c .before .before .before .before .before .before .before .before .before .before .args .i) (search needs) (c .before .before .before .before .before .before .before .before .before .before .args .v .now) (search needs) g)
+returns c = let store-value = c .before .before .store-value in
+    let store-pair = c .before .before .before .before .before .before .store-pair in
+    let args = c .before .before .before .before .before .before .before .before .before .before .args in
+    λ σ h g. rw (store-value .ensures, store-pair .ensures) (value-staged h (args .i) (search needs) (args .v .now) (search needs) g)
 
 pub stage-spec : {M : Type 1} → statement M
 stage-spec =

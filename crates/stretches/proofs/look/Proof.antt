@@ -25,12 +25,16 @@ cached-sight-requires : tie.Need-cached-sight-requires
 cached-sight-requires c κs = search needs
 
 returns : tie.Need-returns
-returns c = let a = c .before .before .before .before .before .before .args in
-    (λ σ h. c .row-sight .ensures .0 σ h ∙ sym (ap placed (sight-row σ (a .session) (a .k) (c .before .before .row .given .0 .0) (sym (c .before .before .before .before .find .ensures .0 σ h) ∙ c .before .before .row .given .1))), c .row-sight .ensures .1)
+returns c = let row = c .before .before .row in
+    let find = c .before .before .before .before .find in
+    let args = c .before .before .before .before .before .before .args in
+    (λ σ h. c .row-sight .ensures .0 σ h ∙ sym (ap placed (sight-row σ (args .session) (args .k) (row .given .0 .0) (sym (find .ensures .0 σ h) ∙ row .given .1))), c .row-sight .ensures .1)
 
 returns-2 : tie.Need-returns-2
-returns-2 c = let a = c .before .before .before .before .before .args in
-    (λ σ h. c .cached-sight .ensures .0 σ h ∙ sym (ap placed (sight-cached σ (a .session) (a .k) (h .fits .rows) (sym (c .before .before .before .find .ensures .0 σ h) ∙ c .before .enum-told .given .1))), c .cached-sight .ensures .1)
+returns-2 c = let enum-told = c .before .enum-told in
+    let find = c .before .before .before .find in
+    let args = c .before .before .before .before .before .args in
+    (λ σ h. c .cached-sight .ensures .0 σ h ∙ sym (ap placed (sight-cached σ (args .session) (args .k) (h .fits .rows) (sym (find .ensures .0 σ h) ∙ enum-told .given .1))), c .cached-sight .ensures .1)
 
 pub look-spec : {M : Type 1} → statement M
 look-spec =

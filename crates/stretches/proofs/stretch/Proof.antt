@@ -25,11 +25,12 @@ part-result-end : tie.Need-part-result-end
 part-result-end c = search needs
 
 returns : tie.Need-returns
-returns c = λ σ h. let a = c .before .before .before .before .args in
-    let x = show σ (a .session) (a .key) in
-    let p : c .before .before .part .result .at ≡ x .at = ap Span.at (c .before .before .part .ensures .0 σ h) in
-    let q : c .before .before .part .result .length ≡ length (x .value) = ap Span.length (c .before .before .part .ensures .0 σ h) in
-    record { place = rw (← p); bytes = rw (← p, ← q) (part-win _ _ _); value = part-win (a .s .now) (c .before .before .part .result .at) (c .before .before .part .result .length) ∙ rw (p, q) (shown-stands σ (a .session) (a .key) h) }
+returns c = let part = c .before .before .part in
+    let args = c .before .before .before .before .args in
+    λ σ h. let x = show σ (args .session) (args .key) in
+    let p : part .result .at ≡ x .at = ap Span.at (part .ensures .0 σ h) in
+    let q : part .result .length ≡ length (x .value) = ap Span.length (part .ensures .0 σ h) in
+    record { place = rw (← p); bytes = rw (← p, ← q) (part-win _ _ _); value = part-win (args .s .now) (part .result .at) (part .result .length) ∙ rw (p, q) (shown-stands σ (args .session) (args .key) h) }
 
 pub stretch-spec : {M : Type 1} → statement M
 stretch-spec =

@@ -1,15 +1,16 @@
 -- As long as no lease passed has lapsed, none before key k has; one that has is a hit for all.
 use Prim.Native.Nat.{_≤_, _-_}
 use mathlib.Core.Bool.{false}
-use mathlib.Core.Path.{_≡_, sym, _∙_}
+use mathlib.Core.Path.{_≡_, refl, sym, _∙_}
 use native.Mathlib.Omega.{arith}
 use borrow.Author.Needs.{needs}
 use borrow.Author.Count.{below-more}
 use Rattle.machine.specs.Sizes.{keyCount}
 use Rattle.machine.specs.State.{State, blank, keyOf}
+use Rattle.machine.proofs.Views.{any-at}
 use Rattle.layout.specs.Holds.{Holds}
 use Rattle.deadlines.specs.Deadlines.{lapsedOn}
-use Rattle.endings.proofs.Searches.{NoneBelow, any-hit, none-any}
+use Rattle.endings.proofs.Searches.{NoneBelow, none-any}
 use Rattle.sweep.proofs.leases_lapse.Statement.{statement}
 use Rattle.sweep.proofs.leases_lapse.Tie as tie
 
@@ -28,7 +29,7 @@ lease-lapsed-requires c κs = search needs
 returns : tie.Need-returns Inv-loop μ-loop
 returns c = let loop = c .before .before .before .loop in
     let args = c .before .before .before .before .before .args in
-    λ σ h. sym (any-hit (lapsedOn (args .time)) blank (σ .keys) (loop .k) (omega (arith, h .fits .keys)) (sym (c .before .lease-lapsed .ensures σ h) ∙ c .if1 .taken))
+    λ σ h. sym (any-at (lapsedOn (args .time)) blank (σ .keys) (loop .k) refl (sym (c .before .lease-lapsed .ensures σ h) ∙ c .if1 .taken))
 
 add-k : tie.Need-add-k Inv-loop μ-loop
 add-k c = search needs

@@ -1,15 +1,16 @@
 -- As long as no session passed is due, none before the place is; one that is due is a hit for all.
 use Prim.Native.Nat.{_≤_, _-_}
 use mathlib.Core.Bool.{false}
-use mathlib.Core.Path.{_≡_, sym, _∙_}
+use mathlib.Core.Path.{_≡_, refl, sym, _∙_}
 use native.Mathlib.Omega.{arith}
 use borrow.Author.Needs.{needs}
 use borrow.Author.Count.{below-more}
 use Rattle.machine.specs.Sizes.{sessionCount}
 use Rattle.machine.specs.State.{State, noSession, sessionAt}
+use Rattle.machine.proofs.Views.{any-at}
 use Rattle.layout.specs.Holds.{Holds}
 use Rattle.deadlines.specs.Deadlines.{dueSlot}
-use Rattle.endings.proofs.Searches.{NoneBelow, any-hit, none-any}
+use Rattle.endings.proofs.Searches.{NoneBelow, none-any}
 use Rattle.sweep.proofs.sessions_lapse.Statement.{statement}
 use Rattle.sweep.proofs.sessions_lapse.Tie as tie
 
@@ -28,7 +29,7 @@ session-due-requires c κs = search needs
 returns : tie.Need-returns Inv-loop μ-loop
 returns c = let loop = c .before .before .before .loop in
     let args = c .before .before .before .before .before .args in
-    λ σ h. sym (any-hit (dueSlot (args .time)) noSession (σ .sessions) (loop .place) (omega (arith, h .fits .sessions)) (sym (c .before .session-due .ensures σ h) ∙ c .if1 .taken))
+    λ σ h. sym (any-at (dueSlot (args .time)) noSession (σ .sessions) (loop .place) refl (sym (c .before .session-due .ensures σ h) ∙ c .if1 .taken))
 
 add-place : tie.Need-add-place Inv-loop μ-loop
 add-place c = search needs

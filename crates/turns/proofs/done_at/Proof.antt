@@ -1,8 +1,7 @@
 -- An open session is refused (`done-open`); a sealed one finishes, the session at the place being that of the number (`number-here`).
 use Rattle.lent.proofs.Choices.{test-failed, test-passed}
 use Rattle.outcome.proofs.Told.{gives}
-use Rattle.machine.specs.State.{sessionAt}
-use Rattle.turns.proofs.Cases.{located, done-open, done-is, number-here, finished-is, live-is, number-in}
+use Rattle.turns.proofs.Tried.{located, done-open, done-is, number-here, live-is}
 use mathlib.Core.Path.{sym, ap, _∙_}
 use Rattle.machine.specs.Session.{isSealed}
 use Rattle.machine.specs.declared.Session.{Session}
@@ -20,10 +19,13 @@ same-length : tie.Need-same-length
 same-length c = search needs
 
 returns : tie.Need-returns
-returns c = λ σ h ok p.
-    let w = located σ (c .before .before .before .before .before .args .session) (c .before .before .before .before .before .args .i) ok p (search needs) in
-    let x = live-is σ ok (c .before .before .before .before .before .args .session) (c .before .before .before .before .before .args .i) w (c .before .before .load .result) (c .before .before .load .ensures σ h) in
-    gives (done-open σ (c .before .before .before .before .before .args .session) (w .live) (w .of) (sym (ap isSealed x) ∙ test-failed (c .before .is-sealed .ensures) (c .if1 .taken))) h
+returns c = let is-sealed = c .before .is-sealed in
+    let load = c .before .before .load in
+    let args = c .before .before .before .before .before .args in
+    λ σ h ok p.
+    let w = located σ (args .session) (args .i) ok p (search needs) in
+    let x = live-is w (load .ensures σ h) in
+    gives (done-open σ (args .session) (w .live) (w .of) (sym (ap isSealed x) ∙ test-failed (is-sealed .ensures) (c .if1 .taken))) h
 
 finish-requires : tie.Need-finish-requires
 finish-requires c κs = search needs
@@ -32,12 +34,17 @@ same-length-2 : tie.Need-same-length-2
 same-length-2 c = search needs
 
 returns-2 : tie.Need-returns-2
-returns-2 c = λ σ h ok p.
-    let w = located σ (c .before .before .before .before .before .before .before .before .before .args .session) (c .before .before .before .before .before .before .before .before .before .args .i) ok p (search needs) in
-    let x = live-is σ ok (c .before .before .before .before .before .before .before .before .before .args .session) (c .before .before .before .before .before .before .before .before .before .args .i) w (c .before .before .before .before .before .before .load .result) (c .before .before .before .before .before .before .load .ensures σ h) in
-    let e = ap (λ (y : Session). y .number) (c .before .before .before .before .before .before .load .ensures σ h) ∙ number-in (sessionAt σ (c .before .before .before .before .before .before .before .before .before .args .i)) in
-    gives (done-is σ (c .before .before .before .before .before .before .before .before .before .args .session) (w .live) (w .of) (sym (ap isSealed x) ∙ test-passed (c .before .before .before .before .before .is-sealed .ensures) (c .before .before .before .before .if1 .left)))
-    (rw (← finished-is σ ok (c .before .before .before .before .before .before .before .before .before .args .session) (c .before .before .before .before .before .before .before .before .before .args .i) w (c .before .before .before .before .before .before .load .result .number) e) (c .before .before .finish .ensures σ h ok (number-here σ ok (c .before .before .before .before .before .before .before .before .before .args .session) (c .before .before .before .before .before .before .before .before .before .args .i) w (c .before .before .before .before .before .before .load .result .number) e)))
+returns-2 c = let finish = c .before .before .finish in
+    let if1 = c .before .before .before .before .if1 in
+    let is-sealed = c .before .before .before .before .before .is-sealed in
+    let load = c .before .before .before .before .before .before .load in
+    let args = c .before .before .before .before .before .before .before .before .before .args in
+    λ σ h ok p.
+    let w = located σ (args .session) (args .i) ok p (search needs) in
+    let x = live-is w (load .ensures σ h) in
+    let e = ap (λ (y : Session). y .number) x ∙ w .number in
+    gives (done-is σ (args .session) (w .live) (w .of) (sym (ap isSealed x) ∙ test-passed (is-sealed .ensures) (if1 .left)))
+    (rw (← e) (finish .ensures σ h ok (number-here w e)))
 
 pub done-at-spec : {M : Type 1} → statement M
 done-at-spec =

@@ -4,7 +4,7 @@ use Rattle.outcome.proofs.Told.{gives}
 use Rattle.machine.specs.Sizes.{sessionCount}
 use Rattle.machine.specs.State.{sessionPlace}
 use Rattle.layout.proofs.Search.{found-at}
-use Rattle.turns.proofs.Cases.{unlocated, undo-none}
+use Rattle.turns.proofs.Tried.{unlocated, undo-none}
 use borrow.Author.Needs.{needs}
 use Rattle.turns.proofs.undo.Statement.{statement}
 use Rattle.turns.proofs.undo.Tie as tie
@@ -25,13 +25,19 @@ same-length : tie.Need-same-length
 same-length c = search needs
 
 returns : tie.Need-returns
-returns c = λ σ h ok. c .before .before .undo-at .ensures σ h ok (found-at sessionCount (sessionPlace σ (c .before .before .before .before .before .before .before .before .before .before .args .session)) (c .before .before .before .before .before .f .given .0 .0) (sym (c .before .before .before .before .before .before .before .find .ensures .0 σ h) ∙ c .before .before .before .before .before .f .given .1) .0)
+returns c = let undo-at = c .before .before .undo-at in
+    let f = c .before .before .before .before .before .f in
+    let find = c .before .before .before .before .before .before .before .find in
+    let args = c .before .before .before .before .before .before .before .before .before .before .args in
+    λ σ h ok. undo-at .ensures σ h ok (found-at sessionCount (sessionPlace σ (args .session)) (f .given .0 .0) (sym (find .ensures .0 σ h) ∙ f .given .1) .0)
 
 same-length-2 : tie.Need-same-length-2
 same-length-2 c = search needs
 
 returns-2 : tie.Need-returns-2
-returns-2 c = λ σ h ok. gives (undo-none σ (c .before .before .before .before .before .args .session) (unlocated σ (c .before .before .before .before .before .args .session) ok (sym (c .before .before .find .ensures .0 σ h) ∙ c .enum-told .given .1))) h
+returns-2 c = let find = c .before .before .find in
+    let args = c .before .before .before .before .before .args in
+    λ σ h ok. gives (undo-none σ (args .session) (unlocated σ (args .session) ok (sym (find .ensures .0 σ h) ∙ c .enum-told .given .1))) h
 
 pub undo-spec : {M : Type 1} → statement M
 undo-spec =

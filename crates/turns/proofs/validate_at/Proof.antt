@@ -1,7 +1,7 @@
--- What the record says of n decides: it is sealed in its place, it leaves, or it is refused; each is a law of `Cases`.
+-- What the record says of n decides: it is sealed in its place, it leaves, or it is refused; each is a law of `Tried`.
 use Rattle.outcome.proofs.Told.{gives}
-use Rattle.machine.specs.State.{sessionAt, session}
-use Rattle.turns.proofs.Cases.{located, live-is, number-in, number-here, left-is, live-number, live-count, sealed-held, told-seals, told-loses, told-clashes, validate-seals, validate-loses, validate-clashes}
+use Rattle.machine.specs.State.{session}
+use Rattle.turns.proofs.Tried.{located, live-is, number-here, live-number, live-count, sealed-held, validation-means, validate-seals, validate-loses, validate-clashes}
 use mathlib.Core.Path.{sym, ap, _∙_}
 use Rattle.machine.specs.Session.{validationOf}
 use Rattle.machine.specs.declared.Session.{Session}
@@ -34,34 +34,47 @@ same-length : tie.Need-same-length
 same-length c = search needs
 
 returns : tie.Need-returns
-returns c = λ σ h ok p.
-    let w = located σ (c .before .before .before .before .before .before .before .before .before .before .before .args .session) (c .before .before .before .before .before .before .before .before .before .before .before .args .i) ok p (search needs) in
-    let x = live-is σ ok (c .before .before .before .before .before .before .before .before .before .before .before .args .session) (c .before .before .before .before .before .before .before .before .before .before .before .args .i) w (c .before .before .before .before .before .before .before .before .load .result) (c .before .before .before .before .before .before .before .before .load .ensures σ h) in
-    let t = told-seals (w .live) (c .before .before .before .before .before .before .before .before .before .before .before .args .n) (c .before .before .before .before .before .v .given .0 .0) (sym (ap (λ (y : Session). validationOf y (c .before .before .before .before .before .before .before .before .before .before .before .args .n)) x) ∙ sym (c .before .before .before .before .before .before .before .validate .ensures) ∙ c .before .before .before .before .before .v .given .1) in
-    gives (validate-seals σ (c .before .before .before .before .before .before .before .before .before .before .before .args .session) (w .live) (w .of) (c .before .before .before .before .before .before .before .before .before .before .before .args .n) (search needs) (t .0))
-    (sealed-held σ ok (c .before .before .before .before .before .before .before .before .before .before .before .args .session) (c .before .before .before .before .before .before .before .before .before .before .before .args .i) w (c .before .before .before .before .before .v .given .0 .0) (t .1) p (c .before .before .store .ensures σ h (rw (t .1) (live-number σ ok (c .before .before .before .before .before .before .before .before .before .before .before .args .session) (c .before .before .before .before .before .before .before .before .before .before .before .args .i) w)) (rw (t .1) (live-count σ ok (c .before .before .before .before .before .before .before .before .before .before .before .args .session) (c .before .before .before .before .before .before .before .before .before .before .before .args .i) w))))
+returns c = let store = c .before .before .store in
+    let v = c .before .before .before .before .before .v in
+    let validate = c .before .before .before .before .before .before .before .validate in
+    let load = c .before .before .before .before .before .before .before .before .load in
+    let args = c .before .before .before .before .before .before .before .before .before .before .before .args in
+    λ σ h ok p.
+    let w = located σ (args .session) (args .i) ok p (search needs) in
+    let x = live-is w (load .ensures σ h) in
+    let t = validation-means (w .live) (args .n) (sym (ap (λ (y : Session). validationOf y (args .n)) x) ∙ sym (validate .ensures) ∙ v .given .1) in
+    gives (validate-seals σ (args .session) (w .live) (w .of) (args .n) (search needs) (t .0))
+    (sealed-held w (t .1) p (store .ensures σ h (rw (t .1) (live-number w ok)) (rw (t .1) (live-count w ok))))
 
 same-length-2 : tie.Need-same-length-2
 same-length-2 c = search needs
 
 returns-2 : tie.Need-returns-2
-returns-2 c = λ σ h ok p.
-    let w = located σ (c .before .before .before .before .before .before .before .before .before .before .args .session) (c .before .before .before .before .before .before .before .before .before .before .args .i) ok p (search needs) in
-    let x = live-is σ ok (c .before .before .before .before .before .before .before .before .before .before .args .session) (c .before .before .before .before .before .before .before .before .before .before .args .i) w (c .before .before .before .before .before .before .before .load .result) (c .before .before .before .before .before .before .before .load .ensures σ h) in
-    let e = ap (λ (y : Session). y .number) (c .before .before .before .before .before .before .before .load .ensures σ h) ∙ number-in (sessionAt σ (c .before .before .before .before .before .before .before .before .before .before .args .i)) in
-    let t = told-loses (w .live) (c .before .before .before .before .before .before .before .before .before .before .args .n) (sym (ap (λ (y : Session). validationOf y (c .before .before .before .before .before .before .before .before .before .before .args .n)) x) ∙ sym (c .before .before .before .before .before .before .validate .ensures) ∙ c .before .before .before .before .enum-told .given .1) in
-    gives (validate-loses σ (c .before .before .before .before .before .before .before .before .before .before .args .session) (w .live) (w .of) (c .before .before .before .before .before .before .before .before .before .before .args .n) (search needs) (t .0) (t .1))
-    (rw (← left-is σ ok (c .before .before .before .before .before .before .before .before .before .before .args .session) (c .before .before .before .before .before .before .before .before .before .before .args .i) w (c .before .before .before .before .before .before .before .load .result .number) e) (c .before .before .leave .ensures σ h ok (number-here σ ok (c .before .before .before .before .before .before .before .before .before .before .args .session) (c .before .before .before .before .before .before .before .before .before .before .args .i) w (c .before .before .before .before .before .before .before .load .result .number) e)))
+returns-2 c = let leave = c .before .before .leave in
+    let enum-told = c .before .before .before .before .enum-told in
+    let validate = c .before .before .before .before .before .before .validate in
+    let load = c .before .before .before .before .before .before .before .load in
+    let args = c .before .before .before .before .before .before .before .before .before .before .args in
+    λ σ h ok p.
+    let w = located σ (args .session) (args .i) ok p (search needs) in
+    let x = live-is w (load .ensures σ h) in
+    let e = ap (λ (y : Session). y .number) x ∙ w .number in
+    let t = validation-means (w .live) (args .n) (sym (ap (λ (y : Session). validationOf y (args .n)) x) ∙ sym (validate .ensures) ∙ enum-told .given .1) in
+    gives (validate-loses σ (args .session) (w .live) (w .of) (args .n) (search needs) (t .0) (t .1))
+    (rw (← e) (leave .ensures σ h ok (number-here w e)))
 
 same-length-3 : tie.Need-same-length-3
 same-length-3 c = search needs
 
 returns-3 : tie.Need-returns-3
-returns-3 c = λ σ h ok p.
-    let w = located σ (c .before .before .before .before .before .before .args .session) (c .before .before .before .before .before .before .args .i) ok p (search needs) in
-    let x = live-is σ ok (c .before .before .before .before .before .before .args .session) (c .before .before .before .before .before .before .args .i) w (c .before .before .before .load .result) (c .before .before .before .load .ensures σ h) in
-    let t = told-clashes (w .live) (c .before .before .before .before .before .before .args .n) (sym (ap (λ (y : Session). validationOf y (c .before .before .before .before .before .before .args .n)) x) ∙ sym (c .before .before .validate .ensures) ∙ c .enum-told2 .given .1) in
-    gives (validate-clashes σ (c .before .before .before .before .before .before .args .session) (w .live) (w .of) (c .before .before .before .before .before .before .args .n) (search needs) (t .0) (t .1)) h
+returns-3 c = let validate = c .before .before .validate in
+    let load = c .before .before .before .load in
+    let args = c .before .before .before .before .before .before .args in
+    λ σ h ok p.
+    let w = located σ (args .session) (args .i) ok p (search needs) in
+    let x = live-is w (load .ensures σ h) in
+    let t = validation-means (w .live) (args .n) (sym (ap (λ (y : Session). validationOf y (args .n)) x) ∙ sym (validate .ensures) ∙ c .enum-told2 .given .1) in
+    gives (validate-clashes σ (args .session) (w .live) (w .of) (args .n) (search needs) (t .0) (t .1)) h
 
 pub validate-at-spec : {M : Type 1} → statement M
 validate-at-spec =

@@ -26,10 +26,14 @@ returns-2 : tie.Need-returns-2
 returns-2 c = search needs
 
 returns-3 : tie.Need-returns-3
-returns-3 c = let e : max (c .before .before .before .before .before .a .given .0 .0) (c .before .before .b .given .0 .0) ≡ c .before .before .b .given .0 .0 = omega arith in rw (c .before .before .before .before .before .a .given .1, c .before .before .b .given .1) (ap some (sym e))
+returns-3 c = let b = c .before .before .b in
+    let a = c .before .before .before .before .before .a in
+    let e : max (a .given .0 .0) (b .given .0 .0) ≡ b .given .0 .0 = omega arith in rw (a .given .1, b .given .1) (ap some (sym e))
 
 returns-4 : tie.Need-returns-4
-returns-4 c = let e : max (c .before .before .before .before .before .a .given .0 .0) (c .before .before .b .given .0 .0) ≡ c .before .before .before .before .before .a .given .0 .0 = omega arith in rw (c .before .before .before .before .before .a .given .1, c .before .before .b .given .1) (ap some (sym e))
+returns-4 c = let b = c .before .before .b in
+    let a = c .before .before .before .before .before .a in
+    let e : max (a .given .0 .0) (b .given .0 .0) ≡ a .given .0 .0 = omega arith in rw (a .given .1, b .given .1) (ap some (sym e))
 
 pub later-spec : {M : Type 1} → statement M
 later-spec =

@@ -34,7 +34,10 @@ loop-less : tie.Need-loop-less Inv-loop μ-loop
 loop-less c = search needs
 
 loop-again : tie.Need-loop-again Inv-loop μ-loop
-loop-again c = (search needs, λ σ h. c .later .ensures ∙ rw (c .before .row-life .ensures σ h, c .before .before .before .loop .inv .1 σ h) (sym (latest-turn σ (c .before .before .before .before .before .args .k) (σ .rows) (c .before .before .before .loop .i) (omega arith) (omega (arith, h .fits .rows)))))
+loop-again c = let row-life = c .before .row-life in
+    let loop = c .before .before .before .loop in
+    let args = c .before .before .before .before .before .args in
+    (search needs, λ σ h. c .later .ensures ∙ rw (row-life .ensures σ h, loop .inv .1 σ h) (sym (latest-turn σ (args .k) (σ .rows) (loop .i) (omega arith) (omega (arith, h .fits .rows)))))
 
 returns : tie.Need-returns Inv-loop μ-loop
 returns c = λ σ h. let e : c .before .loop .i ≡ 0 = omega arith in rw e at (c .before .loop .inv .1 σ h)

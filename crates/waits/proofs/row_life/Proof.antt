@@ -39,18 +39,29 @@ enum-told : tie.Need-enum-told
 enum-told c = search needs
 
 returns-3 : tie.Need-returns-3
-returns-3 c = λ σ h. let a = c .before .before .before .before .before .before .before .before .args in
-    sym (row-end-on σ (a .k) (rowAt σ (a .i)) (λ q. c .before .before .before .before .before .if1 .left (c .before .before .before .before .before .before .session .ensures σ h ∙ q)) (sym (c .before .before .before .before .key .ensures .0 σ h) ∙ c .before .before .before .if2 .left)
-    ∙ rw (← c .before .before .before .before .before .before .session .ensures σ h) (end-missing σ (c .before .before .before .before .before .before .session .result) (h .fits .sessions) (sym (c .before .before .find .ensures .0 σ h) ∙ c .enum-told .given .1)))
+returns-3 c = let find = c .before .before .find in
+    let if2 = c .before .before .before .if2 in
+    let key = c .before .before .before .before .key in
+    let if1 = c .before .before .before .before .before .if1 in
+    let session = c .before .before .before .before .before .before .session in
+    let args = c .before .before .before .before .before .before .before .before .args in
+    λ σ h. sym (row-end-on σ (args .k) (rowAt σ (args .i)) (λ q. if1 .left (session .ensures σ h ∙ q)) (sym (key .ensures .0 σ h) ∙ if2 .left)
+    ∙ rw (← session .ensures σ h) (end-missing σ (session .result) (h .fits .sessions) (sym (find .ensures .0 σ h) ∙ c .enum-told .given .1)))
 
 load-requires : tie.Need-load-requires
 load-requires c κs = let l : c .before .place .given .0 .0 < sessionCount = rw (c .before .place .given .1) at (c .before .before .before .find .ensures .1) in omega arith
 
 returns-4 : tie.Need-returns-4
-returns-4 c = λ σ h. let a = c .before .before .before .before .before .before .before .before .before .before .args in
-    ap (λ (x : Session). lifeEnd (x .life)) (c .load .ensures σ h)
-    ∙ sym (row-end-on σ (a .k) (rowAt σ (a .i)) (λ q. c .before .before .before .before .before .before .before .if1 .left (c .before .before .before .before .before .before .before .before .session .ensures σ h ∙ q)) (sym (c .before .before .before .before .before .before .key .ensures .0 σ h) ∙ c .before .before .before .before .before .if2 .left)
-    ∙ rw (← c .before .before .before .before .before .before .before .before .session .ensures σ h) (end-found σ (c .before .before .before .before .before .before .before .before .session .result) (h .fits .sessions) (c .before .before .place .given .0 .0) (sym (c .before .before .before .before .find .ensures .0 σ h) ∙ c .before .before .place .given .1)))
+returns-4 c = let place = c .before .before .place in
+    let find = c .before .before .before .before .find in
+    let if2 = c .before .before .before .before .before .if2 in
+    let key = c .before .before .before .before .before .before .key in
+    let if1 = c .before .before .before .before .before .before .before .if1 in
+    let session = c .before .before .before .before .before .before .before .before .session in
+    let args = c .before .before .before .before .before .before .before .before .before .before .args in
+    λ σ h. ap (λ (x : Session). lifeEnd (x .life)) (c .load .ensures σ h)
+    ∙ sym (row-end-on σ (args .k) (rowAt σ (args .i)) (λ q. if1 .left (session .ensures σ h ∙ q)) (sym (key .ensures .0 σ h) ∙ if2 .left)
+    ∙ rw (← session .ensures σ h) (end-found σ (session .result) (h .fits .sessions) (place .given .0 .0) (sym (find .ensures .0 σ h) ∙ place .given .1)))
 
 pub row-life-spec : {M : Type 1} → statement M
 row-life-spec =

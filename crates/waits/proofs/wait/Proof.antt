@@ -30,15 +30,22 @@ enum-told : tie.Need-enum-told
 enum-told c = search needs
 
 returns-2 : tie.Need-returns-2
-returns-2 c = λ σ h. let a = c .before .before .before .before .before .before .args in
-    sym (wait-rows σ (a .k) (a .time) (key-fits h (a .k) (omega arith) .lease) (sym (c .before .before .before .before .lease-token .ensures σ h) ∙ c .before .before .before .if1 .left) ∙ rw (← c .before .before .latest .ensures σ h, c .enum-told .given .1))
+returns-2 c = let latest = c .before .before .latest in
+    let if1 = c .before .before .before .if1 in
+    let lease-token = c .before .before .before .before .lease-token in
+    let args = c .before .before .before .before .before .before .args in
+    λ σ h. sym (wait-rows σ (args .k) (args .time) (key-fits h (args .k) (omega arith) .lease) (sym (lease-token .ensures σ h) ∙ if1 .left) ∙ rw (← latest .ensures σ h, c .enum-told .given .1))
 
 less-now-requires-2 : tie.Need-less-now-requires-2
 less-now-requires-2 c κs = search needs
 
 returns-3 : tie.Need-returns-3
-returns-3 c = λ σ h. let a = c .before .before .before .before .before .before .before .before .args in
-    c .less-now2 .ensures ∙ sym (wait-rows σ (a .k) (a .time) (key-fits h (a .k) (omega arith) .lease) (sym (c .before .before .before .before .before .before .lease-token .ensures σ h) ∙ c .before .before .before .before .before .if1 .left) ∙ rw (← c .before .before .before .before .latest .ensures σ h, c .before .before .life .given .1))
+returns-3 c = let life = c .before .before .life in
+    let latest = c .before .before .before .before .latest in
+    let if1 = c .before .before .before .before .before .if1 in
+    let lease-token = c .before .before .before .before .before .before .lease-token in
+    let args = c .before .before .before .before .before .before .before .before .args in
+    λ σ h. c .less-now2 .ensures ∙ sym (wait-rows σ (args .k) (args .time) (key-fits h (args .k) (omega arith) .lease) (sym (lease-token .ensures σ h) ∙ if1 .left) ∙ rw (← latest .ensures σ h, life .given .1))
 
 pub wait-spec : {M : Type 1} → statement M
 wait-spec =

@@ -1,9 +1,9 @@
 -- What VALIDATE, DONE and UNDO come to, case by case: the session that the search found is the one that the definitions look up, and
 -- its life and count decide each test.
-use mathlib.Core.Path.{_≡_, refl, sym, ap, _∙_}
+use mathlib.Core.Path.{_≡_, refl, sym, ap, _∙_, subst}
 use mathlib.Core.Bool.{Bool, true, false}
 use mathlib.Core.List.{List, [], _∷_}
-use Prim.Native.Nat.{ℕ, _≤_, _<_}
+use Prim.Native.Nat.{ℕ, _≤_, _<_, _^_}
 use native.Mathlib.Omega.{arith}
 use lib.Dec.{eqb}
 use lib.ListN.{set}
@@ -22,7 +22,7 @@ use Rattle.machine.specs.declared.Answer.{Answer}
 use Rattle.machine.specs.declared.Command.the-variants.{Validate, Done, Undo}
 use Rattle.machine.proofs.SoundFacts as facts
 use Rattle.lent.specs.Tables.{if_then_else_}
-use Rattle.lent.proofs.Choices.{clash, zero-one}
+use Rattle.lent.proofs.Choices.{clash}
 use Rattle.machine.proofs.SoundMeans.{sessions-length}
 use Rattle.layout.specs.Fields.{sessionIn}
 use Rattle.layout.specs.Holds.{Holds}
@@ -49,6 +49,7 @@ located s n i ok p l = go (sessionAt s i) refl (rw (← p) (place-passes (number
 pub unlocated : (s : State) (n : ℕ) → sound s ≡ true → found sessionCount (sessionPlace s n) ≡ Found.Nothing → sessionOf s n ≡ noSession
 unlocated s n ok e = nothing-entry (numbered n) noSession (s .sessions) sessionCount (sessions-length s ok) e
 
+-- 0 stands for the time, which none of the three looks at
 module _ (s : State) (n : ℕ) where
   -- ---- no session
   pub undo-none : sessionOf s n ≡ noSession → tried s 0 (Undo n) [] ≡ told (Answer.Refused NO-SESSION) s
@@ -101,62 +102,41 @@ module _ (s : State) (n : ℕ) where
 
 -- ---- the session that was found, as the code has it
 
-pub number-in : (e : Slot) → sessionIn e .number ≡ numberIn e
-number-in noSession = refl
-number-in (session x) = refl
-
-module _ (s : State) (ok : sound s ≡ true) (n i : ℕ) (w : Located s n i) where
+module _ {s : State} {n i : ℕ} (w : Located s n i) where
   -- its number
-  pub number-is : (m : ℕ) → m ≡ numberIn (sessionAt s i) → m ≡ n
-  number-is m e = e ∙ ap numberIn (w .is) ∙ w .number
+  pub number-is : {m : ℕ} → m ≡ numberIn (sessionAt s i) → m ≡ n
+  number-is e = e ∙ ap numberIn (w .is) ∙ w .number
 
-  pub number-here : (m : ℕ) → m ≡ numberIn (sessionAt s i) → numbered m (sessionAt s i) ≡ true
-  number-here m e = rw (w .is) (eq-eqb (w .live .number) m (w .number ∙ sym (number-is m e)))
+  pub number-here : {m : ℕ} → m ≡ n → numbered m (sessionAt s i) ≡ true
+  number-here {m} e = rw (w .is) (eq-eqb (w .live .number) m (w .number ∙ sym e))
 
   -- its record
-  pub live-is : (x : Session) → x ≡ sessionIn (sessionAt s i) → x ≡ w .live
-  live-is x e = e ∙ ap sessionIn (w .is)
+  pub live-is : {x : Session} → x ≡ sessionIn (sessionAt s i) → x ≡ w .live
+  live-is e = e ∙ ap sessionIn (w .is)
 
-  pub live-number : 0 < w .live .number
-  live-number = facts.session-number s ok i (w .is) .0
+  module _ (ok : sound s ≡ true) where
+    pub live-number : 0 < w .live .number
+    live-number = facts.session-number s ok i (w .is) .0
 
-  pub live-count : w .live .count < 65536
-  live-count = let h = facts.session-count s ok i (w .is) in omega arith
+    pub live-count : w .live .count < 2 ^ 16
+    live-count = let h = facts.session-count s ok i (w .is) in omega arith
 
   -- sealed, where the code wrote it
-  pub sealed-held : {b : List ℕ} (y : Session) → y ≡ sealed (w .live) → sessionPlace s n ≡ i → Holds b (withSessions s (set (s .sessions) i (session y)))
+  pub sealed-held : {b : List ℕ} {y : Session} → y ≡ sealed (w .live) → sessionPlace s n ≡ i → Holds b (withSessions s (set (s .sessions) i (session y)))
       → Holds b (withSessions s (set (s .sessions) (sessionPlace s n) (session (sealed (w .live)))))
-  sealed-held y e p q = rw (p, ← e) q
-
-  -- ended, by the number that the code has
-  pub left-is : (m : ℕ) → m ≡ numberIn (sessionAt s i) → leave (m ∷ []) s ≡ leave (n ∷ []) s
-  left-is m e = ap (λ (k : ℕ). leave (k ∷ []) s) (number-is m e)
-
-  pub finished-is : (m : ℕ) → m ≡ numberIn (sessionAt s i) → finish (m ∷ []) toCache s ≡ finish (n ∷ []) toCache s
-  finished-is m e = ap (λ (k : ℕ). finish (k ∷ []) toCache s) (number-is m e)
+  sealed-held e p q = rw (p, ← e) q
 
 -- what VALIDATE found of a record
 module _ (x : Session) (m : ℕ) where
-  pub told-seals : (y : Session) → validationOf x m ≡ Validation.Seals y → (eqb m (x .count) ≡ true) × (y ≡ sealed x)
-  told-seals y e = go (eqb m (x .count)) (isSealed x) e
-    where
-      go : (t u : Bool) → (if t then Validation.Seals (sealed x) else if u then Validation.Clashes else Validation.Loses) ≡ Validation.Seals y → (t ≡ true) × (y ≡ sealed x)
-      go true u f = (refl, cc)
-      go false true f = zero-one cc
-      go false false f = zero-one cc
+  abbrev pub Means : Validation → Type 0
+  Means (Validation.Seals y) = (eqb m (x .count) ≡ true) × (y ≡ sealed x)
+  Means Validation.Loses = (eqb m (x .count) ≡ false) × (isSealed x ≡ false)
+  Means Validation.Clashes = (eqb m (x .count) ≡ false) × (isSealed x ≡ true)
 
-  pub told-loses : validationOf x m ≡ Validation.Loses → (eqb m (x .count) ≡ false) × (isSealed x ≡ false)
-  told-loses e = go (eqb m (x .count)) (isSealed x) e
+  pub validation-means : {v : Validation} → validationOf x m ≡ v → Means v
+  validation-means e = subst Means e (go (eqb m (x .count)) (isSealed x) refl refl)
     where
-      go : (t u : Bool) → (if t then Validation.Seals (sealed x) else if u then Validation.Clashes else Validation.Loses) ≡ Validation.Loses → (t ≡ false) × (u ≡ false)
-      go true u f = zero-one cc
-      go false true f = zero-one cc
-      go false false f = (refl, refl)
-
-  pub told-clashes : validationOf x m ≡ Validation.Clashes → (eqb m (x .count) ≡ false) × (isSealed x ≡ true)
-  told-clashes e = go (eqb m (x .count)) (isSealed x) e
-    where
-      go : (t u : Bool) → (if t then Validation.Seals (sealed x) else if u then Validation.Clashes else Validation.Loses) ≡ Validation.Clashes → (t ≡ false) × (u ≡ true)
-      go true u f = zero-one cc
-      go false true f = (refl, refl)
-      go false false f = zero-one cc
+      go : (t u : Bool) → eqb m (x .count) ≡ t → isSealed x ≡ u → Means (if t then Validation.Seals (sealed x) else if u then Validation.Clashes else Validation.Loses)
+      go true u p q = (p, refl)
+      go false true p q = (p, q)
+      go false false p q = (p, q)

@@ -7,14 +7,13 @@ use mathlib.Core.Option.{none}
 use Prim.Native.Nat.{ℕ, _≤_, _<_}
 use lib.Dec.{eqb}
 use lib.ListN.{length, set}
-use borrow.Author.Tests.{le-leb, lt-leb, eq-eqb, eqb-true}
+use borrow.Author.Tests.{le-leb, lt-leb}
 use Rattle.lent.specs.Tables.{if_then_else_}
-use Rattle.lent.proofs.Choices.{clash}
 use Rattle.machine.specs.Sizes.{keyCount, rowCount}
 use Rattle.machine.specs.Tables.{place, first}
 use Rattle.machine.specs.Words.{isKind, ARG, ROOM}
 use Rattle.machine.specs.Decision.{decision, grants}
-use Rattle.machine.specs.State.{noRow, row, Slot, noSession, session, nothing, State, freeRow, kindOf, rowOf, numbered, sessionAt}
+use Rattle.machine.specs.State.{noRow, row, nothing, State, freeRow, kindOf, rowOf}
 use Rattle.machine.specs.Expiry.{withKeys, withRows, setLease}
 use Rattle.machine.specs.Refusals.{heldOn, decide, badKey, rowsFull, wouldGrant, refusals}
 use Rattle.machine.specs.Effects.{told, asks, effect}
@@ -22,22 +21,14 @@ use Rattle.machine.specs.declared.Session.{Session}
 use Rattle.machine.specs.declared.Verdict.{Verdict}
 use Rattle.machine.specs.declared.Answer.{Answer}
 use Rattle.machine.specs.declared.Command.the-variants.{Quar}
-use Rattle.layout.specs.Holds.{SlotFits}
 use Rattle.layout.specs.Search.{found}
 use Rattle.layout.specs.declared.Found.{Found}
 use Rattle.layout.proofs.Search.{found-at, found-full, found-room}
 use Rattle.outcome.specs.Outcome.{unless, tried}
 use Rattle.askers.specs.Asker.{askerOf}
 use Rattle.askers.specs.declared.Asker.{Asker}
-use Rattle.askers.proofs.Asked.{Asks, first-asker}
+use Rattle.askers.proofs.Asked.{first-asker}
 use Rattle.quars.specs.Asking.{granted, grant, abort, ask, hold}
-
-pub number-given : (n : ℕ) (e : Slot) → SlotFits e → numbered n e ≡ true → 1 ≤ n
-number-given n noSession f q = clash false q refl
-number-given n (session x) f q = rw (← eqb-true (x .number) n q) (f .given)
-
-pub stands : (s : State) (n i : ℕ) (x : Session) → Asks s n i x → numbered (x .number) (sessionAt s i) ≡ true
-stands s n i x a = rw (a .at) (eq-eqb (x .number) (x .number) refl)
 
 module _ (s : State) (n k kind : ℕ) where
   -- ---- a free row
@@ -76,7 +67,7 @@ module _ (s : State) (n k kind : ℕ) where
   unfolding hold
   hold-asks e = rw e
 
-  -- ---- its arguments and its session
+  -- ---- its arguments and its session; 0 stands for the time, which QUAR does not look at
 
   pub quar-key : keyCount ≤ k → tried s 0 (Quar n k kind) [] ≡ told (Answer.Refused ARG) s
   unfolding tried refusals
