@@ -44,9 +44,16 @@ pub record Example : Type 0 where
   pub then : List Line
   pub gives : List Told
 
+-- the lifetimes that the examples start with, in milliseconds
+abbrev pub exampleReadLife : ℕ
+exampleReadLife = 1000
+
+abbrev pub exampleWriteLife : ℕ
+exampleWriteLife = 5000
+
 -- what the example's commands are told, from START 1000 5000
 abbrev pub answered : Example → List Told
-answered e = answers (after (fresh 1000 5000) (e .first)) (e .then)
+answered e = answers (after (fresh exampleReadLife exampleWriteLife) (e .first)) (e .then)
 
 -- the value v is cached on key 7, and session 1 has a row of kind 3 on it
 abbrev holding : Value → List Line
