@@ -4,18 +4,34 @@ use mathlib.Core.Path.{_≡_}
 use mathlib.Core.Bool.{true, false, not, _&&_, _||_, and-false, and-true, or-true}
 use mathlib.Core.Option.{none, some}
 use Prim.Native.Nat.{ℕ, _≤_, _<_}
-use lib.Dec.{eqb}
+use lib.Dec.{eqb, ltb}
 use lib.ListN.{length}
 use borrow.Author.Tests.{le-leb, lt-leb, le-ltb, lt-ltb}
 use Rattle.lent.specs.Tables.{if_then_else_}
-use Rattle.machine.specs.Sizes.{keyCount, valueMax, stepMax, numberMax}
+use Rattle.machine.specs.Sizes.{keyCount, valueMax, stepMax, timeMax, numberMax}
 use Rattle.machine.specs.Tables.{first}
-use Rattle.machine.specs.Words.{ARG, LONG, NO-SESSION, SEALED, NOT-SEALED, FULL, ROOM, NUMBERS, REFRESH, INCREMENTAL, isKind, isOperation}
+use Rattle.machine.specs.Words.{CLOCK, ARG, LONG, NO-SESSION, SEALED, NOT-SEALED, FULL, ROOM, NUMBERS, REFRESH, INCREMENTAL, isKind, isOperation}
 use Rattle.machine.specs.Session.{isSealed}
 use Rattle.machine.specs.State.{Value, noSession, session, State, sessionOf}
-use Rattle.machine.specs.Refusals.{wouldLease, wouldGrant, badKey, notLive, sessionsFull, rowsFull, stagingRefusals, refusals}
+use Rattle.machine.specs.Refusals.{wouldLease, wouldGrant, badKey, notLive, sessionsFull, rowsFull, stagingRefusals, refusals, refusal}
 use Rattle.machine.specs.declared.Session.{Session}
+use Rattle.machine.specs.declared.Command.{Command}
 use Rattle.machine.specs.declared.Command.the-variants.{Begin, Get, Fill, Quar, Stage, Delta, Validate, Done, Undo, Evict}
+
+-- ---- CLOCK
+
+module _ (s : State) (now : ℕ) (c : Command) (v : Value) where
+  pub clock-before : now < s .head .clock → refusal s now c v ≡ some CLOCK
+  unfolding refusal
+  clock-before h = rw (lt-ltb now (s .head .clock) h)
+
+  pub clock-past : timeMax < now → refusal s now c v ≡ some CLOCK
+  unfolding refusal
+  clock-past h = rw (lt-ltb timeMax now h, or-true (ltb now (s .head .clock)))
+
+  pub clock-none : s .head .clock ≤ now → now ≤ timeMax → refusal s now c v ≡ first (refusals s c v)
+  unfolding refusal
+  clock-none h l = rw (le-ltb now (s .head .clock) h, le-ltb timeMax now l)
 
 -- ---- BEGIN
 
@@ -86,9 +102,9 @@ module _ (s : State) (n k kind : ℕ) (v : Value) where
   quar-kind e = rw (e, or-true (badKey k))
 
   module _ (a : k < keyCount) (d : isKind kind ≡ true) where
-    pub quar-dead : sessionOf s n ≡ noSession → first (refusals s (Quar n k kind) v) ≡ some NO-SESSION
+    pub quar-not-live : sessionOf s n ≡ noSession → first (refusals s (Quar n k kind) v) ≡ some NO-SESSION
     unfolding refusals
-    quar-dead e = rw (lt-leb keyCount k a, d, e)
+    quar-not-live e = rw (lt-leb keyCount k a, d, e)
 
     module _ (x : Session) (e : sessionOf s n ≡ session x) where
       pub quar-sealed : isSealed x ≡ true → first (refusals s (Quar n k kind) v) ≡ some SEALED
@@ -104,7 +120,10 @@ module _ (s : State) (n k kind : ℕ) (v : Value) where
         unfolding refusals
         quar-full f = rw (lt-leb keyCount k a, d, e, t, f, and-true (wouldGrant s n k kind))
 
--- ---- STAGE
+-- ---- STAGE and DELTA
+
+pub staging-not-live : (s : State) (n step k kind : ℕ) → sessionOf s n ≡ noSession → first (stagingRefusals s n step k kind) ≡ some NO-SESSION
+staging-not-live s n step k kind e = rw e
 
 module _ (s : State) (n step k : ℕ) (v : Value) where
   pub stage-key : keyCount ≤ k → first (refusals s (Stage n step k) v) ≡ some ARG
@@ -123,8 +142,6 @@ module _ (s : State) (n step k : ℕ) (v : Value) where
     pub stage-staging : length v ≤ valueMax → first (refusals s (Stage n step k) v) ≡ first (stagingRefusals s n step k REFRESH)
     unfolding refusals
     stage-staging h = rw (lt-leb keyCount k a, lt-leb stepMax step b, le-ltb valueMax (length v) h)
-
--- ---- DELTA
 
 module _ (s : State) (n step k operation : ℕ) (v : Value) where
   pub delta-key : keyCount ≤ k → first (refusals s (Delta n step k operation) v) ≡ some ARG
@@ -156,9 +173,9 @@ module _ (s : State) (n m : ℕ) (v : Value) where
   validate-steps h = rw (lt-ltb stepMax m h)
 
   module _ (a : m ≤ stepMax) where
-    pub validate-dead : sessionOf s n ≡ noSession → first (refusals s (Validate n m) v) ≡ some NO-SESSION
+    pub validate-not-live : sessionOf s n ≡ noSession → first (refusals s (Validate n m) v) ≡ some NO-SESSION
     unfolding refusals
-    validate-dead e = rw (le-ltb stepMax m a, e)
+    validate-not-live e = rw (le-ltb stepMax m a, e)
 
     pub validate-live : (x : Session) → sessionOf s n ≡ session x → first (refusals s (Validate n m) v) ≡ (if isSealed x && not (eqb m (x .count)) then some SEALED else none)
     unfolding refusals
@@ -167,13 +184,13 @@ module _ (s : State) (n m : ℕ) (v : Value) where
 -- ---- DONE and UNDO
 
 module _ (s : State) (n : ℕ) (v : Value) where
-  pub done-dead : sessionOf s n ≡ noSession → first (refusals s (Done n) v) ≡ some NO-SESSION
+  pub done-not-live : sessionOf s n ≡ noSession → first (refusals s (Done n) v) ≡ some NO-SESSION
   unfolding refusals
-  done-dead e = rw e
+  done-not-live e = rw e
 
-  pub undo-dead : sessionOf s n ≡ noSession → first (refusals s (Undo n) v) ≡ some NO-SESSION
+  pub undo-not-live : sessionOf s n ≡ noSession → first (refusals s (Undo n) v) ≡ some NO-SESSION
   unfolding refusals
-  undo-dead e = rw e
+  undo-not-live e = rw e
 
   module _ (x : Session) (e : sessionOf s n ≡ session x) where
     pub done-open : isSealed x ≡ false → first (refusals s (Done n) v) ≡ some NOT-SEALED
