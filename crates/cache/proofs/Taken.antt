@@ -26,23 +26,23 @@ use Rattle.outcome.proofs.Told.{gives}
 use Rattle.outcome.proofs.Steps.{acted-clock, acted-refused, acted-accepted, step-still}
 use Rattle.refusals.specs.Met.{refusalOf}
 use Rattle.refusals.specs.declared.Refusal.{Refusal}
-use Rattle.cache.specs.Run.{ran}
+use Rattle.cache.specs.Run.{encoded, ran}
 
-is-refused : {e : ℕ} (o : Option ℕ) → refusalOf o ≡ Refusal.Is e → o ≡ some e
-is-refused none q = zero-one cc
-is-refused (some d) q = cc
+refusal-some : {e : ℕ} (o : Option ℕ) → refusalOf o ≡ Refusal.Is e → o ≡ some e
+refusal-some none q = zero-one cc
+refusal-some (some d) q = cc
 
-is-accepted : (o : Option ℕ) → refusalOf o ≡ Refusal.Nothing → o ≡ none
-is-accepted none q = refl
-is-accepted (some d) q = zero-one cc
+refusal-none : (o : Option ℕ) → refusalOf o ≡ Refusal.Nothing → o ≡ none
+refusal-none none q = refl
+refusal-none (some d) q = zero-one cc
 
 module _ (s : State) (now : ℕ) (c : Command) (v : Value) where
   -- CLOCK
-  pub before-clock : {b : List ℕ} → now < s .head .clock → Holds b s → Gives (acted s now c v) (Answer.Refused CLOCK) b
-  before-clock e h = gives (acted-clock s now c v (rw (lt-ltb now (s .head .clock) e))) h
+  pub acted-before-clock : {b : List ℕ} → now < s .head .clock → Holds b s → Gives (acted s now c v) (Answer.Refused CLOCK) b
+  acted-before-clock e h = gives (acted-clock s now c v (rw (lt-ltb now (s .head .clock) e))) h
 
-  pub past-time : {b : List ℕ} → timeMax < now → Holds b s → Gives (acted s now c v) (Answer.Refused CLOCK) b
-  past-time e h = gives (acted-clock s now c v (rw (lt-ltb timeMax now e) (or-true (ltb now (s .head .clock))))) h
+  pub acted-past-time : {b : List ℕ} → timeMax < now → Holds b s → Gives (acted s now c v) (Answer.Refused CLOCK) b
+  acted-past-time e h = gives (acted-clock s now c v (rw (lt-ltb timeMax now e) (or-true (ltb now (s .head .clock))))) h
 
   in-time : s .head .clock ≤ now → now ≤ timeMax → clockRefusal s now .0 ≡ false
   in-time p q = rw (le-ltb now (s .head .clock) p, le-ltb timeMax now q)
@@ -56,23 +56,29 @@ module _ (s : State) (now : ℕ) (c : Command) (v : Value) where
   accepted-still p q r g h = rw (acted-accepted s now c v (in-time p q) (rw (← g .answer) r)) (record { answer = g .answer; holds = h })
 
   -- after expiry
-  pub refused-lapsed : {e : ℕ} {b : List ℕ} → refusalOf (refusal (expire now s) now c v) ≡ Refusal.Is e → Holds b s → Gives (step s now c v) (Answer.Refused e) b
+  pub refused-expired : {e : ℕ} {b : List ℕ} → refusalOf (refusal (expire now s) now c v) ≡ Refusal.Is e → Holds b s → Gives (step s now c v) (Answer.Refused e) b
   unfolding step settled
-  refused-lapsed q h = rw (is-refused (refusal (expire now s) now c v) q) (record { answer = refl; holds = h })
+  refused-expired q h = rw (refusal-some (refusal (expire now s) now c v) q) (record { answer = refl; holds = h })
 
-  pub accepted-lapsed : {a : Answer} {b : List ℕ} → refusalOf (refusal (expire now s) now c v) ≡ Refusal.Nothing → Gives (acted (expire now s) now c v) a b → Gives (step s now c v) a b
+  pub accepted-expired : {a : Answer} {b : List ℕ} → refusalOf (refusal (expire now s) now c v) ≡ Refusal.Nothing → Gives (acted (expire now s) now c v) a b → Gives (step s now c v) a b
   unfolding step acted settled
-  accepted-lapsed q g = let e = is-accepted (refusal (expire now s) now c v) q in rw e (rw e at g)
+  accepted-expired q g = let e = refusal-none (refusal (expire now s) now c v) q in rw e (rw e at g)
 
-  pub nothing-lapsed : {a : Answer} {b : List ℕ} → expire now s ≡ s → Gives (acted s now c v) a b → Gives (step s now c v) a b
-  nothing-lapsed e g = rw (step-still s now c v e) g
+  pub step-by-acted : {a : Answer} {b : List ℕ} → expire now s ≡ s → Gives (acted s now c v) a b → Gives (step s now c v) a b
+  step-by-acted e g = rw (step-still s now c v e) g
 
 -- the whole buffer
 module _ (b : List ℕ) (now : ℕ) (c : Command) (v : Value) where
-  pub ran-damaged : wellFormed b ≡ false → (Answer.Refused STATE ≡ ran b now c v .answer) × (b ≡ ran b now c v .bytes)
+  pub ran-unformed : wellFormed b ≡ false → ran b now c v ≡ record { answer = Answer.Refused STATE; bytes = b }
   unfolding ran
-  ran-damaged e = rw e (refl, refl)
+  ran-unformed e = rw e
 
-  pub ran-formed : (a : Answer) (d : List ℕ) → wellFormed b ≡ true → Does b (λ s. step s now c v) a d → (a ≡ ran b now c v .answer) × (d ≡ ran b now c v .bytes)
+  pub ran-formed : wellFormed b ≡ true → ran b now c v ≡ encoded (step (decode b) now c v)
   unfolding ran
-  ran-formed a d e f = let g = f (decode b) (holds-decoded b e) (formed b e .sound) in rw e (g .answer, g .holds .bytes)
+  ran-formed e = rw e
+
+  pub ran-refuses : wellFormed b ≡ false → (Answer.Refused STATE ≡ ran b now c v .answer) × (b ≡ ran b now c v .bytes)
+  ran-refuses e = rw (ran-unformed e) (refl, refl)
+
+  pub ran-does : (a : Answer) (d : List ℕ) → wellFormed b ≡ true → Does b (λ s. step s now c v) a d → (a ≡ ran b now c v .answer) × (d ≡ ran b now c v .bytes)
+  ran-does a d e f = let g = f (decode b) (holds-decoded b e) (formed b e .sound) in rw (ran-formed e) (g .answer, g .holds .bytes)

@@ -1,20 +1,19 @@
 -- What DELTA answers and leaves, case by case: its own tests in their order, and then what its session found; and where a session stages,
 -- the row that was found is the one that is changed.
 use mathlib.Core.Path.{_≡_, refl, ap, _∙_}
-use mathlib.Core.Bool.{true, false, not, _||_, or-true}
+use mathlib.Core.Bool.{true, false}
 use mathlib.Core.List.{List}
 use Prim.Native.Nat.{ℕ, _≤_, _<_}
 use lib.ListN.{length, set}
-use borrow.Author.Tests.{le-leb, lt-leb, le-ltb, lt-ltb}
 use Rattle.machine.specs.Sizes.{keyCount, stepMax, valueMax}
 use Rattle.machine.specs.Words.{isOperation, ARG, LONG, INCREMENTAL}
 use Rattle.machine.specs.State.{Value, session, Staged, Row, State, stagedIn, rowOf, rowAt, cached}
 use Rattle.machine.specs.Expiry.{withSessions, withRows}
-use Rattle.machine.specs.Refusals.{badKey, refusals}
 use Rattle.machine.specs.Effects.{told, changed, stagedAnswer, restaged, effect}
 use Rattle.machine.specs.declared.Session.{Session}
 use Rattle.machine.specs.declared.Answer.{Answer}
 use Rattle.machine.specs.declared.Command.the-variants.{Delta}
+use Rattle.machine.proofs.FirstRefusal
 use Rattle.outcome.specs.Outcome.{tried, Gives}
 use Rattle.layout.specs.Holds.{Holds}
 use Rattle.stages.specs.Staging.{stagingOf}
@@ -25,25 +24,25 @@ use Rattle.deltas.specs.Changes.{changedIn, changes}
 -- 0 stands for the time, which DELTA does not look at
 module _ (s : State) (n step k operation : ℕ) (x : Value) where
   pub delta-key : keyCount ≤ k → tried s 0 (Delta n step k operation) x ≡ told (Answer.Refused ARG) s
-  unfolding tried refusals
-  delta-key h = rw (le-leb keyCount k h)
+  unfolding tried
+  delta-key h = rw (FirstRefusal.delta-key s n step k operation x h)
 
   pub delta-operation : isOperation operation ≡ false → tried s 0 (Delta n step k operation) x ≡ told (Answer.Refused ARG) s
-  unfolding tried refusals
-  delta-operation e = rw (e, or-true (badKey k))
+  unfolding tried
+  delta-operation e = rw (FirstRefusal.delta-operation s n step k operation x e)
 
   pub delta-step : stepMax ≤ step → tried s 0 (Delta n step k operation) x ≡ told (Answer.Refused ARG) s
-  unfolding tried refusals
-  delta-step h = rw (le-leb stepMax step h, or-true (badKey k || not (isOperation operation)))
+  unfolding tried
+  delta-step h = rw (FirstRefusal.delta-step s n step k operation x h)
 
   module _ (a : k < keyCount) (o : isOperation operation ≡ true) (b : step < stepMax) where
     pub delta-long : valueMax < length x → tried s 0 (Delta n step k operation) x ≡ told (Answer.Refused LONG) s
-    unfolding tried refusals
-    delta-long h = rw (lt-leb keyCount k a, o, lt-leb stepMax step b, lt-ltb valueMax (length x) h)
+    unfolding tried
+    delta-long h = rw (FirstRefusal.delta-long s n step k operation x a o b h)
 
     pub delta-found : {r : Staging} → length x ≤ valueMax → stagingOf s n step k INCREMENTAL ≡ r → tried s 0 (Delta n step k operation) x ≡ stagedBy s (changed operation x (stagedIn (rowOf s n k)) (cached s k)) r
-    unfolding tried refusals effect
-    delta-found h e = rw (lt-leb keyCount k a, o, lt-leb stepMax step b, le-ltb valueMax (length x) h) (staged-by s n step k INCREMENTAL (changed operation x (stagedIn (rowOf s n k)) (cached s k)) e)
+    unfolding tried effect
+    delta-found h e = rw (FirstRefusal.delta-staging s n step k operation x a o b h) (staged-by s n step k INCREMENTAL (changed operation x (stagedIn (rowOf s n k)) (cached s k)) e)
 
     -- the session at place i and its row at place j: the session's next record, and then the row's change
     pub delta-changes : (i j : ℕ) (y : Session) → length x ≤ valueMax → stagingOf s n step k INCREMENTAL ≡ Staging.At i j y → rowOf s n k ≡ rowAt s j

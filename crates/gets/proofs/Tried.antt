@@ -20,6 +20,7 @@ use Rattle.machine.specs.Effects.{Outcome, told, wait, leased, missed, looked a
 use Rattle.machine.specs.Words.{ARG, NO-SESSION, NUMBERS}
 use Rattle.machine.specs.declared.Answer.{Answer}
 use Rattle.machine.specs.declared.Command.the-variants.{Get}
+use Rattle.machine.proofs.FirstRefusal
 use Rattle.layout.specs.Holds.{Holds}
 use Rattle.outcome.specs.Outcome.{unless, tried, Gives}
 use Rattle.sights.specs.Sights.{placed}
@@ -67,13 +68,13 @@ module _ (s : State) (now k : ℕ) where
 
 module _ (s : State) (now n k : ℕ) where
   pub got-key : keyCount ≤ k → tried s now (Get n k) [] ≡ told (Answer.Refused ARG) s
-  unfolding tried refusals
-  got-key h = rw (le-leb keyCount k h)
+  unfolding tried
+  got-key h = rw (FirstRefusal.get-key s n k [] h)
 
   module _ (h : k < keyCount) where
     pub got-unknown : (not (eqb n 0) && notLive s n) ≡ true → tried s now (Get n k) [] ≡ told (Answer.Refused NO-SESSION) s
-    unfolding tried refusals
-    got-unknown e = rw (lt-leb keyCount k h, e)
+    unfolding tried
+    got-unknown e = rw (FirstRefusal.get-unknown s n k [] h e)
 
     module _ (e : (not (eqb n 0) && notLive s n) ≡ false) where
       -- a value is seen

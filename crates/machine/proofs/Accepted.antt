@@ -69,14 +69,20 @@ module _ (s : State) (h : Orderly s) where
 
 -- What is found is there
 
+-- the session of number n has that number
+pub session-of-number : (s : State) (n : ℕ) (x : Session) → sessionOf s n ≡ session x → x .number ≡ n
+session-of-number s n x e = elim (Views.find-test (numbered n) noSession (s .sessions)) [
+  | inl p ↦ Views.no-session x (sym p ∙ e)
+  | inr p ↦ eqb-true (x .number) n (rw e at p)
+]
+
 -- the session of number n, live
 pub session-of : (s : State) (n : ℕ) → free (sessionOf s n) ≡ false → (x : Session) × (sessionOf s n ≡ session x) × (x .number ≡ n)
-session-of s n e = go (sessionOf s n) (Views.find-test (numbered n) noSession (s .sessions)) e
+session-of s n e = go (sessionOf s n) refl e
   where
-    go : (y : Slot) → (y ≡ noSession) ⊎ (numbered n y ≡ true) → free y ≡ false → (x : Session) × (y ≡ session x) × (x .number ≡ n)
+    go : (y : Slot) → sessionOf s n ≡ y → free y ≡ false → (x : Session) × (y ≡ session x) × (x .number ≡ n)
     go noSession p q = clash true refl q
-    go (session x) (inl p) q = Views.no-session x (sym p)
-    go (session x) (inr p) q = (x, refl, eqb-true (x .number) n p)
+    go (session x) p q = (x, refl, session-of-number s n x p)
 
 -- and where there is one, it is found
 pub found-live : (s : State) (n i : ℕ) (x : Session) → sessionAt s i ≡ session x → x .number ≡ n → notLive s n ≡ false

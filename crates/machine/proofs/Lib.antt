@@ -19,3 +19,4 @@ pub mod Tested
 pub mod Wait
 pub mod WellKept
 pub mod Witness
+pub mod FirstRefusal

@@ -82,3 +82,12 @@ Q-voids-I asked m a = decision-by 1 asked (omega arith) a ∙ rw (ne-eqb asked 0
 -- where nothing is held everything is granted
 pub free-grants : (asked : ℕ) → asked < askedCount → decision 0 asked ≡ Grant
 free-grants asked a = decision-by 0 asked (omega arith) a
+
+-- an I lease is granted over nothing only
+pub held-blocks : (held : ℕ) → grants (decision (suc held) 0) ≡ false
+unfolding decision
+held-blocks zero = refl
+held-blocks (suc zero) = refl
+held-blocks (suc (suc zero)) = refl
+held-blocks (suc (suc (suc zero))) = refl
+held-blocks (suc (suc (suc (suc n)))) = refl

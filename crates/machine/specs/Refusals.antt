@@ -12,17 +12,20 @@ use Rattle.machine.specs.Words.{CLOCK, ARG, LONG, NO-SESSION, SEALED, NO
 use Rattle.machine.specs.Session.{isSealed}
 use Rattle.machine.specs.Decision.{decision, grants}
 use Rattle.machine.specs.Sound.{lifetime}
-use Rattle.machine.specs.State.{Value, Slot, noSession, session, nothing, staged, DROP, Row, noRow, row, State, free, freeRow, on, kindOf, sessionOf, rowPlace, rowOf, cached, leaseOn}
+use Rattle.machine.specs.State.{Value, Lease, Slot, noSession, session, nothing, staged, DROP, Row, noRow, row, State, free, freeRow, on, kindOf, sessionOf, rowPlace, rowOf, cached, leaseOn}
 use Rattle.machine.specs.declared.Verdict.{Verdict}
 use Rattle.machine.specs.declared.Command.{Command}
 use Rattle.machine.specs.declared.Command.the-variants.{Begin, Get, Fill, Quar, Stage, Delta, Validate, Done, Undo, Evict, Tick}
 
 -- Who may have what
 
--- what is held on a key, by its place in the decision table: a row's kind and one, else 1 for an I lease, else 0
+-- what is held by a row, or else by an I lease, by its place in the decision table: a row's kind and one, else 1 for an I lease, else 0
+abbrev pub heldBy : Row → Option Lease → ℕ
+heldBy r o = if freeRow r then (if isNone o then 0 else 1) else suc (kindOf r)
+
+-- what is held on a key: by the first row on it, or by its I lease
 abbrev pub heldOn : State → ℕ → ℕ
-heldOn s k = let r = find (on k) noRow (s .rows) in
-    if freeRow r then (if isNone (leaseOn s k) then 0 else 1) else suc (kindOf r)
+heldOn s k = heldBy (find (on k) noRow (s .rows)) (leaseOn s k)
 
 -- asked is 0 for I, or the kind
 unfoldable pub decide : State → ℕ → ℕ → Verdict

@@ -5,7 +5,7 @@ use mathlib.Core.List.{List, []}
 use Prim.Native.Nat.{ℕ, suc, _+_, _≤_, _<_}
 use native.Mathlib.Numerals.{add-one}
 use lib.ListN.{set}
-use borrow.Author.Tests.{le-leb, lt-leb, lt-ltb}
+use borrow.Author.Tests.{lt-ltb}
 use Rattle.machine.specs.Sizes.{sessionCount, numberMax}
 use Rattle.machine.specs.Words.{FULL, NUMBERS}
 use Rattle.machine.specs.Tables.{place}
@@ -13,11 +13,12 @@ use Rattle.machine.specs.Session.{opened}
 use Rattle.machine.specs.State.{noSession, session, State, free}
 use Rattle.machine.specs.Sound.{sound}
 use Rattle.machine.specs.Expiry.{withSessions, withNumbers}
-use Rattle.machine.specs.Refusals.{sessionsFull, refusals}
+use Rattle.machine.specs.Refusals.{sessionsFull}
 use Rattle.machine.specs.Effects.{Outcome, told, begins, effect}
 use Rattle.machine.specs.declared.Session.{Session}
 use Rattle.machine.specs.declared.Answer.{Answer}
 use Rattle.machine.specs.declared.Command.the-variants.{Begin}
+use Rattle.machine.proofs.FirstRefusal
 use Rattle.machine.proofs.SoundMeans.{sessions-length}
 use Rattle.layout.specs.Holds.{Holds}
 use Rattle.layout.specs.Search.{found}
@@ -27,22 +28,22 @@ use Rattle.outcome.specs.Outcome.{tried, Gives}
 
 module _ (s : State) (ok : sound s ≡ true) (now : ℕ) where
   pub begin-full : found sessionCount (place free (s .sessions)) ≡ Found.Nothing → tried s now Begin [] ≡ told (Answer.Refused FULL) s
-  unfolding tried refusals
-  begin-full e = rw (found-full free noSession (s .sessions) sessionCount (sessions-length s ok) e)
+  unfolding tried
+  begin-full e = rw (FirstRefusal.begin-full s [] (found-full free noSession (s .sessions) sessionCount (sessions-length s ok) e))
 
   module _ (i : ℕ) (l : i < sessionCount) (p : place free (s .sessions) ≡ i) where
     room : sessionsFull s ≡ false
     room = found-room free noSession (s .sessions) sessionCount i (sessions-length s ok) (rw (p, lt-ltb i sessionCount l))
 
     pub begin-spent : (n : ℕ) → n ≡ s .head .nextSession → numberMax ≤ n → tried s now Begin [] ≡ told (Answer.Refused NUMBERS) s
-    unfolding tried refusals
-    begin-spent n e h = rw (room, ← e, le-leb numberMax n h)
+    unfolding tried
+    begin-spent n e h = rw (FirstRefusal.begin-numbers s [] room (rw (← e) h))
 
     begin-opens : s .head .nextSession < numberMax
         → tried s now Begin [] ≡ told (Answer.Session (s .head .nextSession))
         (withNumbers (withSessions s (set (s .sessions) i (session (opened (s .head .nextSession) (now + s .head .writeLife))))) (suc (s .head .nextSession)) (s .head .nextToken))
-    unfolding tried refusals effect begins
-    begin-opens h = rw (room, lt-leb numberMax (s .head .nextSession) h, p)
+    unfolding tried effect begins
+    begin-opens h = rw (FirstRefusal.begin-none s [] room h, p)
 
     -- as the code has it
     pub begin-gives : (b : List ℕ) (n life : ℕ) (x : Session) → n ≡ s .head .nextSession → life ≡ s .head .writeLife → n < numberMax → x ≡ opened n (now + life)

@@ -9,7 +9,7 @@ use Rattle.lent.specs.Tables.{every}
 use Rattle.lent.proofs.Choices.{and-yes}
 use Rattle.machine.specs.State.{State}
 use Rattle.machine.specs.Sound.{valueSound}
-use Rattle.machine.specs.Examples.{Line, after, answers, Example, answered, examples}
+use Rattle.machine.specs.Examples.{exampleReadLife, exampleWriteLife, Line, after, answers, Example, answered, examples}
 use Rattle.machine.specs.declared.Answer.{Answer}
 use Rattle.machine.proofs.SoundMeans.{value-means}
 use Rattle.machine.proofs.Examples.{examples-hold}
@@ -17,8 +17,9 @@ use Rattle.layout.specs.Layout.{decode}
 use Rattle.layout.specs.WellFormed.{wellFormed}
 use Rattle.startup.specs.Start.{Reply, startOf}
 use Rattle.startup.proofs.Sound.{ready-formed, ready-decodes}
+use Rattle.cache.proofs.Taken.{ran-formed}
 use Rattle.promises.specs.Told.{afterBytes, answersBytes, toldBytes}
-use Rattle.promises.proofs.Ran.{ran-formed, formed-kept, decode-ran}
+use Rattle.promises.proofs.Ran.{formed-kept, decode-ran}
 
 -- each value is sound: at most 64 bytes
 valued : List Line → Bool
@@ -61,12 +62,12 @@ examples-valued : valuedIn examples ≡ true
 unfolding valuedIn valued every
 examples-valued = refl
 
-module _ (b : List ℕ) (ready : startOf b 1000 5000 .answer ≡ Answer.Ready) where
+module _ (b : List ℕ) (ready : startOf b exampleReadLife exampleWriteLife .answer ≡ Answer.Ready) where
   told-follows : (e : Example) → valued (e .first) ≡ true → valued (e .then) ≡ true → toldBytes b e ≡ answered e
   told-follows e p q =
-      let f = ready-formed b 1000 5000 ready in
-      answers-follow (afterBytes (startOf b 1000 5000 .bytes) (e .first)) (e .then) q (after-formed (startOf b 1000 5000 .bytes) (e .first) p f)
-      ∙ ap (λ (s : State). answers s (e .then)) (after-follows (startOf b 1000 5000 .bytes) (e .first) p f ∙ ap (λ (s : State). after s (e .first)) (ready-decodes b 1000 5000 ready))
+      let f = ready-formed b exampleReadLife exampleWriteLife ready in
+      answers-follow (afterBytes (startOf b exampleReadLife exampleWriteLife .bytes) (e .first)) (e .then) q (after-formed (startOf b exampleReadLife exampleWriteLife .bytes) (e .first) p f)
+      ∙ ap (λ (s : State). answers s (e .then)) (after-follows (startOf b exampleReadLife exampleWriteLife .bytes) (e .first) p f ∙ ap (λ (s : State). after s (e .first)) (ready-decodes b exampleReadLife exampleWriteLife ready))
 
   all-follow : (l : List Example) → valuedIn l ≡ true → map (toldBytes b) l ≡ map answered l
   unfolding valuedIn

@@ -13,8 +13,9 @@ use Rattle.layout.specs.WellFormed.{wellFormed}
 use Rattle.startup.specs.Start.{Reply, startOf}
 use Rattle.startup.proofs.Sound.{ready-formed, ready-demand-3}
 use Rattle.cache.specs.Run.{ran}
+use Rattle.cache.proofs.Taken.{ran-formed}
 use Rattle.promises.specs.Bytes.{ByteWorld, worldOf, begunOn, nextBytes, runBytes, AllKeptBytes}
-use Rattle.promises.proofs.Ran.{ran-formed, formed-kept, decode-ran}
+use Rattle.promises.proofs.Ran.{formed-kept, decode-ran}
 
 -- ---- one event
 
@@ -55,9 +56,9 @@ kept-follows w (e ∷ es) x f h = (h .0, rw (next-follows w e (x .0) f) at (kept
 
 -- ---- the theorem
 
-pub bytes-before : (es fs : List Event) → AllBytes (es ++ fs) → AllBytes es
-bytes-before [] fs x = tt
-bytes-before (e ∷ es) fs x = (x .0, bytes-before es fs (x .1))
+pub all-bytes-before : (es fs : List Event) → AllBytes (es ++ fs) → AllBytes es
+all-bytes-before [] fs x = tt
+all-bytes-before (e ∷ es) fs x = (x .0, all-bytes-before es fs (x .1))
 
 module _ (b : List ℕ) (readLife writeLife : ℕ) (ready : startOf b readLife writeLife .answer ≡ Answer.Ready) where
   -- at each moment of each run from the bytes that START wrote: after each first part of it
@@ -66,7 +67,7 @@ module _ (b : List ℕ) (readLife writeLife : ℕ) (ready : startOf b readLife w
   demand-3-bytes es fs x h =
       let w = begunOn (startOf b readLife writeLife .bytes) in
       let f = ready-formed b readLife writeLife ready in
-      rw (run-follows w es (bytes-before es fs x) f) (ready-demand-3 b readLife writeLife ready es fs (kept-follows w (es ++ fs) x f h))
+      rw (run-follows w es (all-bytes-before es fs x) f) (ready-demand-3 b readLife writeLife ready es fs (kept-follows w (es ++ fs) x f h))
 
   -- and the bytes are well formed at each
   pub formed-bytes : (es : List Event) → AllBytes es → wellFormed (runBytes (begunOn (startOf b readLife writeLife .bytes)) es .bytes) ≡ true

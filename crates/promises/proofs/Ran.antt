@@ -1,7 +1,7 @@
 -- Demands 1 and 2 over the lent bytes: on a buffer that is not well formed nothing happens, and a well-formed one is the encoding of a sound
 -- state. A refused command keeps that state, so its encoding is the same bytes; every command leaves a sound state, so its encoding is well formed
 -- and says that state. START is READY, or refuses and leaves the bytes.
-use mathlib.Core.Path.{_≡_, refl, sym, ap, _∙_}
+use mathlib.Core.Path.{_≡_, sym, ap, _∙_}
 use mathlib.Core.Bool.{true, false}
 use mathlib.Core.Logic.{_⊎_, inl, inr}
 use mathlib.Core.List.{List}
@@ -10,10 +10,10 @@ use lib.Dec.{eqb}
 use lib.ListN.{length}
 use borrow.Author.Tests.{eqb-true, eqb-false}
 use Rattle.lent.specs.Bytes.{Bytes}
-use Rattle.lent.proofs.Choices.{case-of, clash}
+use Rattle.lent.proofs.Choices.{case-of, zero-one}
 use Rattle.machine.specs.State.{Value}
 use Rattle.machine.specs.Sizes.{stateSize}
-use Rattle.machine.specs.Words.{wordOf, STATE, ARG}
+use Rattle.machine.specs.Words.{STATE, ARG}
 use Rattle.machine.specs.Sound.{lifetime, sound}
 use Rattle.machine.specs.Step.{step}
 use Rattle.machine.specs.declared.Answer.{Answer}
@@ -26,26 +26,19 @@ use Rattle.layout.proofs.Fitting.{sound-fits}
 use Rattle.layout.proofs.Formed.{formed, sound-formed, holds-encoded, holds-is}
 use Rattle.startup.specs.Start.{Reply, startOf}
 use Rattle.startup.proofs.Started.{started-size, started-read, started-write, started-ready}
-use Rattle.cache.specs.Run.{encoded, ran}
+use Rattle.cache.specs.Run.{ran}
+use Rattle.cache.proofs.Taken.{ran-formed, ran-unformed}
 
 module _ (b : List ℕ) (now : ℕ) (c : Command) (v : Value) where
-  pub ran-formed : wellFormed b ≡ true → ran b now c v ≡ encoded (step (decode b) now c v)
-  unfolding ran
-  ran-formed f = rw f
-
-  pub ran-unformed : wellFormed b ≡ false → ran b now c v ≡ record { answer = Answer.Refused STATE; bytes = b }
-  unfolding ran
-  ran-unformed f = rw f
-
   -- demand 1: a refusal leaves every byte
   pub refused-bytes : (e : ℕ) → ran b now c v .answer ≡ Answer.Refused e → ran b now c v .bytes ≡ b
   refused-bytes e p = go (case-of (wellFormed b))
     where
       go : (wellFormed b ≡ true) ⊎ (wellFormed b ≡ false) → ran b now c v .bytes ≡ b
       go (inl f) =
-          let q : step (decode b) now c v .answer ≡ Answer.Refused e = sym (ap (λ (r : Reply). r .answer) (ran-formed f)) ∙ p in
-          ap (λ (r : Reply). r .bytes) (ran-formed f) ∙ ap encode (refused-keeps (decode b) now c v e q) ∙ sym (formed b f .bytes)
-      go (inr f) = ap (λ (r : Reply). r .bytes) (ran-unformed f)
+          let q : step (decode b) now c v .answer ≡ Answer.Refused e = sym (ap (λ (r : Reply). r .answer) (ran-formed b now c v f)) ∙ p in
+          ap (λ (r : Reply). r .bytes) (ran-formed b now c v f) ∙ ap encode (refused-keeps (decode b) now c v e q) ∙ sym (formed b f .bytes)
+      go (inr f) = ap (λ (r : Reply). r .bytes) (ran-unformed b now c v f)
 
   -- demand 2: what a command leaves
   module _ (x : Bytes v) (f : wellFormed b ≡ true) where
@@ -53,10 +46,10 @@ module _ (b : List ℕ) (now : ℕ) (c : Command) (v : Value) where
     after-sound = step-sound (decode b) now c v x (formed b f .sound)
 
     pub formed-kept : wellFormed (ran b now c v .bytes) ≡ true
-    formed-kept = ap (λ (r : Reply). wellFormed (r .bytes)) (ran-formed f) ∙ sound-formed (step (decode b) now c v .after) after-sound
+    formed-kept = ap (λ (r : Reply). wellFormed (r .bytes)) (ran-formed b now c v f) ∙ sound-formed (step (decode b) now c v .after) after-sound
 
     pub decode-ran : decode (ran b now c v .bytes) ≡ step (decode b) now c v .after
-    decode-ran = ap (λ (r : Reply). decode (r .bytes)) (ran-formed f) ∙ holds-is (holds-encoded (step (decode b) now c v .after) (sound-fits (step (decode b) now c v .after) after-sound))
+    decode-ran = ap (λ (r : Reply). decode (r .bytes)) (ran-formed b now c v f) ∙ holds-is (holds-encoded (step (decode b) now c v .after) (sound-fits (step (decode b) now c v .after) after-sound))
 
 -- START refuses, and the buffer stands
 pub record StartRefused (b : List ℕ) (readLife writeLife : ℕ) : Type 0 where
@@ -79,6 +72,6 @@ ready-or-refused b readLife writeLife = sized (case-of (eqb (length b) stateSize
 -- demand 1 of START
 pub refused-start : (b : List ℕ) (readLife writeLife e : ℕ) → startOf b readLife writeLife .answer ≡ Answer.Refused e → startOf b readLife writeLife .bytes ≡ b
 refused-start b readLife writeLife e p = elim (ready-or-refused b readLife writeLife) [
-  | inl q ↦ clash (eqb (wordOf (startOf b readLife writeLife .answer)) 0) (rw p refl) (rw q refl)
+  | inl q ↦ (let z : Answer.Ready ≡ Answer.Refused e = sym q ∙ p in zero-one cc)
   | inr q ↦ ap (λ (x : Reply). x .bytes) (q .is)
 ]

@@ -1,6 +1,6 @@
 -- Demand 3 over bytes is not empty: on every buffer of 65,536 bytes START answers READY, and the run that the machine computes to keep the rules
 -- (`machine`, `Witness`) keeps them on the bytes, which follow the machine event by event.
-use mathlib.Core.Path.{_≡_, refl, ap}
+use mathlib.Core.Path.{_≡_, refl, sym, ap, subst}
 use mathlib.Core.Bool.{Bool, true, false, _&&_}
 use mathlib.Core.List.{List, [], _∷_}
 use Prim.Native.Nat.{ℕ, zero, suc}
@@ -12,7 +12,8 @@ use Rattle.lent.specs.Bytes.{Bytes}
 use Rattle.lent.proofs.Choices.{and-yes}
 use Rattle.machine.specs.Sizes.{stateSize}
 use Rattle.machine.specs.State.{Value, State}
-use Rattle.machine.specs.World.{Event, command, write, freshWorld, AllKept, Consistent, AllBytes}
+use Rattle.machine.specs.World.{Event, command, write, World, freshWorld, AllKept, Consistent, AllBytes}
+use Rattle.machine.specs.Examples.{exampleReadLife, exampleWriteLife}
 use Rattle.machine.specs.Witness.{events}
 use Rattle.machine.specs.declared.Answer.{Answer}
 use Rattle.machine.proofs.Witness.{witness-kept}
@@ -28,8 +29,8 @@ pub kept-bytes : (w : ByteWorld) (es : List Event) → AllBytes es → wellForme
 kept-bytes w [] x f h = tt
 kept-bytes w (e ∷ es) x f h = (h .0, kept-bytes (nextBytes w e) es (x .1) (next-formed w e (x .0) f) (rw (next-follows w e (x .0) f) (h .1)))
 
-pub witness-ready : (b : List ℕ) → length b ≡ stateSize → startOf b 1000 5000 .answer ≡ Answer.Ready
-witness-ready b size = ap (λ (r : Reply). r .answer) (started-ready b 1000 5000 size refl refl)
+pub witness-ready : (b : List ℕ) → length b ≡ stateSize → startOf b exampleReadLife exampleWriteLife .answer ≡ Answer.Ready
+witness-ready b size = ap (λ (r : Reply). r .answer) (started-ready b exampleReadLife exampleWriteLife size refl refl)
 
 -- that the values of a run are bytes is tested
 
@@ -55,20 +56,18 @@ values-test (write n k v ∷ es) e = (tt, values-test es e)
 witness-values : AllBytes events
 witness-values = values-test events refl
 
-begun-bytes : (b : List ℕ) → startOf b 1000 5000 .answer ≡ Answer.Ready → worldOf (begunOn (startOf b 1000 5000 .bytes)) ≡ freshWorld 1000 5000
-begun-bytes b ready = ap (λ (s : State). record { state = s; register = λ k. []; began = λ k. []; since = λ t k. []; wrote = λ n. false }) (ready-decodes b 1000 5000 ready)
-
-kept-begun : (b : List ℕ) → startOf b 1000 5000 .answer ≡ Answer.Ready → (es : List Event) → AllKept (freshWorld 1000 5000) es → AllKept (worldOf (begunOn (startOf b 1000 5000 .bytes))) es
-kept-begun b ready es h = rw (begun-bytes b ready) h
+begun-bytes : (b : List ℕ) (readLife writeLife : ℕ) → startOf b readLife writeLife .answer ≡ Answer.Ready → worldOf (begunOn (startOf b readLife writeLife .bytes)) ≡ freshWorld readLife writeLife
+begun-bytes b readLife writeLife ready = ap (λ (s : State). record { state = s; register = λ k. []; began = λ k. []; since = λ t k. []; wrote = λ n. false }) (ready-decodes b readLife writeLife ready)
 
 module _ (b : List ℕ) (size : length b ≡ stateSize) where
-  pub witness-kept-bytes : AllKeptBytes (begunOn (startOf b 1000 5000 .bytes)) events
+  pub witness-kept-bytes : AllKeptBytes (begunOn (startOf b exampleReadLife exampleWriteLife .bytes)) events
   witness-kept-bytes =
       let ready = witness-ready b size in
-      kept-bytes (begunOn (startOf b 1000 5000 .bytes)) events witness-values (ready-formed b 1000 5000 ready) (kept-begun b ready events witness-kept)
+      kept-bytes (begunOn (startOf b exampleReadLife exampleWriteLife .bytes)) events witness-values (ready-formed b exampleReadLife exampleWriteLife ready)
+      (subst (λ (w : World). AllKept w events) (sym (begun-bytes b exampleReadLife exampleWriteLife ready)) witness-kept)
 
   -- at each moment of it
-  pub witness-consistent-bytes : (i : ℕ) → Consistent (worldOf (runBytes (begunOn (startOf b 1000 5000 .bytes)) (take i events)))
+  pub witness-consistent-bytes : (i : ℕ) → Consistent (worldOf (runBytes (begunOn (startOf b exampleReadLife exampleWriteLife .bytes)) (take i events)))
   witness-consistent-bytes i =
-      demand-3-bytes b 1000 5000 (witness-ready b size) (take i events) (drop i events)
+      demand-3-bytes b exampleReadLife exampleWriteLife (witness-ready b size) (take i events) (drop i events)
       (rw (take-append-drop i events) witness-values) (rw (take-append-drop i events) witness-kept-bytes)

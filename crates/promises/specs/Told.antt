@@ -2,7 +2,7 @@
 use Prim.Native.Nat.{ℕ}
 use mathlib.Core.List.{List, [], _∷_}
 use Rattle.machine.specs.Step.{step}
-use Rattle.machine.specs.Examples.{Line, Told, Example}
+use Rattle.machine.specs.Examples.{exampleReadLife, exampleWriteLife, Line, Told, Example}
 use Rattle.layout.specs.Layout.{decode}
 use Rattle.startup.specs.Start.{startOf}
 use Rattle.cache.specs.Run.{ran}
@@ -20,4 +20,4 @@ answersBytes b (x ∷ l) =
 
 -- what the example's commands are told, from START 1000 5000 on the buffer b
 abbrev pub toldBytes : List ℕ → Example → List Told
-toldBytes b e = answersBytes (afterBytes (startOf b 1000 5000 .bytes) (e .first)) (e .then)
+toldBytes b e = answersBytes (afterBytes (startOf b exampleReadLife exampleWriteLife .bytes) (e .first)) (e .then)

@@ -1,13 +1,13 @@
 -- What QUAR answers and leaves, case by case in the code's order: its arguments, its session, a row that it has, the decision table, a free row.
 -- Each test of the definition's list is decided where the code decides it; ROOM, the last, only where a row would be taken.
 use mathlib.Core.Path.{_≡_, refl}
-use mathlib.Core.Bool.{Bool, true, false, not, _&&_, or-true}
+use mathlib.Core.Bool.{Bool, true, false, not, _&&_}
 use mathlib.Core.List.{[], _∷_}
 use mathlib.Core.Option.{none}
 use Prim.Native.Nat.{ℕ, _≤_, _<_}
 use lib.Dec.{eqb}
 use lib.ListN.{length, set}
-use borrow.Author.Tests.{le-leb, lt-leb}
+use borrow.Author.Tests.{lt-leb}
 use Rattle.lent.specs.Tables.{if_then_else_}
 use Rattle.machine.specs.Sizes.{keyCount, rowCount}
 use Rattle.machine.specs.Tables.{place, first}
@@ -15,12 +15,13 @@ use Rattle.machine.specs.Words.{isKind, ARG, ROOM}
 use Rattle.machine.specs.Decision.{decision, grants}
 use Rattle.machine.specs.State.{noRow, row, nothing, State, freeRow, kindOf, rowOf}
 use Rattle.machine.specs.Expiry.{withKeys, withRows, setLease}
-use Rattle.machine.specs.Refusals.{heldOn, decide, badKey, rowsFull, wouldGrant, refusals}
+use Rattle.machine.specs.Refusals.{heldOn, decide, rowsFull, wouldGrant, refusals}
 use Rattle.machine.specs.Effects.{told, asks, effect}
 use Rattle.machine.specs.declared.Session.{Session}
 use Rattle.machine.specs.declared.Verdict.{Verdict}
 use Rattle.machine.specs.declared.Answer.{Answer}
 use Rattle.machine.specs.declared.Command.the-variants.{Quar}
+use Rattle.machine.proofs.FirstRefusal
 use Rattle.layout.specs.Search.{found}
 use Rattle.layout.specs.declared.Found.{Found}
 use Rattle.layout.proofs.Search.{found-at, found-full, found-room}
@@ -70,12 +71,12 @@ module _ (s : State) (n k kind : ℕ) where
   -- ---- its arguments and its session; 0 stands for the time, which QUAR does not look at
 
   pub quar-key : keyCount ≤ k → tried s 0 (Quar n k kind) [] ≡ told (Answer.Refused ARG) s
-  unfolding tried refusals
-  quar-key h = rw (le-leb keyCount k h)
+  unfolding tried
+  quar-key h = rw (FirstRefusal.quar-key s n k kind [] h)
 
   pub quar-kind : isKind kind ≡ false → tried s 0 (Quar n k kind) [] ≡ told (Answer.Refused ARG) s
-  unfolding tried refusals
-  quar-kind e = rw (e, or-true (badKey k))
+  unfolding tried
+  quar-kind e = rw (FirstRefusal.quar-kind s n k kind [] e)
 
   module _ (a : k < keyCount) (d : isKind kind ≡ true) where
     pub quar-refused : (e : ℕ) → askerOf s n ≡ Asker.Refused e → tried s 0 (Quar n k kind) [] ≡ told (Answer.Refused e) s

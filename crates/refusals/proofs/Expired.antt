@@ -8,23 +8,23 @@ use Prim.Native.Nat.{ℕ}
 use lib.Dec.{eqb}
 use lib.ListN.{getD, List·getD-map}
 use borrow.Author.Tests.{eqb-true, eq-eqb}
-use Rattle.lent.proofs.Choices.{case-of, clash, zero-one}
+use Rattle.lent.proofs.Choices.{case-of, clash}
 use Rattle.machine.specs.Tables.{place, find, mem}
 use Rattle.machine.specs.Session.{isDue}
 use Rattle.machine.specs.State.{Slot, noSession, session, Row, noRow, row, State, numbered, ofOn, sessionPlace, sessionOf, rowOf, sessionAt}
 use Rattle.machine.specs.Expiry.{freeIfOf, leave, finish, those, expire}
 use Rattle.machine.specs.Sound.{sound}
 use Rattle.machine.specs.declared.Session.{Session}
-use Rattle.machine.proofs.Views.{find-test, find-passes, among-those, no-session}
+use Rattle.machine.proofs.Views.{find-test, find-passes, among-those, no-row, no-session}
 use Rattle.machine.proofs.SoundFacts.{numbers-distinct}
 use Rattle.deadlines.specs.Deadlines.{dueSlot}
 use Rattle.sweep.specs.Lapsing.{freeDue}
 use Rattle.sweep.proofs.Due.{due-freed, due-number}
 
 -- a place that is taken after expiry was taken, by a session that is not due
-pub stays : (now : ℕ) (e : Slot) (y : Session) → freeDue now e ≡ session y → (e ≡ session y) × (isDue now y ≡ false)
-stays now noSession y q = no-session y q
-stays now (session x) y q = go (case-of (isDue now x))
+pub due-freed-was : (now : ℕ) (e : Slot) (y : Session) → freeDue now e ≡ session y → (e ≡ session y) × (isDue now y ≡ false)
+due-freed-was now noSession y q = no-session y q
+due-freed-was now (session x) y q = go (case-of (isDue now x))
   where
     go : (isDue now x ≡ true) ⊎ (isDue now x ≡ false) → (session x ≡ session y) × (isDue now y ≡ false)
     go (inl d) = no-session y (rw d at q)
@@ -35,7 +35,7 @@ place-mapped : {A : Type 0} (p : A → Bool) (f : A → A) → ((x : A) → p (f
 place-mapped p f same [] = refl
 place-mapped p f same (x ∷ l) = rw (same x, place-mapped p f same l)
 
-module _ (s : State) (ok : sound s ≡ true) (now : ℕ) where
+module _ (s : State) (now : ℕ) where
   abbrev pub due : List ℕ
   due = those (isDue now) (s .sessions)
 
@@ -47,6 +47,7 @@ module _ (s : State) (ok : sound s ≡ true) (now : ℕ) where
   unfolding expire finish leave
   rows-expired = refl
 
+module _ (s : State) (ok : sound s ≡ true) (now : ℕ) where
   pub sessions-expired : expire now s .sessions ≡ map (freeDue now) (s .sessions)
   unfolding expire finish leave
   sessions-expired = due-freed (s .sessions) (numbers-distinct s ok) now
@@ -57,10 +58,10 @@ module _ (s : State) (ok : sound s ≡ true) (now : ℕ) where
   at-expired i = ap (λ (l : List Slot). getD l i noSession) sessions-expired ∙ List·getD-map (freeDue now) (s .sessions) i noSession
 
   module _ (n : ℕ) where
-    pub due-is : mem n due ≡ dueSlot now (sessionOf s n)
-    due-is = go (case-of (mem n due)) (sessionOf s n) refl (find-test (numbered n) noSession (s .sessions))
+    pub due-is : mem n (due s now) ≡ dueSlot now (sessionOf s n)
+    due-is = go (case-of (mem n (due s now))) (sessionOf s n) refl (find-test (numbered n) noSession (s .sessions))
       where
-        go : (mem n due ≡ true) ⊎ (mem n due ≡ false) → (e : Slot) → sessionOf s n ≡ e → (e ≡ noSession) ⊎ (numbered n e ≡ true) → mem n due ≡ dueSlot now e
+        go : (mem n (due s now) ≡ true) ⊎ (mem n (due s now) ≡ false) → (e : Slot) → sessionOf s n ≡ e → (e ≡ noSession) ⊎ (numbered n e ≡ true) → mem n (due s now) ≡ dueSlot now e
         go (inl m) e q t =
             let w = among-those (isDue now) (s .sessions) n m in
             due-number (s .sessions) (numbers-distinct s ok) now n (w .0) (rw (w .2) (eq-eqb (w .1 .number) n (w .3))) ∙ ap (dueSlot now) q
@@ -73,7 +74,7 @@ module _ (s : State) (ok : sound s ≡ true) (now : ℕ) where
       where
         -- who has the number after expiry had it before
         had : (y : Session) → sessionOf (expire now s) n ≡ session y → (sessionAt s (sessionPlace (expire now s) n) ≡ session y) × (isDue now y ≡ false)
-        had y q = stays now (sessionAt s (sessionPlace (expire now s) n)) y (sym (at-expired (sessionPlace (expire now s) n)) ∙ q)
+        had y q = due-freed-was now (sessionAt s (sessionPlace (expire now s) n)) y (sym (at-expired (sessionPlace (expire now s) n)) ∙ q)
 
         go : (e f : Slot) → sessionOf s n ≡ e → sessionOf (expire now s) n ≡ f → (e ≡ noSession) ⊎ (numbered n e ≡ true) → (f ≡ noSession) ⊎ (numbered n f ≡ true) → f ≡ freeDue now e
         go noSession noSession p q t u = refl
@@ -101,28 +102,28 @@ module _ (s : State) (ok : sound s ≡ true) (now : ℕ) where
 
     pub row-expired : (k : ℕ) → dueSlot now (sessionOf s n) ≡ false → rowOf (expire now s) n k ≡ rowOf s n k
     row-expired k h =
-        ap (λ (l : List Row). find (ofOn n k) noRow l) rows-expired
-        ∙ ap (λ (i : ℕ). getD (map (freeIfOf due) (s .rows)) i noRow) (place-mapped (ofOn n k) (freeIfOf due) same (s .rows))
-        ∙ List·getD-map (freeIfOf due) (s .rows) (place (ofOn n k) (s .rows)) noRow
+        ap (λ (l : List Row). find (ofOn n k) noRow l) (rows-expired s now)
+        ∙ ap (λ (i : ℕ). getD (map (freeIfOf (due s now)) (s .rows)) i noRow) (place-mapped (ofOn n k) (freeIfOf (due s now)) same (s .rows))
+        ∙ List·getD-map (freeIfOf (due s now)) (s .rows) (place (ofOn n k) (s .rows)) noRow
         ∙ kept (rowOf s n k) (find-test (ofOn n k) noRow (s .rows))
       where
-        free : mem n due ≡ false
-        free = due-is ∙ h
+        undue : mem n (due s now) ≡ false
+        undue = due-is ∙ h
 
-        same : (r : Row) → ofOn n k (freeIfOf due r) ≡ ofOn n k r
+        same : (r : Row) → ofOn n k (freeIfOf (due s now) r) ≡ ofOn n k r
         same noRow = refl
-        same (row m j d u) = go (case-of (mem m due)) (case-of (eqb m n))
+        same (row m j d u) = go (case-of (mem m (due s now))) (case-of (eqb m n))
           where
-            go : (mem m due ≡ true) ⊎ (mem m due ≡ false) → (eqb m n ≡ true) ⊎ (eqb m n ≡ false) → ofOn n k (freeIfOf due (row m j d u)) ≡ ofOn n k (row m j d u)
-            go (inl q) (inl e) = clash (mem n due) (rw (eqb-true m n e) at q) free
+            go : (mem m (due s now) ≡ true) ⊎ (mem m (due s now) ≡ false) → (eqb m n ≡ true) ⊎ (eqb m n ≡ false) → ofOn n k (freeIfOf (due s now) (row m j d u)) ≡ ofOn n k (row m j d u)
+            go (inl q) (inl e) = clash (mem n (due s now)) (rw (eqb-true m n e) at q) undue
             go (inl q) (inr e) = rw (q, e)
             go (inr q) e = rw q
 
-        kept : (r : Row) → (r ≡ noRow) ⊎ (ofOn n k r ≡ true) → freeIfOf due r ≡ r
+        kept : (r : Row) → (r ≡ noRow) ⊎ (ofOn n k r ≡ true) → freeIfOf (due s now) r ≡ r
         kept noRow t = refl
-        kept (row m j d u) (inl t) = zero-one cc
+        kept (row m j d u) (inl t) = no-row m j d u (sym t)
         kept (row m j d u) (inr t) = go (case-of (eqb m n))
           where
-            go : (eqb m n ≡ true) ⊎ (eqb m n ≡ false) → freeIfOf due (row m j d u) ≡ row m j d u
-            go (inl e) = rw (eqb-true m n e, free)
+            go : (eqb m n ≡ true) ⊎ (eqb m n ≡ false) → freeIfOf (due s now) (row m j d u) ≡ row m j d u
+            go (inl e) = rw (eqb-true m n e, undue)
             go (inr e) = clash false (rw e at t) refl

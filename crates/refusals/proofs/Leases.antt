@@ -5,19 +5,21 @@ use mathlib.Core.Path.{_≡_, refl, sym, ap, ap₂, _∙_}
 use mathlib.Core.Bool.{Bool, true, false, not, _&&_, _||_, and-false, and-true}
 use mathlib.Core.List.{List, [], _∷_, map}
 use mathlib.Core.Option.{Option, none, some}
-use Prim.Native.Nat.{ℕ, zero, suc}
+use Prim.Native.Nat.{ℕ}
+use native.Mathlib.Omega.{arith}
 use lib.Dec.{eqb, leb}
 use lib.ListN.{getD, List·getD-map}
 use borrow.Author.Tests.{eq-eqb, ne-eqb}
 use Rattle.lent.specs.Tables.{if_then_else_}
-use Rattle.lent.proofs.Choices.{and-yes, clash}
+use Rattle.lent.proofs.Choices.{and-yes}
 use Rattle.machine.specs.Tables.{find, any, mem, isNone}
 use Rattle.machine.specs.Decision.{decision, grants}
-use Rattle.machine.specs.State.{Value, Lease, Key, blank, Row, noRow, row, State, freeRow, on, of, ofOn, kindOf, sessionOf, rowOf, cached, leaseOn}
+use Rattle.machine.specs.State.{Value, Lease, Key, blank, Row, noRow, row, State, freeRow, on, of, ofOn, sessionOf, rowOf, cached, leaseOn}
 use Rattle.machine.specs.Expiry.{setValue, freeIfOf, settle, lapsedValue, unlapsed, lapsedLease, leave, finish, expire}
 use Rattle.machine.specs.Sound.{sound, tokenIn}
 use Rattle.machine.specs.Refusals.{decide, blocked, cachedSight, sight, wouldLease}
-use Rattle.machine.proofs.Views.{AfterSet, other, here, out, after-set, find-passes, any-place, settle-lease}
+use Rattle.machine.proofs.Views.{AfterSet, other, here, out, after-set, find-passes, any-place, on-row, settle-lease}
+use Rattle.machine.proofs.Table.{free-grants, held-blocks}
 use Rattle.layout.specs.Fields.{rowSession, rowKey}
 use Rattle.layout.specs.Holds.{LeaseFits, RowFits}
 use Rattle.layout.proofs.Records.{lease-none, row-none}
@@ -28,44 +30,17 @@ use Rattle.refusals.proofs.Expired.{due, rows-expired, due-is}
 
 -- ---- whom LEASE is answered
 
--- an I lease is granted over nothing only
-held-blocks : (held : ℕ) → grants (decision (suc held) 0) ≡ false
-unfolding decision
-held-blocks zero = refl
-held-blocks (suc zero) = refl
-held-blocks (suc (suc zero)) = refl
-held-blocks (suc (suc (suc zero))) = refl
-held-blocks (suc (suc (suc (suc n)))) = refl
-
-nothing-blocks-not : grants (decision 0 0) ≡ true
-unfolding decision
-nothing-blocks-not = refl
-
-and-none : (a b : Bool) → a && b && not true ≡ false
-and-none true true = refl
-and-none true false = refl
-and-none false b = refl
-
 cached-none : (k : ℕ) (o : Option Value) → isNone (cachedSight k o) ≡ isNone o
 cached-none k none = refl
 cached-none k (some v) = refl
 
-on-taken : (k : ℕ) (r : Row) → on k r ≡ true → freeRow r ≡ false
-on-taken k noRow e = clash false e refl
-on-taken k (row n j d u) e = refl
-
 module _ (s : State) (n k : ℕ) where
   lease-blocked : any (on k) (s .rows) ≡ true → wouldLease s n k ≡ false
   unfolding wouldLease blocked decide
-  lease-blocked h = go (find (on k) noRow (s .rows)) taken
-    where
-      taken : freeRow (find (on k) noRow (s .rows)) ≡ false
-      taken = let w = any-place (on k) noRow (s .rows) h in on-taken k (find (on k) noRow (s .rows)) (find-passes (on k) noRow (s .rows) (w .0) refl (w .1))
-
-      go : (r : Row) → freeRow r ≡ false
-          → isNone (sight s n k) && freeRow (rowOf s n k) && not (not (grants (decision (if freeRow r then (if isNone (leaseOn s k) then 0 else 1) else suc (kindOf r)) 0))) ≡ false
-      go noRow e = clash true refl e
-      go (row m j d u) e = rw (held-blocks d) (and-none (isNone (sight s n k)) (freeRow (rowOf s n k)))
+  lease-blocked h =
+      let w = any-place (on k) noRow (s .rows) h in
+      let r = on-row k (find (on k) noRow (s .rows)) (find-passes (on k) noRow (s .rows) (w .0) refl (w .1)) in
+      rw (r .3, held-blocks (r .1)) (and-false (isNone (sight s n k) && freeRow (rowOf s n k)))
 
   lease-free : any (on k) (s .rows) ≡ false → wouldLease s n k ≡ isNone (leaseOn s k) && isNone (cached s k)
   unfolding wouldLease blocked decide sight
@@ -78,7 +53,7 @@ module _ (s : State) (n k : ℕ) where
       none-own = find-none (ofOn n k) (on k) noRow refl (λ r e. and-yes (of n r) (on k r) e .1) (s .rows) h
 
       go : (c t : Bool) → c && true && not (not (grants (decision (if t then 0 else 1) 0))) ≡ t && c
-      go true true = rw nothing-blocks-not
+      go true true = rw (ap grants (free-grants 0 (omega arith)))
       go true false = rw (held-blocks 0)
       go false true = refl
       go false false = refl
@@ -119,9 +94,9 @@ module _ (k : ℕ) where
 
 module _ (s : State) (ok : sound s ≡ true) (now k : ℕ) where
   on-expired : any (on k) (expire now s .rows) ≡ any (staysOn now s k) (s .rows)
-  on-expired = rw (rows-expired s ok now) (any-mapped (on k) (freeIfOf (due s ok now)) (staysOn now s k) each (s .rows))
+  on-expired = rw (rows-expired s now) (any-mapped (on k) (freeIfOf (due s now)) (staysOn now s k) each (s .rows))
     where
-      each : (r : Row) → on k (freeIfOf (due s ok now) r) ≡ staysOn now s k r
+      each : (r : Row) → on k (freeIfOf (due s now) r) ≡ staysOn now s k r
       each noRow = refl
       each (row n j d u) = rw (due-is s ok now n) (go (dueSlot now (sessionOf s n)) (eqb j k))
         where
@@ -131,14 +106,14 @@ module _ (s : State) (ok : sound s ≡ true) (now k : ℕ) where
 
   lease-expired : leaseOn (expire now s) k ≡ unlapsed now (leaseOn s k)
   unfolding expire finish leave
-  lease-expired = settle-lease (due s ok now) lapsedValue k (s .rows) (map (lapsedLease now) (s .keys)) ∙ ap (λ (x : Key). x .lease) (List·getD-map (lapsedLease now) (s .keys) k blank)
+  lease-expired = settle-lease (due s now) lapsedValue k (s .rows) (map (lapsedLease now) (s .keys)) ∙ ap (λ (x : Key). x .lease) (List·getD-map (lapsedLease now) (s .keys) k blank)
 
   value-expired : isNone (cached (expire now s) k) ≡ any (λ r. on k r && goes now s r) (s .rows) || isNone (cached s k)
   unfolding expire finish leave
   value-expired =
-      values-dropped k (due s ok now) (s .rows) (map (lapsedLease now) (s .keys))
+      values-dropped k (due s now) (s .rows) (map (lapsedLease now) (s .keys))
       ∙ ap₂ _||_
-      (any-same (λ r. on k r && mem (rowSession r) (due s ok now)) (λ r. on k r && goes now s r) (λ r. ap (λ t. on k r && t) (due-is s ok now (rowSession r))) (s .rows))
+      (any-same (λ r. on k r && mem (rowSession r) (due s now)) (λ r. on k r && goes now s r) (λ r. ap (λ t. on k r && t) (due-is s ok now (rowSession r))) (s .rows))
       (ap (λ (x : Key). isNone (x .value)) (List·getD-map (lapsedLease now) (s .keys) k blank))
 
   -- ---- whom LEASE is answered after expiry
@@ -147,8 +122,8 @@ module _ (s : State) (ok : sound s ≡ true) (now k : ℕ) where
     pub lease-where-stays : any (staysOn now s k) (s .rows) ≡ true → wouldLease (expire now s) n k ≡ false
     lease-where-stays h = lease-blocked (expire now s) n k (on-expired ∙ h)
 
-    pub lease-where-goes : any (staysOn now s k) (s .rows) ≡ false → wouldLease (expire now s) n k ≡ isNone (unlapsed now (leaseOn s k)) && (any (on k) (s .rows) || isNone (cached s k))
-    lease-where-goes h =
+    pub lease-where-none-stays : any (staysOn now s k) (s .rows) ≡ false → wouldLease (expire now s) n k ≡ isNone (unlapsed now (leaseOn s k)) && (any (on k) (s .rows) || isNone (cached s k))
+    lease-where-none-stays h =
         lease-free (expire now s) n k (on-expired ∙ h)
         ∙ ap₂ _&&_ (ap isNone lease-expired) (value-expired ∙ ap (λ (t : Bool). t || isNone (cached s k)) (any-both (on k) (goes now s) (s .rows) h))
 

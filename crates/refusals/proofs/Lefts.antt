@@ -3,12 +3,10 @@
 -- those of VALIDATE too.
 use mathlib.Core.Path.{_≡_, refl, sym, ap, _∙_}
 use mathlib.Core.Bool.{Bool, true, false, not, _&&_}
-use mathlib.Core.Logic.{_⊎_, inl, inr}
 use mathlib.Core.List.{[]}
 use mathlib.Core.Option.{Option, none, some}
 use Prim.Native.Nat.{ℕ, _≤_}
 use lib.Dec.{eqb, ltb}
-use borrow.Author.Tests.{eqb-true, le-ltb}
 use Rattle.lent.specs.Tables.{if_then_else_}
 use Rattle.lent.proofs.Choices.{clash, zero-one}
 use Rattle.machine.specs.Sizes.{sessionCount, stepMax}
@@ -22,7 +20,7 @@ use Rattle.machine.specs.Words.{SEALED}
 use Rattle.machine.specs.declared.Session.{Session}
 use Rattle.machine.specs.declared.Validation.{Validation}
 use Rattle.machine.specs.declared.Command.the-variants.{Validate}
-use Rattle.machine.proofs.Views.{find-test, no-session}
+use Rattle.machine.proofs.FirstRefusal.{validate-live}
 use Rattle.machine.proofs.SoundMeans.{sessions-length}
 use Rattle.layout.specs.Fields.{sessionIn}
 use Rattle.layout.specs.Search.{found}
@@ -36,9 +34,13 @@ use Rattle.refusals.specs.Left.{leftOf}
 use Rattle.refusals.specs.Met.{refusalOf}
 use Rattle.refusals.specs.declared.after.Left.{Left}
 use Rattle.refusals.specs.declared.Refusal.{Refusal}
-use Rattle.refusals.proofs.Expired.{stays, session-expired, row-expired}
+use Rattle.refusals.proofs.Expired.{due-freed-was, session-expired, row-expired}
 
 -- ---- what the code is told
+
+-- it tells the refusal o, which is that of the definition
+pub meets : {o p : Option ℕ} → p ≡ o → refusalOf o ≡ refusalOf p
+meets e = ap refusalOf (sym e)
 
 pub left-is : (e : Slot) (x : Session) → leftOf e ≡ Left.Is x → e ≡ session x
 left-is noSession x q = zero-one cc
@@ -64,9 +66,8 @@ told-by none true i j x = refl
 told-by none false i j x = refl
 told-by (some e) t i j x = refl
 
-pub validates : (t : State) (n m : ℕ) (x : Session) → sessionOf t n ≡ session x → m ≤ stepMax → refusalOf (first (refusals t (Validate n m) [])) ≡ clashIn (validationOf x m)
-unfolding refusals
-validates t n m x e h = rw (le-ltb stepMax m h, e) (go (isSealed x) (eqb m (x .count)))
+pub validates : (t : State) (n m : ℕ) (x : Session) {r : Validation} → sessionOf t n ≡ session x → m ≤ stepMax → validationOf x m ≡ r → clashIn r ≡ refusalOf (first (refusals t (Validate n m) []))
+validates t n m x e h q = sym (ap refusalOf (validate-live t n m [] h x e) ∙ go (isSealed x) (eqb m (x .count)) ∙ ap clashIn q)
   where
     go : (u t : Bool) → refusalOf (if u && not t then some SEALED else none) ≡ clashIn (if t then Validation.Seals (sealed x) else if u then Validation.Clashes else Validation.Loses)
     go true true = refl
@@ -94,21 +95,17 @@ module _ (s : State) (ok : sound s ≡ true) (now n : ℕ) where
   -- ---- who is left
 
   module _ (x : Session) (e : sessionOf (expire now s) n ≡ session x) where
-    pub left-number : x .number ≡ n
-    left-number = go (find-test (numbered n) noSession (expire now s .sessions))
-      where
-        go : (sessionOf (expire now s) n ≡ noSession) ⊎ (numbered n (sessionOf (expire now s) n) ≡ true) → x .number ≡ n
-        go (inl q) = no-session x (sym q ∙ e)
-        go (inr q) = eqb-true (x .number) n (rw e at q)
-
     left-was : (sessionOf s n ≡ session x) × (isDue now x ≡ false)
-    left-was = stays now (sessionOf s n) x (sym (session-expired s ok now n) ∙ e)
+    left-was = due-freed-was now (sessionOf s n) x (sym (session-expired s ok now n) ∙ e)
 
     pub left-row : (k : ℕ) → rowOf (expire now s) n k ≡ rowOf s n k
     left-row k = row-expired s ok now n k (ap (dueSlot now) (left-was .0) ∙ left-was .1)
 
-    pub left-stages : (step k kind : ℕ) → refusalOf (first (stagingRefusals (expire now s) n step k kind)) ≡ refusalIn (stagingOf s n step k kind)
+    pub left-stages : (step k kind : ℕ) {r : Staging} → stagingOf s n step k kind ≡ r → refusalIn r ≡ refusalOf (first (stagingRefusals (expire now s) n step k kind))
     unfolding stagingOf
-    left-stages step k kind =
-        rw (left-row k, e ∙ sym (left-was .0))
-        (told-by (first (stagingRefusals s n step k kind)) (ltb step (countOf s n)) (sessionPlace s n) (rowPlace s n k) (advanced (sessionIn (sessionOf s n))))
+    left-stages step k kind q = sym (told ∙ ap refusalIn q)
+      where
+        told : refusalOf (first (stagingRefusals (expire now s) n step k kind)) ≡ refusalIn (stagingOf s n step k kind)
+        told =
+            rw (left-row k, e ∙ sym (left-was .0))
+            (told-by (first (stagingRefusals s n step k kind)) (ltb step (countOf s n)) (sessionPlace s n) (rowPlace s n k) (advanced (sessionIn (sessionOf s n))))

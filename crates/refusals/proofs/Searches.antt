@@ -1,6 +1,6 @@
 -- Whether a table has an entry that passes a test: told by the search for its place, by the count of the others, and, where every entry was
 -- put through f, by the entries as they were. By induction on the table.
-use mathlib.Core.Path.{_≡_, refl, sym, ap₂, _∙_}
+use mathlib.Core.Path.{_≡_, refl, sym, ap, ap₂, _∙_}
 use mathlib.Core.Bool.{Bool, true, false, not, _&&_, _||_}
 use mathlib.Core.List.{List, [], _∷_, map}
 use Prim.Native.Nat.{ℕ, suc, _+_}
@@ -10,19 +10,13 @@ use lib.ListN.{length}
 use borrow.Author.Tests.{lt-leb, not-true}
 use mathlib.Core.Logic.{inl, inr}
 use Rattle.lent.specs.Tables.{if_then_else_}
-use Rattle.lent.proofs.Choices.{clash, or-no}
+use Rattle.lent.proofs.Choices.{clash, or-no, or-swap}
 use Rattle.machine.specs.Tables.{place, any, count, find}
 use Rattle.machine.proofs.Views.{find-test, any-at}
 use Rattle.layout.specs.Search.{found}
 use Rattle.layout.specs.declared.Found.{Found}
 use Rattle.layout.proofs.Search.{found-at, found-passes, found-full, count-most}
 use Rattle.endings.proofs.Searches.{any-hit}
-
-or-swap : (a b c d : Bool) → (a || b) || (c || d) ≡ (a || c) || (b || d)
-or-swap true b c d = refl
-or-swap false true true d = refl
-or-swap false true false d = refl
-or-swap false false c d = refl
 
 module _ {A : Type 0} (p : A → Bool) where
   -- ---- by the count of the others
@@ -56,15 +50,17 @@ module _ {A : Type 0} (p : A → Bool) where
   any-mapped f q same [] = refl
   any-mapped f q same (x ∷ l) = ap₂ _||_ (same x) (any-mapped f q same l)
 
-  pub any-either : (f : A → A) (q r : A → Bool) → ((x : A) → p (f x) ≡ q x || r x) → (l : List A) → any p (map f l) ≡ any q l || any r l
-  any-either f q r same [] = refl
-  any-either f q r same (x ∷ l) = ap₂ _||_ (same x) (any-either f q r same l) ∙ or-swap (q x) (r x) (any q l) (any r l)
-
   pub any-same : (q : A → Bool) → ((x : A) → p x ≡ q x) → (l : List A) → any p l ≡ any q l
   any-same q same [] = refl
   any-same q same (x ∷ l) = ap₂ _||_ (same x) (any-same q same l)
 
-  -- ---- two tests: if each that passes one passes the other
+  -- ---- two tests
+
+  pub any-or : (q : A → Bool) (l : List A) → any (λ x. p x || q x) l ≡ any p l || any q l
+  any-or q [] = refl
+  any-or q (x ∷ l) = ap (λ t. (p x || q x) || t) (any-or q l) ∙ or-swap (p x) (q x) (any p l) (any q l)
+
+  -- if each that passes one passes the other
 
   pub any-both : (q : A → Bool) (l : List A) → any (λ x. p x && not (q x)) l ≡ false → any (λ x. p x && q x) l ≡ any p l
   any-both q [] h = refl

@@ -37,8 +37,9 @@ use Rattle.layout.proofs.Formed.{formed}
 use Rattle.startup.specs.Start.{Reply, startOf}
 use Rattle.startup.proofs.Sound.{ready-formed, ready-decodes}
 use Rattle.cache.specs.Run.{ran}
-use Rattle.promises.proofs.Follow.{bytes-before}
-use Rattle.promises.proofs.Ran.{ran-formed, formed-kept, decode-ran}
+use Rattle.promises.proofs.Follow.{all-bytes-before}
+use Rattle.cache.proofs.Taken.{ran-formed}
+use Rattle.promises.proofs.Ran.{formed-kept, decode-ran}
 use Rattle.book.specs.Memory.{Memory}
 use Rattle.book.specs.Book.{bookSize, registered, granted, mark, withStarted, counted}
 use Rattle.book.proofs.Laws
@@ -204,7 +205,7 @@ module _ (x b : List ℕ) (readLife writeLife : ℕ) (ready : startOf x readLife
   -- a run whose column is all 0 has demand 3 at each moment: after each first part of it
   pub zeros-promised : (es fs : List Event) → AllBytes (es ++ fs) → AllReadable (es ++ fs) → allZero (column p₀ (es ++ fs)) ≡ true → Promised (through p₀ es) (run w₀ es)
   zeros-promised es fs u y e =
-      let h = tied-run p₀ w₀ tied-started es (bytes-before es fs u) (readable-before es fs y) in
+      let h = tied-run p₀ w₀ tied-started es (all-bytes-before es fs u) (readable-before es fs y) in
       record {
         consistent = demand-3 readLife writeLife es fs (allKept-two readLife writeLife (es ++ fs) (column-kept (es ++ fs) u y e));
         formed = h .formed;

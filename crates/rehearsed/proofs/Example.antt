@@ -33,7 +33,8 @@ use Rattle.layout.proofs.Held.{value-stands}
 use Rattle.startup.specs.Start.{Reply, startOf}
 use Rattle.startup.proofs.Started.{started-ready}
 use Rattle.cache.specs.Run.{ran}
-use Rattle.promises.proofs.Ran.{ran-formed, formed-kept, decode-ran}
+use Rattle.cache.proofs.Taken.{ran-formed}
+use Rattle.promises.proofs.Ran.{formed-kept, decode-ran}
 use Rattle.book.specs.Memory.{Memory, memoryOf}
 use Rattle.book.specs.Book.{bookSize}
 use Rattle.book.proofs.Laws

@@ -7,7 +7,7 @@ use Prim.Native.Nat.{ℕ, _≤_, _<_, _^_}
 use native.Mathlib.Omega.{arith}
 use lib.Dec.{eqb}
 use lib.ListN.{set}
-use borrow.Author.Tests.{eqb-true, eq-eqb, lt-ltb, le-ltb}
+use borrow.Author.Tests.{eqb-true, eq-eqb, le-ltb}
 use Rattle.machine.specs.Sizes.{sessionCount, stepMax}
 use Rattle.machine.specs.Words.{ARG, NO-SESSION, SEALED, NOT-SEALED}
 use Rattle.machine.specs.Session.{sealed, isSealed, validationOf}
@@ -20,6 +20,7 @@ use Rattle.machine.specs.declared.Session.{Session}
 use Rattle.machine.specs.declared.Validation.{Validation}
 use Rattle.machine.specs.declared.Answer.{Answer}
 use Rattle.machine.specs.declared.Command.the-variants.{Validate, Done, Undo}
+use Rattle.machine.proofs.FirstRefusal
 use Rattle.machine.proofs.SoundFacts as facts
 use Rattle.lent.specs.Tables.{if_then_else_}
 use Rattle.lent.proofs.Choices.{clash}
@@ -53,35 +54,35 @@ unlocated s n ok e = nothing-entry (numbered n) noSession (s .sessions) sessionC
 module _ (s : State) (n : ℕ) where
   -- ---- no session
   pub undo-none : sessionOf s n ≡ noSession → tried s 0 (Undo n) [] ≡ told (Answer.Refused NO-SESSION) s
-  unfolding tried refusals
-  undo-none e = rw e
+  unfolding tried
+  undo-none e = rw (FirstRefusal.undo-not-live s n [] e)
 
   pub done-none : sessionOf s n ≡ noSession → tried s 0 (Done n) [] ≡ told (Answer.Refused NO-SESSION) s
-  unfolding tried refusals
-  done-none e = rw e
+  unfolding tried
+  done-none e = rw (FirstRefusal.done-not-live s n [] e)
 
   module _ (m : ℕ) where
     pub validate-far : stepMax < m → tried s 0 (Validate n m) [] ≡ told (Answer.Refused ARG) s
-    unfolding tried refusals
-    validate-far h = rw (lt-ltb stepMax m h)
+    unfolding tried
+    validate-far h = rw (FirstRefusal.validate-steps s n m [] h)
 
     pub validate-none : m ≤ stepMax → sessionOf s n ≡ noSession → tried s 0 (Validate n m) [] ≡ told (Answer.Refused NO-SESSION) s
-    unfolding tried refusals
-    validate-none h e = rw (le-ltb stepMax m h, e)
+    unfolding tried
+    validate-none h e = rw (FirstRefusal.validate-not-live s n m [] h e)
 
   -- ---- the session x
   module _ (x : Session) (e : sessionOf s n ≡ session x) where
     pub undo-is : tried s 0 (Undo n) [] ≡ told Answer.Undone (leave (n ∷ []) s)
-    unfolding tried refusals effect
-    undo-is = rw e
+    unfolding tried effect
+    undo-is = rw (FirstRefusal.undo-none s n [] x e)
 
     pub done-open : isSealed x ≡ false → tried s 0 (Done n) [] ≡ told (Answer.Refused NOT-SEALED) s
-    unfolding tried refusals effect
-    done-open q = rw (e, q)
+    unfolding tried
+    done-open q = rw (FirstRefusal.done-open s n [] x e q)
 
     pub done-is : isSealed x ≡ true → tried s 0 (Done n) [] ≡ told Answer.Done (finish (n ∷ []) toCache s)
-    unfolding tried refusals effect
-    done-is q = rw (e, q)
+    unfolding tried effect
+    done-is q = rw (FirstRefusal.done-none s n [] x e q)
 
     module _ (m : ℕ) (h : m ≤ stepMax) where
       pub validate-seals : eqb m (x .count) ≡ true → tried s 0 (Validate n m) [] ≡ told Answer.Validated (withSessions s (set (s .sessions) (sessionPlace s n) (session (sealed x))))

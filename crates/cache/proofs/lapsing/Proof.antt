@@ -1,8 +1,7 @@
 -- A refusal after expiry is the step's, with the state as it came; without one the sweep makes the state the expired one, on which the command acts.
 use mathlib.Core.Path.{sym, _∙_}
-use Rattle.machine.specs.Expiry.{expire}
 use Rattle.machine.proofs.KeepsSound.{expire-sound}
-use Rattle.cache.proofs.Taken.{refused-lapsed, accepted-lapsed}
+use Rattle.cache.proofs.Taken.{refused-expired, accepted-expired}
 use borrow.Author.Needs.{needs}
 use Rattle.cache.proofs.lapsing.Statement.{statement}
 use Rattle.cache.proofs.lapsing.Tie as tie
@@ -26,13 +25,13 @@ same-length : tie.Need-same-length
 same-length c = search needs
 
 returns : tie.Need-returns
-returns c = λ σ h ok. refused-lapsed σ (c .before .before .before .before .before .before .before .args .time) (c .before .before .before .before .before .before .before .args .command) (c .before .before .before .before .before .before .before .args .value .now) (sym (c .before .before .before .find .ensures σ h ok) ∙ c .before .e .given .1) h
+returns c = λ σ h ok. refused-expired σ _ _ _ (sym (c .before .before .before .find .ensures σ h ok) ∙ c .before .e .given .1) h
 
 same-length-2 : tie.Need-same-length-2
 same-length-2 c = search needs
 
 returns-2 : tie.Need-returns-2
-returns-2 c = λ σ h ok. accepted-lapsed σ (c .before .before .before .before .before .before .before .before .before .before .before .before .before .before .args .time) (c .before .before .before .before .before .before .before .before .before .before .before .before .before .before .args .command) (c .before .before .before .before .before .before .before .before .before .before .before .before .before .before .args .value .now) (sym (c .before .before .before .before .before .before .before .before .before .before .find .ensures σ h ok) ∙ c .before .before .before .before .before .before .before .before .enum-told .given .1) (c .before .before .still .ensures (expire (c .before .before .before .before .before .before .before .before .before .before .before .before .before .before .args .time) σ) (c .before .before .before .before .before .before .sweep .ensures σ h ok) (expire-sound σ (c .before .before .before .before .before .before .before .before .before .before .before .before .before .before .args .time) ok))
+returns-2 c = λ σ h ok. accepted-expired σ _ _ _ (sym (c .before .before .before .before .before .before .before .before .before .before .find .ensures σ h ok) ∙ c .before .before .before .before .before .before .before .before .enum-told .given .1) (c .before .before .still .ensures _ (c .before .before .before .before .before .before .sweep .ensures σ h ok) (expire-sound σ _ ok))
 
 pub lapsing-spec : {M : Type 1} → statement M
 lapsing-spec =

@@ -1,7 +1,7 @@
 -- Where nothing lapses expiry changes nothing.
 use mathlib.Core.Path.{sym, _∙_}
 use Rattle.sweep.proofs.Lapsing.{nothing-lapses}
-use Rattle.cache.proofs.Taken.{nothing-lapsed}
+use Rattle.cache.proofs.Taken.{step-by-acted}
 use borrow.Author.Needs.{needs}
 use Rattle.cache.proofs.settle.Statement.{statement}
 use Rattle.cache.proofs.settle.Tie as tie
@@ -25,7 +25,7 @@ same-length-2 : tie.Need-same-length-2
 same-length-2 c = search needs
 
 returns-2 : tie.Need-returns-2
-returns-2 c = λ σ h ok. nothing-lapsed σ (c .before .before .before .before .before .before .before .before .before .args .time) (c .before .before .before .before .before .before .before .before .before .args .command) (c .before .before .before .before .before .before .before .before .before .args .value .now) (nothing-lapses (c .before .before .before .before .before .before .before .before .before .args .time) σ (sym (c .before .before .before .before .before .lapses .ensures σ h) ∙ c .before .before .before .before .if1 .left)) (c .before .before .still .ensures σ h ok)
+returns-2 c = λ σ h ok. step-by-acted σ _ _ _ (nothing-lapses _ σ (sym (c .before .before .before .before .before .lapses .ensures σ h) ∙ c .before .before .before .before .if1 .left)) (c .before .before .still .ensures σ h ok)
 
 pub settle-spec : {M : Type 1} → statement M
 settle-spec =

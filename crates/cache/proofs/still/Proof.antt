@@ -1,6 +1,6 @@
 -- The clock is tested first; then the command decides, and an accepted one moves the clock.
 use mathlib.Core.Path.{sym, _∙_}
-use Rattle.cache.proofs.Taken.{before-clock, past-time, refused-still, accepted-still}
+use Rattle.cache.proofs.Taken.{acted-before-clock, acted-past-time, refused-still, accepted-still}
 use borrow.Author.Needs.{needs}
 use Rattle.cache.proofs.still.Statement.{statement}
 use Rattle.cache.proofs.still.Tie as tie
@@ -12,13 +12,13 @@ same-length : tie.Need-same-length
 same-length c = search needs
 
 returns : tie.Need-returns
-returns c = λ σ h ok. before-clock σ (c .before .before .before .before .before .args .time) (c .before .before .before .before .before .args .command) (c .before .before .before .before .before .args .value .now) (rw (← c .before .clock .ensures σ h) (c .if1 .taken)) h
+returns c = λ σ h ok. acted-before-clock σ _ _ _ (rw (← c .before .clock .ensures σ h) (c .if1 .taken)) h
 
 same-length-2 : tie.Need-same-length-2
 same-length-2 c = search needs
 
 returns-2 : tie.Need-returns-2
-returns-2 c = λ σ h ok. past-time σ (c .before .before .before .before .before .before .args .time) (c .before .before .before .before .before .before .args .command) (c .before .before .before .before .before .before .args .value .now) (c .if2 .taken) h
+returns-2 c = λ σ h ok. acted-past-time σ _ _ _ (c .if2 .taken) h
 
 act-requires : tie.Need-act-requires
 act-requires c κs = search needs
@@ -30,7 +30,7 @@ same-length-3 : tie.Need-same-length-3
 same-length-3 c = search needs
 
 returns-3 : tie.Need-returns-3
-returns-3 c = λ σ h ok. refused-still σ (c .before .before .before .before .before .before .before .before .before .before .before .before .args .time) (c .before .before .before .before .before .before .before .before .before .before .before .before .args .command) (c .before .before .before .before .before .before .before .before .before .before .before .before .args .value .now) (rw (← c .before .before .before .before .before .before .before .before .clock .ensures σ h) (c .before .before .before .before .before .before .before .if1 .left)) (c .before .before .before .before .before .before .if2 .left) (sym (c .before .is-refused .ensures) ∙ c .if3 .taken) (c .before .before .before .before .act .ensures σ h ok)
+returns-3 c = λ σ h ok. refused-still σ _ _ _ (rw (← c .before .before .before .before .before .before .before .before .clock .ensures σ h) (c .before .before .before .before .before .before .before .if1 .left)) (c .before .before .before .before .before .before .if2 .left) (sym (c .before .is-refused .ensures) ∙ c .if3 .taken) (c .before .before .before .before .act .ensures σ h ok)
 
 store-clock-requires : tie.Need-store-clock-requires
 store-clock-requires c κs = search needs
@@ -39,7 +39,12 @@ same-length-4 : tie.Need-same-length-4
 same-length-4 c = search needs
 
 returns-4 : tie.Need-returns-4
-returns-4 c = λ σ h ok. let g = c .before .before .before .before .before .before .before .before .act .ensures σ h ok in accepted-still σ (c .before .before .before .before .before .before .before .before .before .before .before .before .before .before .before .before .args .time) (c .before .before .before .before .before .before .before .before .before .before .before .before .before .before .before .before .args .command) (c .before .before .before .before .before .before .before .before .before .before .before .before .before .before .before .before .args .value .now) (rw (← c .before .before .before .before .before .before .before .before .before .before .before .before .clock .ensures σ h) (c .before .before .before .before .before .before .before .before .before .before .before .if1 .left)) (c .before .before .before .before .before .before .before .before .before .before .if2 .left) (sym (c .before .before .before .before .before .is-refused .ensures) ∙ c .before .before .before .before .if3 .left) g (c .before .before .store-clock .ensures _ (g .holds))
+returns-4 c =
+    λ σ h ok.
+    let g = c .before .before .before .before .before .before .before .before .act .ensures σ h ok in
+    let accepted = sym (c .before .before .before .before .before .is-refused .ensures) ∙ c .before .before .before .before .if3 .left in
+    accepted-still σ _ _ _ (rw (← c .before .before .before .before .before .before .before .before .before .before .before .before .clock .ensures σ h) (c .before .before .before .before .before .before .before .before .before .before .before .if1 .left)) (c .before .before .before .before .before .before .before .before .before .before .if2 .left)
+    accepted g (c .before .before .store-clock .ensures _ (g .holds))
 
 pub still-spec : {M : Type 1} → statement M
 still-spec =

@@ -1,8 +1,8 @@
 -- Nobody left is NO SESSION; whoever is left finds what he finds on the state as it is.
-use mathlib.Core.Path.{sym, ap, _∙_}
-use Rattle.machine.specs.State.{sessionOf}
+use mathlib.Core.Path.{sym, _∙_}
 use Rattle.machine.specs.Expiry.{expire}
-use Rattle.refusals.proofs.Lefts.{left-is, left-nobody, refusalIn, left-stages}
+use Rattle.machine.proofs.FirstRefusal.{staging-not-live}
+use Rattle.refusals.proofs.Lefts.{meets, left-is, left-nobody, left-stages}
 use borrow.Author.Needs.{needs}
 use Rattle.refusals.proofs.staging.Statement.{statement}
 use Rattle.refusals.proofs.staging.Tie as tie
@@ -14,7 +14,9 @@ enum-told : tie.Need-enum-told
 enum-told c = search needs
 
 returns : tie.Need-returns
-returns c = λ σ h ok. rw (left-nobody (sessionOf (expire (c .before .before .before .before .args .time) σ) (c .before .before .before .before .args .session)) (sym (c .before .before .session .ensures σ h ok) ∙ c .enum-told .given .1))
+returns c =
+    let a = c .before .before .before .before .args in
+    λ σ h ok. meets (staging-not-live (expire (a .time) σ) (a .session) (a .step) (a .k) (a .kind) (left-nobody _ (sym (c .before .before .session .ensures σ h ok) ∙ c .enum-told .given .1)))
 
 enum-told-2 : tie.Need-enum-told-2
 enum-told-2 c = search needs
@@ -32,13 +34,13 @@ enum-told-4 : tie.Need-enum-told-4
 enum-told-4 c = search needs
 
 returns-2 : tie.Need-returns-2
-returns-2 c = λ σ h ok. sym (left-stages σ ok (c .before .before .before .before .before .before .before .before .args .time) (c .before .before .before .before .before .before .before .before .args .session) _ (left-is (sessionOf (expire (c .before .before .before .before .before .before .before .before .args .time) σ) (c .before .before .before .before .before .before .before .before .args .session)) _ (sym (c .before .before .before .before .before .before .session .ensures σ h ok) ∙ c .before .before .before .before .enum-told2 .given .1)) (c .before .before .before .before .before .before .before .before .args .step) (c .before .before .before .before .before .before .before .before .args .k) (c .before .before .before .before .before .before .before .before .args .kind) ∙ ap refusalIn (sym (c .before .before .before .find .ensures .0 σ h) ∙ c .before .e .given .1))
+returns-2 c = λ σ h ok. left-stages _ ok _ _ _ (left-is _ _ (sym (c .before .before .before .before .before .before .session .ensures σ h ok) ∙ c .before .before .before .before .enum-told2 .given .1)) _ _ _ (sym (c .before .before .before .find .ensures .0 σ h) ∙ c .before .e .given .1)
 
 returns-3 : tie.Need-returns-3
-returns-3 c = λ σ h ok. sym (left-stages σ ok (c .before .before .before .before .before .before .before .args .time) (c .before .before .before .before .before .before .before .args .session) _ (left-is (sessionOf (expire (c .before .before .before .before .before .before .before .args .time) σ) (c .before .before .before .before .before .before .before .args .session)) _ (sym (c .before .before .before .before .before .session .ensures σ h ok) ∙ c .before .before .before .enum-told2 .given .1)) (c .before .before .before .before .before .before .before .args .step) (c .before .before .before .before .before .before .before .args .k) (c .before .before .before .before .before .before .before .args .kind) ∙ ap refusalIn (sym (c .before .before .find .ensures .0 σ h) ∙ c .enum-told3 .given .1))
+returns-3 c = λ σ h ok. left-stages _ ok _ _ _ (left-is _ _ (sym (c .before .before .before .before .before .session .ensures σ h ok) ∙ c .before .before .before .enum-told2 .given .1)) _ _ _ (sym (c .before .before .find .ensures .0 σ h) ∙ c .enum-told3 .given .1)
 
 returns-4 : tie.Need-returns-4
-returns-4 c = λ σ h ok. sym (left-stages σ ok (c .before .before .before .before .before .before .before .args .time) (c .before .before .before .before .before .before .before .args .session) _ (left-is (sessionOf (expire (c .before .before .before .before .before .before .before .args .time) σ) (c .before .before .before .before .before .before .before .args .session)) _ (sym (c .before .before .before .before .before .session .ensures σ h ok) ∙ c .before .before .before .enum-told2 .given .1)) (c .before .before .before .before .before .before .before .args .step) (c .before .before .before .before .before .before .before .args .k) (c .before .before .before .before .before .before .before .args .kind) ∙ ap refusalIn (sym (c .before .before .find .ensures .0 σ h) ∙ c .enum-told4 .given .1))
+returns-4 c = λ σ h ok. left-stages _ ok _ _ _ (left-is _ _ (sym (c .before .before .before .before .before .session .ensures σ h ok) ∙ c .before .before .before .enum-told2 .given .1)) _ _ _ (sym (c .before .before .find .ensures .0 σ h) ∙ c .enum-told4 .given .1)
 
 pub staging-spec : {M : Type 1} → statement M
 staging-spec =

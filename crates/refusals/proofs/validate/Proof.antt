@@ -1,18 +1,13 @@
 -- Whoever is left validates by himself, and only a clash is a refusal.
-use mathlib.Core.Path.{sym, ap, _∙_}
-use Rattle.refusals.proofs.Lefts.{left-is, left-nobody, clashIn, validates}
-use Rattle.machine.specs.State.{sessionOf}
-use Rattle.machine.specs.Expiry.{expire}
-use Rattle.machine.specs.Refusals.{refusals}
-use borrow.Author.Tests.{lt-ltb, le-ltb}
-use Rattle.machine.specs.Sizes.{stepMax}
+use mathlib.Core.Path.{sym, _∙_}
+use Rattle.machine.proofs.FirstRefusal.{validate-steps, validate-not-live}
+use Rattle.refusals.proofs.Lefts.{left-is, left-nobody, meets, validates}
 use borrow.Author.Needs.{needs}
 use Rattle.refusals.proofs.validate.Statement.{statement}
 use Rattle.refusals.proofs.validate.Tie as tie
 
 returns : tie.Need-returns
-unfolding refusals
-returns c = λ σ h ok. rw (lt-ltb stepMax (c .before .before .args .count) (c .if1 .taken))
+returns c = λ σ h ok. meets (validate-steps _ _ _ _ (c .if1 .taken))
 
 session-requires : tie.Need-session-requires
 session-requires c κs = search needs
@@ -24,8 +19,7 @@ enum-told : tie.Need-enum-told
 enum-told c = search needs
 
 returns-2 : tie.Need-returns-2
-unfolding refusals
-returns-2 c = λ σ h ok. rw (le-ltb stepMax (c .before .before .before .before .before .args .count) (c .before .before .before .if1 .left), left-nobody (sessionOf (expire (c .before .before .before .before .before .args .time) σ) (c .before .before .before .before .before .args .session)) (sym (c .before .before .session .ensures σ h ok) ∙ c .enum-told .given .1))
+returns-2 c = λ σ h ok. meets (validate-not-live _ _ _ _ (c .before .before .before .if1 .left) (left-nobody _ (sym (c .before .before .session .ensures σ h ok) ∙ c .enum-told .given .1)))
 
 validate-requires : tie.Need-validate-requires
 validate-requires c κs = search needs
@@ -40,13 +34,13 @@ enum-told-4 : tie.Need-enum-told-4
 enum-told-4 c = search needs
 
 returns-3 : tie.Need-returns-3
-returns-3 c = λ σ h ok. sym (validates (expire (c .before .before .before .before .before .before .before .before .before .args .time) σ) (c .before .before .before .before .before .before .before .before .before .args .session) (c .before .before .before .before .before .before .before .before .before .args .count) (c .before .before .before .before .x .given .0 .0) (left-is (sessionOf (expire (c .before .before .before .before .before .before .before .before .before .args .time) σ) (c .before .before .before .before .before .before .before .before .before .args .session)) (c .before .before .before .before .x .given .0 .0) (sym (c .before .before .before .before .before .before .session .ensures σ h ok) ∙ c .before .before .before .before .x .given .1)) (c .before .before .before .before .before .before .before .if1 .left) ∙ ap clashIn (sym (c .before .before .validate .ensures) ∙ c .enum-told2 .given .1))
+returns-3 c = λ σ h ok. validates _ _ _ _ (left-is _ _ (sym (c .before .before .before .before .before .before .session .ensures σ h ok) ∙ c .before .before .before .before .x .given .1)) (c .before .before .before .before .before .before .before .if1 .left) (sym (c .before .before .validate .ensures) ∙ c .enum-told2 .given .1)
 
 returns-4 : tie.Need-returns-4
-returns-4 c = λ σ h ok. sym (validates (expire (c .before .before .before .before .before .before .before .before .before .args .time) σ) (c .before .before .before .before .before .before .before .before .before .args .session) (c .before .before .before .before .before .before .before .before .before .args .count) (c .before .before .before .before .x .given .0 .0) (left-is (sessionOf (expire (c .before .before .before .before .before .before .before .before .before .args .time) σ) (c .before .before .before .before .before .before .before .before .before .args .session)) (c .before .before .before .before .x .given .0 .0) (sym (c .before .before .before .before .before .before .session .ensures σ h ok) ∙ c .before .before .before .before .x .given .1)) (c .before .before .before .before .before .before .before .if1 .left) ∙ ap clashIn (sym (c .before .before .validate .ensures) ∙ c .enum-told3 .given .1))
+returns-4 c = λ σ h ok. validates _ _ _ _ (left-is _ _ (sym (c .before .before .before .before .before .before .session .ensures σ h ok) ∙ c .before .before .before .before .x .given .1)) (c .before .before .before .before .before .before .before .if1 .left) (sym (c .before .before .validate .ensures) ∙ c .enum-told3 .given .1)
 
 returns-5 : tie.Need-returns-5
-returns-5 c = λ σ h ok. sym (validates (expire (c .before .before .before .before .before .before .before .before .before .args .time) σ) (c .before .before .before .before .before .before .before .before .before .args .session) (c .before .before .before .before .before .before .before .before .before .args .count) (c .before .before .before .before .x .given .0 .0) (left-is (sessionOf (expire (c .before .before .before .before .before .before .before .before .before .args .time) σ) (c .before .before .before .before .before .before .before .before .before .args .session)) (c .before .before .before .before .x .given .0 .0) (sym (c .before .before .before .before .before .before .session .ensures σ h ok) ∙ c .before .before .before .before .x .given .1)) (c .before .before .before .before .before .before .before .if1 .left) ∙ ap clashIn (sym (c .before .before .validate .ensures) ∙ c .enum-told4 .given .1))
+returns-5 c = λ σ h ok. validates _ _ _ _ (left-is _ _ (sym (c .before .before .before .before .before .before .session .ensures σ h ok) ∙ c .before .before .before .before .x .given .1)) (c .before .before .before .before .before .before .before .if1 .left) (sym (c .before .before .validate .ensures) ∙ c .enum-told4 .given .1)
 
 pub validate-spec : {M : Type 1} → statement M
 validate-spec =
