@@ -15,7 +15,7 @@ abbrev pub leaseUntil : Option Lease → ℕ
 leaseUntil none = 0
 leaseUntil (some l) = l .until
 
--- a row: its session, its key, what is staged (0 nothing, 1 a value, 2 DROP) and the length of a staged value
+-- a row: its session, its key, the mark of what is staged (0 nothing) and the length of a staged value
 abbrev pub rowSession : Row → ℕ
 rowSession noRow = 0
 rowSession (row n k d u) = n
@@ -24,10 +24,16 @@ abbrev pub rowKey : Row → ℕ
 rowKey noRow = 0
 rowKey (row n k d u) = k
 
+abbrev pub VALUED : ℕ
+VALUED = 1
+
+abbrev pub DROPPED : ℕ
+DROPPED = 2
+
 abbrev pub stagedMark : Staged → ℕ
 stagedMark nothing = 0
-stagedMark (staged v) = 1
-stagedMark DROP = 2
+stagedMark (staged v) = VALUED
+stagedMark DROP = DROPPED
 
 abbrev pub stagedLength : Staged → ℕ
 stagedLength nothing = 0
