@@ -2,7 +2,6 @@
 use mathlib.Core.Path.{_≡_, refl, sym, _∙_}
 use mathlib.Core.Bool.{Bool, true, false}
 use mathlib.Core.List.{List, [], _∷_, _++_, append-assoc, append-nil}
-use mathlib.Core.Option.{none, some}
 use Prim.Native.Nat.{ℕ, _+_, _-_, _≤_, _<_}
 use native.Mathlib.Numerals.{add-one}
 use native.Mathlib.Omega.{arith}
@@ -14,8 +13,6 @@ use Rattle.lent.specs.Bytes.{win}
 use Rattle.lent.specs.Tables.{if_then_else_}
 use Rattle.lent.specs.Text.{space, onto}
 use Rattle.lent.proofs.Splice.{win-to-none, win-to-more}
-use Rattle.counts.specs.Count.{readCount}
-use Rattle.counts.specs.declared.Count.{Count}
 use Rattle.lines.specs.Fields.{Field, fields, fieldsAt, Ends}
 
 -- w before the first field

@@ -12,9 +12,10 @@ use borrow.Author.Tests.{eqb-true, eqb-false, eq-eqb, leb-false}
 use lib.ListN.{length, getD, set, replicate}
 use Rattle.lent.specs.Tables.{if_then_else_}
 use Rattle.lent.proofs.Choices.{case-of, clash, zero-one}
+use Rattle.machine.specs.Sizes.{keyCount, sessionCount, rowCount}
 use Rattle.machine.specs.Tables.{place, find, any, first, mem}
 use Rattle.machine.specs.Session.{dueLife}
-use Rattle.machine.specs.State.{Value, Lease, Key, blank, Slot, noSession, session, Staged, nothing, staged, DROP, Row, noRow, row, on, free, freeRow, ofOn, numbered}
+use Rattle.machine.specs.State.{Value, Lease, Key, blank, Slot, noSession, session, Staged, nothing, staged, DROP, Row, noRow, row, fresh, on, free, freeRow, ofOn, numbered, cached, leaseOn, sessionAt, rowAt}
 use Rattle.machine.specs.Expiry.{freeIfOf, freeSession, setValue, setLease, settle, those, unlapsed}
 use Rattle.machine.specs.Effects.{toCache}
 use Rattle.machine.specs.declared.Life.{Life}
@@ -119,6 +120,24 @@ pub getD-same : {A : Type 0} (n i : ℕ) (a : A) → getD (replicate n a) i a �
 getD-same zero i a = refl
 getD-same (suc n) zero a = refl
 getD-same (suc n) (suc i) a = getD-same n i a
+
+-- so nothing stands in the fresh state
+module _ {A : Type 0} (readLife writeLife : ℕ) where
+  pub fresh-value : (k : ℕ) (v : Value) → cached (fresh readLife writeLife) k ≡ some v → A
+  unfolding fresh
+  fresh-value k v e = no-some v (sym (ap (λ (x : Key). x .value) (getD-same keyCount k blank)) ∙ e)
+
+  pub fresh-lease : (k : ℕ) (l : Lease) → leaseOn (fresh readLife writeLife) k ≡ some l → A
+  unfolding fresh
+  fresh-lease k l e = no-some l (sym (ap (λ (x : Key). x .lease) (getD-same keyCount k blank)) ∙ e)
+
+  pub fresh-session : (i : ℕ) (x : Session) → sessionAt (fresh readLife writeLife) i ≡ session x → A
+  unfolding fresh
+  fresh-session i x e = no-session x (sym (getD-same sessionCount i noSession) ∙ e)
+
+  pub fresh-row : (i n k d : ℕ) (v : Staged) → rowAt (fresh readLife writeLife) i ≡ row n k d v → A
+  unfolding fresh
+  fresh-row i n k d v e = no-row n k d v (sym (getD-same rowCount i noRow) ∙ e)
 
 -- a list of one number
 pub mem-one : (m n : ℕ) → mem m (n ∷ []) ≡ true → m ≡ n

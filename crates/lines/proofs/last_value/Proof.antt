@@ -40,16 +40,20 @@ returns-3 : tie.Need-returns-3
 returns-3 c =
     let a = c .before .before .before .before .before .before .before .before .before .args in
     let field-end = c .before .before .before .before .before .field-end in
-    rw (value-last (a .most) (a .line .now) (a .at) (field-end .result) (field-end .ensures) (omega arith), up-to-not (a .most) _ (c .before .before .length .result)
-    (c .before .before .length .ensures) (c .enum-told .given .1)) (refl, sym (splice-none _ _))
+    rw (
+      value-last (a .most) (a .line .now) (a .at) (field-end .result) (field-end .ensures) (omega arith),
+      up-to-not (a .most) _ (c .before .before .length .result) (c .before .before .length .ensures) (c .enum-told .given .1),
+    ) (refl, sym (splice-none _ _))
 
 returns-4 : tie.Need-returns-4
 returns-4 c =
     let a = c .before .before .before .before .before .before .before .before .before .before .before .args in
     let field-end = c .before .before .before .before .before .before .before .field-end in
     let length = c .before .before .before .before .length in
-    rw (value-last (a .most) (a .line .now) (a .at) (field-end .result) (field-end .ensures) (omega arith), up-to-long (a .most) _ (length .result) (length .ensures) _
-    (c .before .before .n .given .1) (search needs)) (refl, sym (splice-none _ _))
+    rw (
+      value-last (a .most) (a .line .now) (a .at) (field-end .result) (field-end .ensures) (omega arith),
+      up-to-long (a .most) _ (length .result) (length .ensures) _ (c .before .before .n .given .1) (search needs),
+    ) (refl, sym (splice-none _ _))
 
 sub-read : tie.Need-sub-read
 sub-read c = search needs
@@ -71,8 +75,10 @@ returns-5 c =
     let a = c .before .before .before .before .before .before .before .before .before .before .before .before .before .before .before .before .args in
     let field-end = c .before .before .before .before .before .before .before .before .before .before .before .before .field-end in
     let length = c .before .before .before .before .before .before .before .before .before .length in
-    rw (value-last (a .most) (a .line .now) (a .at) (field-end .result) (field-end .ensures) (omega arith), up-to-all (a .most) _ (length .result) (length .ensures) _
-    (c .before .before .before .before .before .before .before .n .given .1) (search needs)) (c .before .before .read .ensures)
+    rw (
+      value-last (a .most) (a .line .now) (a .at) (field-end .result) (field-end .ensures) (omega arith),
+      up-to-all (a .most) _ (length .result) (length .ensures) _ (c .before .before .before .before .before .before .before .n .given .1) (search needs),
+    ) (c .before .before .read .ensures)
 
 pub last-value-spec : {M : Type 1} → statement M
 last-value-spec =

@@ -55,8 +55,11 @@ unfolding writeLine
 returns-4 c =
     let session = c .before .before .before .before .before .before .before .before .before .session .given in
     let last-value = c .before .before .before .before .before .last-value in
-    rw (c .before .before .before .before .before .before .before .before .before .before .before .numbers .ensures, session .1, le-ltb keyMax (session .0 .1 .0)
-    (search needs)) (gives-value
+    rw (
+      c .before .before .before .before .before .before .before .before .before .before .before .numbers .ensures,
+      session .1,
+      le-ltb keyMax (session .0 .1 .0) (search needs),
+    ) (gives-value
     (lastValue valueMax (fieldsAt (c .before .before .before .before .before .before .before .before .before .before .before .before .before .before .args .line .now) (session .0 .1 .1 .1 .1 .0)))
     (λ n. Line.Write (session .0 .0) (session .0 .1 .0) n) (last-value .result) _ _ (last-value .ensures .0) (last-value .ensures .1) (c .before .length .given .0 .0)
     (c .before .length .given .1))
