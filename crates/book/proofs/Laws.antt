@@ -1,6 +1,6 @@
 -- What is read of a book after it was written. Each reader looks at one stretch of it and each writer is a splice of one stretch, so what lies apart
 -- from the splice is read as before, and what was written is read back. Readers stand first, then each writer.
-use Prim.Native.Nat.{ℕ, zero, suc, _+_, _*_, _%_, _^_, _≤_, _<_, min}
+use Prim.Native.Nat.{ℕ, suc, _+_, _*_, _%_, _^_, _≤_, _<_, min}
 use mathlib.Core.Path.{_≡_, refl, sym, ap, _∙_}
 use mathlib.Core.Logic.{_⊎_, inl, inr}
 use mathlib.Core.Bool.{Bool, true, false}
@@ -18,7 +18,8 @@ use Rattle.lent.proofs.Numbers.{le32-bytes, le32-win}
 use Rattle.lent.proofs.Splice.{getD-splice-after, getD-splice-before, getD-splice-in, length-splice, win-splice, win-splice-after, win-splice-before, win-splice-in}
 use Rattle.machine.specs.Sizes.{keyCount, sessionCount, valueMax}
 use Rattle.machine.specs.State.{Value}
-use Rattle.book.specs.Book.{bookSize, startedAt, linesAt, brokenAt, noteWidth, marksFrom, markWidth, noteAt, started, withStarted, linesIn, brokenIn, note, withNote, registered, granted, withRegistered, withGranted, mark, withMark, counted}
+use Rattle.machine.proofs.Views.{getD-same}
+use Rattle.book.specs.Book.{bookSize, startedAt, linesAt, brokenAt, notesFrom, noteWidth, marksFrom, markWidth, noteAt, started, withStarted, linesIn, brokenIn, note, withNote, registered, granted, withRegistered, withGranted, mark, withMark, counted}
 
 -- ---- what lies apart from a splice
 
@@ -62,22 +63,21 @@ module _ (b : List ℕ) (a : ℕ) (x : List ℕ) (f : a + length x ≤ length b)
   unfolding mark
   mark-apart i d = le32-apart b a x f (marksFrom + i * markWidth) markWidth d (marksFrom + i * markWidth) (omega arith) (omega arith)
 
--- what holds of the notes of a book holds of what the register holds, and held at the grants
-registered-is : (b b′ : List ℕ) (k : ℕ) → (k < keyCount → note b′ k ≡ note b k) → registered b′ k ≡ registered b k
-unfolding registered
-registered-is b b′ k h = go (ltb k keyCount) refl
+-- what holds of the notes of a book holds of what the register holds, and held at the grants: the note i of the key k, if it is one
+note-is : (b b′ : List ℕ) (k i : ℕ) → (k < keyCount → note b′ i ≡ note b i) → (if ltb k keyCount then note b′ i else []) ≡ (if ltb k keyCount then note b i else [])
+note-is b b′ k i h = go (ltb k keyCount) refl
   where
-    go : (t : Bool) → ltb k keyCount ≡ t → (if t then note b′ k else []) ≡ (if t then note b k else [])
+    go : (t : Bool) → ltb k keyCount ≡ t → (if t then note b′ i else []) ≡ (if t then note b i else [])
     go true e = h (ltb-true k keyCount e)
     go false e = refl
 
+registered-is : (b b′ : List ℕ) (k : ℕ) → (k < keyCount → note b′ k ≡ note b k) → registered b′ k ≡ registered b k
+unfolding registered
+registered-is b b′ k h = note-is b b′ k k h
+
 granted-is : (b b′ : List ℕ) (k : ℕ) → (k < keyCount → note b′ (keyCount + k) ≡ note b (keyCount + k)) → granted b′ k ≡ granted b k
 unfolding granted
-granted-is b b′ k h = go (ltb k keyCount) refl
-  where
-    go : (t : Bool) → ltb k keyCount ≡ t → (if t then note b′ (keyCount + k) else []) ≡ (if t then note b (keyCount + k) else [])
-    go true e = h (ltb-true k keyCount e)
-    go false e = refl
+granted-is b b′ k h = note-is b b′ k (keyCount + k) h
 
 -- ---- START is noted
 
@@ -134,62 +134,79 @@ module _ (b : List ℕ) (e : length b ≡ bookSize) (i : ℕ) (h : i < keyCount 
   unfolding withNote
   mark-note j = mark-apart b (noteAt i) (length v ∷ v) (omega arith) j (inr (omega arith))
 
--- ---- the register writes the value v to the key k
+-- ---- the note i is written for the key k, if it is one
+
+module _ (b : List ℕ) (e : length b ≡ bookSize) (k i : ℕ) (h : k < keyCount → i < keyCount + keyCount) (v : Value) (l : length v ≤ valueMax) where
+  abbrev noted : List ℕ
+  noted = if ltb k keyCount then withNote b i v else b
+
+  noted-ind : (P : List ℕ → Type 0) → (k < keyCount → P (withNote b i v)) → P b → P noted
+  noted-ind P f g = if-ind P (ltb k keyCount) (λ q. f (ltb-true k keyCount q)) (λ q. g)
+
+  length-noted : length noted ≡ bookSize
+  length-noted = noted-ind (λ x. length x ≡ bookSize) (λ g. length-note b e i (h g) v l) e
+
+  started-noted : started noted ≡ started b
+  started-noted = noted-ind (λ x. started x ≡ started b) (λ g. started-note b e i (h g) v l) refl
+
+  note-unnoted : (j : ℕ) → (k < keyCount → j ≡ i → ⊥) → note noted j ≡ note b j
+  note-unnoted j n = noted-ind (λ x. note x j ≡ note b j) (λ g. note-other b e i (h g) v l j (n g)) refl
+
+  mark-noted : (j : ℕ) → mark noted j ≡ mark b j
+  mark-noted j = noted-ind (λ x. mark x j ≡ mark b j) (λ g. mark-note b e i (h g) v l j) refl
 
 module _ (b : List ℕ) (e : length b ≡ bookSize) (k : ℕ) (v : Value) (l : length v ≤ valueMax) where
-  -- the note, or nothing where k is no key
-  module _ {ℓ} (P : List ℕ → Type ℓ) where
-    at-registered : (k < keyCount → P (withNote b k v)) → P b → P (withRegistered b k v)
-    unfolding withRegistered
-    at-registered f g = if-ind P (ltb k keyCount) (λ q. f (ltb-true k keyCount q)) (λ q. g)
-
-    at-granted : (k < keyCount → P (withNote b (keyCount + k) v)) → P b → P (withGranted b k v)
-    unfolding withGranted
-    at-granted f g = if-ind P (ltb k keyCount) (λ q. f (ltb-true k keyCount q)) (λ q. g)
+  -- ---- the register writes the value v to the key k
 
   pub length-registered : length (withRegistered b k v) ≡ bookSize
-  length-registered = at-registered (λ x. length x ≡ bookSize) (λ h. length-note b e k (omega arith) v l) e
+  unfolding withRegistered
+  length-registered = length-noted b e k k (λ h. omega arith) v l
 
   pub started-registered : started (withRegistered b k v) ≡ started b
-  started-registered = at-registered (λ x. started x ≡ started b) (λ h. started-note b e k (omega arith) v l) refl
+  unfolding withRegistered
+  started-registered = started-noted b e k k (λ h. omega arith) v l
 
   pub registered-same : k < keyCount → registered (withRegistered b k v) k ≡ v
   unfolding registered withRegistered
   registered-same h = rw (lt-ltb k keyCount h) (note-same b e k (omega arith) v l)
 
   pub registered-other : (j : ℕ) → (j ≡ k → ⊥) → registered (withRegistered b k v) j ≡ registered b j
-  registered-other j n =
-      at-registered (λ x. registered x j ≡ registered b j) (λ h. registered-is b (withNote b k v) j (λ g. note-other b e k (omega arith) v l j n)) refl
+  unfolding withRegistered
+  registered-other j n = registered-is b _ j (λ g. note-unnoted b e k k (λ h. omega arith) v l j (λ h. n))
 
   pub granted-registered : (j : ℕ) → granted (withRegistered b k v) j ≡ granted b j
-  granted-registered j =
-      at-registered (λ x. granted x j ≡ granted b j) (λ h. granted-is b (withNote b k v) j (λ g. note-other b e k (omega arith) v l (keyCount + j) (λ q. omega arith))) refl
+  unfolding withRegistered
+  granted-registered j = granted-is b _ j (λ g. note-unnoted b e k k (λ h. omega arith) v l (keyCount + j) (λ h q. omega arith))
 
   pub mark-registered : (i : ℕ) → mark (withRegistered b k v) i ≡ mark b i
-  mark-registered i = at-registered (λ x. mark x i ≡ mark b i) (λ h. mark-note b e k (omega arith) v l i) refl
+  unfolding withRegistered
+  mark-registered = mark-noted b e k k (λ h. omega arith) v l
 
   -- ---- a grant on the key k is noted with the value v
 
   pub length-granted : length (withGranted b k v) ≡ bookSize
-  length-granted = at-granted (λ x. length x ≡ bookSize) (λ h. length-note b e (keyCount + k) (omega arith) v l) e
+  unfolding withGranted
+  length-granted = length-noted b e k (keyCount + k) (λ h. omega arith) v l
 
   pub started-granted : started (withGranted b k v) ≡ started b
-  started-granted = at-granted (λ x. started x ≡ started b) (λ h. started-note b e (keyCount + k) (omega arith) v l) refl
+  unfolding withGranted
+  started-granted = started-noted b e k (keyCount + k) (λ h. omega arith) v l
 
   pub granted-same : k < keyCount → granted (withGranted b k v) k ≡ v
   unfolding granted withGranted
   granted-same h = rw (lt-ltb k keyCount h) (note-same b e (keyCount + k) (omega arith) v l)
 
   pub granted-other : (j : ℕ) → (j ≡ k → ⊥) → granted (withGranted b k v) j ≡ granted b j
-  granted-other j n =
-      at-granted (λ x. granted x j ≡ granted b j) (λ h. granted-is b (withNote b (keyCount + k) v) j (λ g. note-other b e (keyCount + k) (omega arith) v l (keyCount + j) (λ q. n (omega arith)))) refl
+  unfolding withGranted
+  granted-other j n = granted-is b _ j (λ g. note-unnoted b e k (keyCount + k) (λ h. omega arith) v l (keyCount + j) (λ h q. n (omega arith)))
 
   pub registered-granted : (j : ℕ) → registered (withGranted b k v) j ≡ registered b j
-  registered-granted j =
-      at-granted (λ x. registered x j ≡ registered b j) (λ h. registered-is b (withNote b (keyCount + k) v) j (λ g. note-other b e (keyCount + k) (omega arith) v l j (λ q. omega arith))) refl
+  unfolding withGranted
+  registered-granted j = registered-is b _ j (λ g. note-unnoted b e k (keyCount + k) (λ h. omega arith) v l j (λ h q. omega arith))
 
   pub mark-granted : (i : ℕ) → mark (withGranted b k v) i ≡ mark b i
-  mark-granted i = at-granted (λ x. mark x i ≡ mark b i) (λ h. mark-note b e (keyCount + k) (omega arith) v l i) refl
+  unfolding withGranted
+  mark-granted = mark-noted b e k (keyCount + k) (λ h. omega arith) v l
 
 -- ---- a place of the sessions' table is marked
 
@@ -215,15 +232,15 @@ module _ (b : List ℕ) (e : length b ≡ bookSize) (i : ℕ) (h : i < sessionCo
   pub mark-same : n < 2 ^ 32 → mark (withMark b i n) i ≡ n
   unfolding mark withMark
   mark-same g =
-      sym (rw add-zero at (le32-win (splice b (marksFrom + i * markWidth) (bytes32 n)) (marksFrom + i * markWidth) 4 0 (omega arith)))
-      ∙ ap (λ (s : List ℕ). le32 s 0) (win-splice b (marksFrom + i * markWidth) (bytes32 n) 4 refl (omega arith))
+      sym (rw add-zero at (le32-win (splice b (marksFrom + i * markWidth) (bytes32 n)) (marksFrom + i * markWidth) markWidth 0 (omega arith)))
+      ∙ ap (λ (s : List ℕ). le32 s 0) (win-splice b (marksFrom + i * markWidth) (bytes32 n) markWidth refl (omega arith))
       ∙ le32-bytes n g
 
   pub mark-other : (j : ℕ) → (j ≡ i → ⊥) → mark (withMark b i n) j ≡ mark b j
   unfolding withMark
   mark-other j q = mark-apart b (marksFrom + i * markWidth) (bytes32 n) (omega arith) j (go (ltb j i) refl)
     where
-      go : (t : Bool) → ltb j i ≡ t → Apart (marksFrom + j * markWidth) markWidth (marksFrom + i * markWidth) 4
+      go : (t : Bool) → ltb j i ≡ t → Apart (marksFrom + j * markWidth) markWidth (marksFrom + i * markWidth) markWidth
       go true p = inl (omega (arith, ltb-true j i p))
       go false p = inr (omega (arith, ltb-false j i p, q))
 
@@ -237,8 +254,8 @@ module _ (b : List ℕ) (e : length b ≡ bookSize) (rule : ℕ) where
   length-more : length more ≡ bookSize
   length-more = length-splice b linesAt (bytes64 ((linesIn b + 1) % 2 ^ 64)) (omega arith) ∙ e
 
-  -- it is one splice within the two counts, or two
-  kept-counted : {A : Type 0} (r : List ℕ → A) → ((s : List ℕ) (a : ℕ) (x : List ℕ) → length s ≡ bookSize → linesAt ≤ a → a + length x ≤ brokenAt + 8 → r (splice s a x) ≡ r s) → r (counted b rule) ≡ r b
+  -- it is one splice before the notes, or two
+  kept-counted : {A : Type 0} (r : List ℕ → A) → ((s : List ℕ) (a : ℕ) (x : List ℕ) → length s ≡ bookSize → linesAt ≤ a → a + length x ≤ notesFrom → r (splice s a x) ≡ r s) → r (counted b rule) ≡ r b
   unfolding counted
   kept-counted r f =
       let one : r more ≡ r b = f b linesAt (bytes64 ((linesIn b + 1) % 2 ^ 64)) e (omega arith) (omega arith) in
@@ -277,19 +294,14 @@ registered-short b k = if-ind (λ (x : Value). length x ≤ valueMax) (ltb k key
 
 -- ---- a new book
 
-getD-zeros : (n k : ℕ) → getD (zeros n) k 0 ≡ 0
-getD-zeros zero k = refl
-getD-zeros (suc n) zero = refl
-getD-zeros (suc n) (suc k) = getD-zeros n k
-
 module _ (n : ℕ) where
   pub started-new : started (zeros n) ≡ false
   unfolding started
-  started-new = rw (getD-zeros n startedAt)
+  started-new = rw (getD-same {A = ℕ} n startedAt 0)
 
   note-new : (i : ℕ) → note (zeros n) i ≡ []
   unfolding note win
-  note-new i = rw (getD-zeros n (noteAt i))
+  note-new i = rw (getD-same {A = ℕ} n (noteAt i) 0)
 
   pub registered-new : (k : ℕ) → registered (zeros n) k ≡ []
   unfolding registered
@@ -297,4 +309,4 @@ module _ (n : ℕ) where
 
   pub mark-new : (i : ℕ) → mark (zeros n) i ≡ 0
   unfolding mark
-  mark-new i = simp getD-zeros
+  mark-new i = simp getD-same

@@ -1,11 +1,10 @@
 -- A search of a list, entry by entry: one that passes is a hit for the whole, and where none did the whole has none. `any-hit` asks for a
 -- place within the list, not for a default that fails (as `any-at` does), since a list of numbers has the default 0, which may pass.
-use mathlib.Core.Path.{_≡_, refl}
+use mathlib.Core.Path.{_≡_}
 use mathlib.Core.Bool.{Bool, true, false, or-true}
 use mathlib.Core.List.{List, [], _∷_}
 use Prim.Native.Nat.{ℕ, zero, suc, _<_}
 use native.Mathlib.Nat.{le-of-suc-le-suc, not-suc-le-zero}
-use native.Mathlib.Omega.{arith}
 use lib.ListN.{length, getD}
 use Rattle.machine.specs.Tables.{any}
 
@@ -18,7 +17,3 @@ module _ {A : Type 0} (p : A → Bool) (d : A) where
   -- no entry before place i passes
   abbrev pub NoneBelow : List A → ℕ → Type 0
   NoneBelow l i = (j : ℕ) → j < i → p (getD l j d) ≡ false
-
-  pub none-any : (l : List A) → NoneBelow l (length l) → any p l ≡ false
-  none-any [] f = refl
-  none-any (x ∷ l) f = rw (f 0 (omega arith)) (none-any l (λ j h. f (suc j) (omega arith)))

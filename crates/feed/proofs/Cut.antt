@@ -7,7 +7,8 @@ use Prim.Native.Nat.{ℕ}
 use lib.ListN.{length, take}
 use lib.Dec.{eqb}
 use Rattle.lent.specs.Tables.{if_then_else_}
-use Rattle.feed.specs.Lines.{newline, heldMax, onto, linesOf, cutLines}
+use Rattle.lent.specs.Text.{newline, onto}
+use Rattle.feed.specs.Lines.{heldMax, linesOf, cutLines}
 use Rattle.feed.specs.Answers.{Answered, Open, behind, answers, byte, fed, last}
 use Rattle.feed.proofs.Laws.{take-grow}
 
@@ -17,7 +18,6 @@ prefixed [] ls = ls
 prefixed (b ∷ h) ls = onto b (prefixed h ls)
 
 prefixed-cons : (h l : List ℕ) (ls : List (List ℕ)) → prefixed h (l ∷ ls) ≡ (h ++ l) ∷ ls
-unfolding onto
 prefixed-cons [] l ls = refl
 prefixed-cons (b ∷ h) l ls = rw (prefixed-cons h l ls)
 
@@ -26,7 +26,6 @@ prefixed-snoc [] b ls = refl
 prefixed-snoc (a ∷ h) b ls = ap (onto a) (prefixed-snoc h b ls)
 
 prefixed-none : (b : ℕ) (h : List ℕ) → prefixed (b ∷ h) [] ≡ (b ∷ h) ∷ []
-unfolding onto
 prefixed-none b [] = refl
 prefixed-none b (a ∷ h) = ap (onto b) (prefixed-none a h)
 

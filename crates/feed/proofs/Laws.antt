@@ -12,7 +12,8 @@ use lib.Dec.{eqb, leb}
 use borrow.Author.Tests.{leb-true, leb-false}
 use Rattle.lent.specs.Tables.{if_then_else_}
 use Rattle.lent.proofs.Choices.{zero-one}
-use Rattle.feed.specs.Lines.{newline, heldMax}
+use Rattle.lent.specs.Text.{newline}
+use Rattle.feed.specs.Lines.{heldMax}
 use Rattle.feed.specs.Held.{Buffer, taken, lineAfter, pushed, pushedAll}
 use Rattle.feed.specs.declared.Taken.{Taken}
 

@@ -4,7 +4,8 @@ use mathlib.Core.List.{List, [], _∷_, _++_}
 use lib.ListN.{take}
 use lib.Dec.{eqb}
 use Rattle.lent.specs.Tables.{if_then_else_}
-use Rattle.feed.specs.Lines.{newline, heldMax}
+use Rattle.lent.specs.Text.{newline}
+use Rattle.feed.specs.Lines.{heldMax}
 
 -- what stands after an answer, and the answer's text
 pub record Answered (W : Type 0) : Type 0 where

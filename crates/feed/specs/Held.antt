@@ -5,7 +5,8 @@ use mathlib.Core.List.{List, [], _∷_}
 use lib.ListN.{length, set}
 use lib.Dec.{eqb, leb}
 use Rattle.lent.specs.Tables.{if_then_else_}
-use Rattle.feed.specs.Lines.{newline, heldMax}
+use Rattle.lent.specs.Text.{newline}
+use Rattle.feed.specs.Lines.{heldMax}
 use Rattle.feed.specs.declared.Taken.{Taken}
 
 -- there is no place for another byte

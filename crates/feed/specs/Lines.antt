@@ -4,19 +4,11 @@ use mathlib.Core.List.{List, [], _∷_, map}
 use lib.ListN.{take}
 use lib.Dec.{eqb}
 use Rattle.lent.specs.Tables.{if_then_else_}
-
--- the byte that ends a line
-abbrev pub newline : ℕ
-newline = 10
+use Rattle.lent.specs.Text.{newline, onto}
 
 -- the most bytes of a line that are handed on: one more than a line may have, so that a longer one stays too long
 abbrev pub heldMax : ℕ
 heldMax = 201
-
--- b in front of the first line
-unfoldable pub onto : ℕ → List (List ℕ) → List (List ℕ)
-onto b [] = (b ∷ []) ∷ []
-onto b (l ∷ ls) = (b ∷ l) ∷ ls
 
 -- the lines without their newlines; behind the last newline there is one more if it has a byte
 unfoldable pub linesOf : List ℕ → List (List ℕ)

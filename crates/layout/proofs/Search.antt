@@ -12,7 +12,7 @@ use Rattle.lent.specs.Tables.{if_then_else_, first}
 use Rattle.lent.proofs.Walks.{Search, found, nowhere, first-search, first-cong}
 use Rattle.lent.proofs.Choices.{zero-one}
 use Rattle.machine.specs.Tables.{place, find, count}
-use Rattle.layout.specs.Search.{found as foundAt}
+use Rattle.layout.specs.Search.{found as foundAt, Below}
 use Rattle.layout.specs.declared.Found.{Found}
 
 -- ---- what is found
@@ -33,6 +33,9 @@ found-nothing n i e = go (ltb i n) refl (sym (found-cases n i (ltb i n) refl) �
     go : (t : Bool) → ltb i n ≡ t → (if t then Found.At i else Found.Nothing) ≡ Found.Nothing → n ≤ i
     go true q f = zero-one cc
     go false q f = ltb-false i n q
+
+pub found-below : (n i : ℕ) (r : Found) → r ≡ Found.At i → Below n r → i < n
+found-below n i r e h = rw e at h
 
 -- ---- how many pass
 

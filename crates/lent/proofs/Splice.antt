@@ -43,6 +43,16 @@ win-add s a m n = rw (take-add m n (drop a s), drop-drop)
 pub win-more : (s : List ℕ) (a n : ℕ) → a + n < length s → win s a (n + 1) ≡ win s a n ++ (getD s (a + n) 0 ∷ [])
 win-more s a n h = rw (win-add s a n 1, win-one s (a + n) h)
 
+-- from one place to another
+pub win-to-none : (s : List ℕ) (a : ℕ) → win s a (a - a) ≡ []
+win-to-none s a = let z : a - a ≡ 0 = omega arith in rw z (win-none s a)
+
+pub win-to-more : (s : List ℕ) (a e : ℕ) → a ≤ e → e < length s → win s a (e + 1 - a) ≡ win s a (e - a) ++ (getD s e 0 ∷ [])
+win-to-more s a e h l =
+    let n : e + 1 - a ≡ e - a + 1 = omega arith in
+    let p : a + (e - a) ≡ e = omega arith in
+    rw n (win-more s a (e - a) (omega arith) ∙ rw p)
+
 drop-take : (i k : ℕ) (l : List ℕ) → drop i (take (i + k) l) ≡ take k (drop i l)
 drop-take zero k l = rw zero-add
 drop-take (suc i) k [] = rw (suc-add, take-nil)
@@ -177,6 +187,10 @@ getD-splice-after s a x k l h =
 pub win-splice : (s : List ℕ) (a : ℕ) (x : List ℕ) (n : ℕ) → length x ≡ n → a ≤ length s → win (splice s a x) a n ≡ x
 unfolding splice win
 win-splice s a x n e l = rw (drop-at (take a s) _ a (length-take-le a s l), take-at x _ n e)
+
+pub take-splice : (s x : List ℕ) (n : ℕ) → length x ≡ n → take n (splice s 0 x) ≡ x
+unfolding win
+take-splice s x n e = win-splice s 0 x n e (omega arith)
 
 pub win-splice-in : (s : List ℕ) (a : ℕ) (x : List ℕ) (i n : ℕ) → a ≤ length s → i + n ≤ length x → win (splice s a x) (a + i) n ≡ win x i n
 unfolding splice

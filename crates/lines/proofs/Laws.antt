@@ -1,4 +1,4 @@
--- What callers cite of a line that is read, whatever it says: its length is that of its value, which are bytes that fit the buffer; a register write is in range; a command's place is one of the document's list. Each way to read a line ends in one of three forms, and each form has all of this.
+-- What callers cite of a line that is read, whatever it says: its length is that of its value, which are bytes that fit the buffer; a register write is in range. Each way to read a line ends in one of three forms, and each form has all of this.
 use mathlib.Core.Path.{_≡_, refl}
 use mathlib.Core.Bool.{Bool, true, false}
 use mathlib.Core.List.{List, [], _∷_}
@@ -25,15 +25,11 @@ sizeOf (Line.Start r w) = 0
 sizeOf (Line.Write s k n) = n
 sizeOf (Line.Command p t a b c d n) = n
 
--- the number of commands
-abbrev pub commandCount : ℕ
-commandCount = 11
-
 abbrev pub Ranged : Line → Type 0
 Ranged Line.Unreadable = Unit
 Ranged (Line.Start r w) = Unit
 Ranged (Line.Write s k n) = (k ≤ keyMax) × (n ≤ valueMax)
-Ranged (Line.Command p t a b c d n) = (1 ≤ p) × (p ≤ commandCount)
+Ranged (Line.Command p t a b c d n) = Unit
 
 pub record WellRead (x : Read) : Type 0 where
   pub size : sizeOf (x .line) ≡ length (x .value)
@@ -99,36 +95,15 @@ write-fine fs =
     (λ v q. let s = value-fits valueMax v (n .rest) q in
     record { size = refl; room = omega (arith, s .0); bytes = s .1; range = (ltb-false keyMax (n .b) t, s .0) })))
 
-abbrev Placed : Shape → Type 0
-Placed (Shape.Plain p k) = (1 ≤ p) × (p ≤ commandCount)
-Placed (Shape.Valued p k) = (1 ≤ p) × (p ≤ commandCount)
-Placed Shape.Unknown = Unit
-
-shape-placed : (l : ℕ) → Placed (shapeOf l)
-unfolding shapeOf
-shape-placed l =
-    if-ind Placed (eqb l 66) (λ e. (omega arith, omega arith))
-    (λ e. if-ind Placed (eqb l 71) (λ e. (omega arith, omega arith))
-    (λ e. if-ind Placed (eqb l 70) (λ e. (omega arith, omega arith))
-    (λ e. if-ind Placed (eqb l 81) (λ e. (omega arith, omega arith))
-    (λ e. if-ind Placed (eqb l 83) (λ e. (omega arith, omega arith))
-    (λ e. if-ind Placed (eqb l 68) (λ e. (omega arith, omega arith))
-    (λ e. if-ind Placed (eqb l 86) (λ e. (omega arith, omega arith))
-    (λ e. if-ind Placed (eqb l 88) (λ e. (omega arith, omega arith))
-    (λ e. if-ind Placed (eqb l 85) (λ e. (omega arith, omega arith))
-    (λ e. if-ind Placed (eqb l 69) (λ e. (omega arith, omega arith))
-    (λ e. if-ind Placed (eqb l 84) (λ e. (omega arith, omega arith))
-    (λ e. tt)))))))))))
-
-command-fine : (time : ℕ) (s : Shape) (fs : List Field) → Placed s → Fine (commandLine time s fs)
+command-fine : (time : ℕ) (s : Shape) (fs : List Field) → Fine (commandLine time s fs)
 unfolding commandLine
-command-fine time (Shape.Plain place k) fs h =
-    next-fine (numbers k fs) _ (λ n e. at-end-fine (n .rest) _ (unvalued-sound (Line.Command place time (n .a) (n .b) (n .c) (n .d) 0) refl h))
-command-fine time (Shape.Valued place k) fs h =
+command-fine time (Shape.Plain place k) fs =
+    next-fine (numbers k fs) _ (λ n e. at-end-fine (n .rest) _ (unvalued-sound (Line.Command place time (n .a) (n .b) (n .c) (n .d) 0) refl tt))
+command-fine time (Shape.Valued place k) fs =
     next-fine (numbers k fs) _
     (λ n e. next-fine (lastValue valueRoom (n .rest)) _
-    (λ v q. let s = value-fits valueRoom v (n .rest) q in record { size = refl; room = s .0; bytes = s .1; range = h }))
-command-fine time Shape.Unknown fs h = unreadable-sound
+    (λ v q. let s = value-fits valueRoom v (n .rest) q in record { size = refl; room = s .0; bytes = s .1; range = tt }))
+command-fine time Shape.Unknown fs = unreadable-sound
 
 timed-fine : (fs : List Field) → Fine (timedLine fs)
 unfolding timedLine
@@ -136,7 +111,7 @@ timed-fine fs =
     next-fine (number true fs) _
     (λ t e. next-fine (letter (t .rest)) _
     (λ l q. if-ind Fine (eqb (l .letter) writeLetter) (λ p. write-fine (l .rest))
-    (λ p. command-fine (t .number) (shapeOf (l .letter)) (l .rest) (shape-placed (l .letter)))))
+    (λ p. command-fine (t .number) (shapeOf (l .letter)) (l .rest))))
 
 by-fine : (o : Option Lettered) (fs : List Field) → Fine (lineBy o fs)
 by-fine none fs = timed-fine fs

@@ -5,28 +5,29 @@ use mathlib.Core.List.{List, [], _∷_}
 use mathlib.Core.Option.{Option, none, some}
 use Prim.Native.Nat.{ℕ, _+_, _-_, _≤_, _<_}
 use native.Mathlib.Omega.{arith}
-use lib.ListN.{length, take, drop}
-use borrow.Author.Tests.{lt-ltb, le-ltb}
+use lib.ListN.{length, take, drop, getD}
+use borrow.Author.Tests.{lt-ltb, le-ltb, le-leb, lt-leb, eq-eqb, ne-eqb}
 use Rattle.lent.specs.Bytes.{splice, win}
-use Rattle.lent.proofs.Splice.{splice-none}
+use Rattle.lent.proofs.Splice.{win-one, length-win, splice-none}
 use Rattle.lent.proofs.Choices.{zero-one}
+use Rattle.counts.specs.Count.{readCount}
 use Rattle.counts.specs.declared.Count.{Count}
 use Rattle.hex.specs.Hex.{readHex, lengthRead, valueRead}
 use Rattle.hex.specs.declared.Hex.{Hex}
-use Rattle.lines.specs.Fields.{Field, fields, fieldsAt, Ends, _>>=_, readNumber, numberOf, number, upTo, lastValue}
+use Rattle.lines.specs.Fields.{zeroDigit, Field, fields, fieldsAt, Ends, _>>=_, readNumber, numberOf, number, letter, upTo, lastValue}
 use Rattle.lines.specs.Lines.{Read, unvalued, orUnreadable, atEnd, Gives}
 use Rattle.lines.specs.declared.Line.{Line}
-use Rattle.lines.proofs.Cutting.{behind, behind-none, fields-in, fields-past}
+use Rattle.lines.proofs.Cutting.{prefixed, prefixed-none, fields-in, fields-past}
 
 -- ---- the end of the fields
 
-at-end-more : (fs : List Field) (r : Read) → atEnd (behind [] fs) r ≡ none
+at-end-more : (fs : List Field) (r : Read) → atEnd (prefixed [] fs) r ≡ none
 at-end-more [] r = refl
 at-end-more (f ∷ fs) r = refl
 
 module _ (t : List ℕ) (at : ℕ) (r : Read) where
   pub at-end-in : at ≤ length t → atEnd (fieldsAt t at) r ≡ none
-  at-end-in h = rw (fields-in t at h, ← behind-none (drop at t)) (at-end-more (fields (drop at t)) r)
+  at-end-in h = rw (fields-in t at h, ← prefixed-none (drop at t)) (at-end-more (fields (drop at t)) r)
 
   pub at-end-past : length t < at → atEnd (fieldsAt t at) r ≡ some r
   at-end-past h = rw (fields-past t at h)
@@ -37,9 +38,40 @@ pub number-cut : (t : List ℕ) (at e : ℕ) (n : Count) → Ends t at e → n �
 unfolding win
 number-cut t at e n c q = rw (c .cut, q)
 
+-- ---- a number's leading zero
+
+module _ (f : List ℕ) where
+  pub number-short : length f < 2 → readNumber f ≡ readCount f
+  unfolding readNumber
+  number-short h = rw (lt-leb 2 (length f) h)
+
+  pub number-zero : 2 ≤ length f → getD f 0 0 ≡ zeroDigit → readNumber f ≡ Count.Not
+  unfolding readNumber
+  number-zero h e = rw (le-leb 2 (length f) h, eq-eqb (getD f 0 0) zeroDigit e)
+
+  pub number-other : 2 ≤ length f → (getD f 0 0 ≡ zeroDigit → ⊥) → readNumber f ≡ readCount f
+  unfolding readNumber
+  number-other h n = rw (le-leb 2 (length f) h, ne-eqb (getD f 0 0) zeroDigit n)
+
+-- ---- a letter
+
+letter-long : (f : Field) (fs : List Field) → (length f ≡ 1 → ⊥) → letter (f ∷ fs) ≡ none
+letter-long [] fs h = refl
+letter-long (b ∷ []) fs h = absurd (h refl)
+letter-long (b ∷ c ∷ f) fs h = refl
+
+module _ (t : List ℕ) (at e : ℕ) (c : Ends t at e) where
+  pub letter-not : (e - at ≡ 1 → ⊥) → letter (fieldsAt t at) ≡ none
+  letter-not h =
+      let l : length (win t at (e - at)) ≡ e - at = length-win t at (e - at) (omega arith) in
+      rw (c .cut) (letter-long (win t at (e - at)) (fieldsAt t (e + 1)) (λ (q : length (win t at (e - at)) ≡ 1). h (omega arith)))
+
+  pub letter-is : e - at ≡ 1 → letter (fieldsAt t at) ≡ some (record { letter = getD t at 0; rest = fieldsAt t (e + 1) })
+  letter-is h = rw (c .cut, h, win-one t at (omega arith))
+
 -- ---- the last field as a value
 
-value-more : (most : ℕ) (f : Field) (fs : List Field) → lastValue most (f ∷ behind [] fs) ≡ none
+value-more : (most : ℕ) (f : Field) (fs : List Field) → lastValue most (f ∷ prefixed [] fs) ≡ none
 value-more most f [] = refl
 value-more most f (g ∷ fs) = refl
 
@@ -49,7 +81,7 @@ module _ (most : ℕ) (t : List ℕ) (at : ℕ) where
 
   module _ (e : ℕ) (c : Ends t at e) where
     pub value-not-last : e < length t → lastValue most (fieldsAt t at) ≡ none
-    value-not-last h = rw (c .cut, fields-in t (e + 1) (omega arith), ← behind-none (drop (e + 1) t)) (value-more most (win t at (e - at)) (fields (drop (e + 1) t)))
+    value-not-last h = rw (c .cut, fields-in t (e + 1) (omega arith), ← prefixed-none (drop (e + 1) t)) (value-more most (win t at (e - at)) (fields (drop (e + 1) t)))
 
     pub value-last : length t ≤ e → lastValue most (fieldsAt t at) ≡ upTo most (readHex (take (e - at) (drop at t)))
     unfolding win
@@ -80,11 +112,11 @@ module _ (most : ℕ) (o : Option (List ℕ)) (r : Hex) (a : r ≡ lengthRead o)
 
 -- ---- what is given
 
-pub gives-none : (s : List ℕ) → Gives (unvalued Line.Unreadable) Line.Unreadable s s
-gives-none s = record { line = refl; value = sym (splice-none s 0) }
-
 pub gives-unvalued : (x : Read) (r : Line) (s : List ℕ) → x ≡ unvalued r → Gives x r s s
 gives-unvalued x r s e = rw e (record { line = refl; value = sym (splice-none s 0) })
+
+pub gives-none : (s : List ℕ) → Gives (unvalued Line.Unreadable) Line.Unreadable s s
+gives-none s = gives-unvalued _ _ s refl
 
 module _ (o : Option (List ℕ)) (k : ℕ → Line) (r : Hex) (before after : List ℕ) (a : r ≡ lengthRead o) (s : after ≡ splice before 0 (valueRead o)) where
   pub gives-no-value : r ≡ Hex.Not → Gives (orUnreadable (o >>= λ v. some (record { line = k (length v); value = v }))) Line.Unreadable before after

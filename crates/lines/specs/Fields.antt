@@ -8,6 +8,7 @@ use lib.ListN.{length, drop, getD}
 use lib.Dec.{eqb, leb, ltb}
 use Rattle.lent.specs.Bytes.{win}
 use Rattle.lent.specs.Tables.{if_then_else_}
+use Rattle.lent.specs.Text.{space, onto}
 use Rattle.counts.specs.Count.{readCount}
 use Rattle.counts.specs.declared.Count.{Count}
 use Rattle.hex.specs.Hex.{readHex}
@@ -22,9 +23,6 @@ lineMax = 200
 abbrev pub valueRoom : ℕ
 valueRoom = 100
 
-abbrev pub space : ℕ
-space = 32
-
 -- `0`
 abbrev pub zeroDigit : ℕ
 zeroDigit = 48
@@ -33,11 +31,6 @@ abbrev pub Field : Type 0
 Field = List ℕ
 
 -- ---- the fields of a line
-
--- b before the first field
-abbrev pub onto : ℕ → List Field → List Field
-onto b [] = (b ∷ []) ∷ []
-onto b (f ∷ fs) = (b ∷ f) ∷ fs
 
 -- a line is cut at each space: one field more than it has spaces, and a field may be empty
 unfoldable pub fields : List ℕ → List Field

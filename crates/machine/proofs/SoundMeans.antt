@@ -161,7 +161,7 @@ tokened none n p h = absurd (omega arith)
 tokened (some l) n p h = (l, refl, p)
 
 module _ (s : State) where
-  key-inside : (k : ℕ) (l : Lease) → length (s .keys) ≡ keyCount → leaseOn s k ≡ some l → k < keyCount
+  pub key-inside : (k : ℕ) (l : Lease) → length (s .keys) ≡ keyCount → leaseOn s k ≡ some l → k < keyCount
   key-inside k l n e = let z = place-inside (s .keys) blank k (λ z. no-some l (sym (ap (λ (x : Key). x .lease) z) ∙ e)) in omega (arith, n, z)
 
   pub session-inside : (i : ℕ) (x : Session) → length (s .sessions) ≡ sessionCount → sessionAt s i ≡ session x → i < sessionCount

@@ -1,15 +1,15 @@
 -- Views of the tables after a change: each law says what stands at a place of a table, in terms of what stood there before.
 -- A fact about a table is always an equation on the entry at a place, so that constructors tell entries apart by themselves.
-use mathlib.Core.Path.{_≡_, refl, sym, ap, _∙_, subst}
+use mathlib.Core.Path.{_≡_, refl, sym, ap, ap₂, _∙_, subst}
 use mathlib.Core.Bool.{Bool, true, false, or-true}
 use mathlib.Core.Logic.{_⊎_, inl, inr}
-use mathlib.Core.List.{List, [], _∷_}
+use mathlib.Core.List.{List, [], _∷_, map}
 use mathlib.Core.Option.{Option, none, some}
 use Prim.Native.Nat.{ℕ, zero, suc, _<_}
 use native.Mathlib.Omega.{arith}
 use lib.Dec.{eqb, leb}
 use borrow.Author.Tests.{eqb-true, eqb-false, eq-eqb, leb-false}
-use lib.ListN.{getD, set, replicate}
+use lib.ListN.{length, getD, set, replicate}
 use Rattle.lent.specs.Tables.{if_then_else_}
 use Rattle.lent.proofs.Choices.{and-yes, case-of, clash, zero-one}
 use Rattle.machine.specs.Sizes.{keyCount, sessionCount, rowCount}
@@ -103,6 +103,19 @@ module _ {A : Type 0} where
       go : (p x ≡ true) ⊎ (p x ≡ false) → (any p l ≡ true → (i : ℕ) × (p (getD l i d) ≡ true)) → (i : ℕ) × (p (getD (x ∷ l) i d) ≡ true)
       go (inl q) r = (0, q)
       go (inr q) r = let u = r (rw q at h) in (suc (u .0), u .1)
+
+  pub none-any : (p : A → Bool) (d : A) (l : List A) → ((j : ℕ) → j < length l → p (getD l j d) ≡ false) → any p l ≡ false
+  none-any p d [] f = refl
+  none-any p d (x ∷ l) f = rw (f 0 (omega arith)) (none-any p d l (λ j h. f (suc j) (omega arith)))
+
+  -- two tests that say the same, and every entry put through f
+  pub any-same : (p q : A → Bool) → ((x : A) → p x ≡ q x) → (l : List A) → any p l ≡ any q l
+  any-same p q same [] = refl
+  any-same p q same (x ∷ l) = ap₂ _||_ (same x) (any-same p q same l)
+
+  pub any-mapped : (p : A → Bool) (f : A → A) (q : A → Bool) → ((x : A) → p (f x) ≡ q x) → (l : List A) → any p (map f l) ≡ any q l
+  any-mapped p f q same [] = refl
+  any-mapped p f q same (x ∷ l) = ap₂ _||_ (same x) (any-mapped p f q same l)
 
 -- a table of one entry, many times
 pub getD-same : {A : Type 0} (n i : ℕ) (a : A) → getD (replicate n a) i a ≡ a

@@ -18,14 +18,14 @@ use Rattle.machine.specs.State.{Value, Lease, Key, blank, Row, noRow, row, Stat
 use Rattle.machine.specs.Expiry.{setValue, freeIfOf, settle, lapsedValue, unlapsed, lapsedLease, leave, finish, expire}
 use Rattle.machine.specs.Sound.{sound, tokenIn}
 use Rattle.machine.specs.Refusals.{decide, blocked, cachedSight, sight, wouldLease}
-use Rattle.machine.proofs.Views.{AfterSet, other, here, out, after-set, find-passes, any-place, on-row, settle-lease}
+use Rattle.machine.proofs.Views.{AfterSet, other, here, out, after-set, find-passes, any-place, on-row, settle-lease, any-mapped, any-same}
 use Rattle.machine.proofs.Table.{free-grants, held-blocks}
 use Rattle.layout.specs.Fields.{rowSession, rowKey}
 use Rattle.layout.specs.Holds.{LeaseFits, RowFits}
 use Rattle.layout.proofs.Records.{lease-none, row-none}
 use Rattle.deadlines.specs.Deadlines.{lapsed, dueSlot}
 use Rattle.refusals.specs.Left.{goes, staysOn}
-use Rattle.refusals.proofs.Searches.{any-mapped, any-same, any-both, find-none}
+use Rattle.refusals.proofs.Searches.{any-both, find-none}
 use Rattle.refusals.proofs.Expired.{due, rows-expired, due-is}
 
 -- ---- whom LEASE is answered

@@ -11,6 +11,7 @@ use lib.ListN.{length-map}
 use borrow.Author.Tests.{not-true}
 use Rattle.lent.specs.Tables.{if_then_else_}
 use Rattle.lent.proofs.Choices.{or-no}
+use Rattle.machine.proofs.Views.{any-mapped}
 use Rattle.machine.specs.Sizes.{keyCount, sessionCount, rowCount}
 use Rattle.machine.specs.Tables.{find, any, first}
 use Rattle.machine.specs.Words.{ROOM, INVALIDATE, INCREMENTAL, isKind}
@@ -31,7 +32,7 @@ use Rattle.deadlines.specs.Deadlines.{dueSlot}
 use Rattle.sweep.specs.Lapsing.{freeDue}
 use Rattle.sweep.proofs.Lapsing.{unmapped}
 use Rattle.refusals.specs.Left.{goes}
-use Rattle.refusals.proofs.Searches.{full-any, any-mapped, any-or}
+use Rattle.refusals.proofs.Searches.{full-any, any-or}
 use Rattle.refusals.proofs.Expired.{due, rows-expired, sessions-expired, due-is}
 
 grants-over-lease : (kind : ℕ) → Within INVALIDATE INCREMENTAL kind → (o : Option Lease) → grants (decision (heldBy noRow o) kind) ≡ true

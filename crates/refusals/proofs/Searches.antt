@@ -1,8 +1,8 @@
--- Whether a table has an entry that passes a test: told by the search for its place, by the count of the others, and, where every entry was
--- put through f, by the entries as they were. By induction on the table.
+-- Whether a table has an entry that passes a test: told by the search for its place and by the count of the others, and of two tests. By
+-- induction on the table.
 use mathlib.Core.Path.{_≡_, refl, sym, ap, ap₂, _∙_}
 use mathlib.Core.Bool.{Bool, true, false, not, _&&_, _||_}
-use mathlib.Core.List.{List, [], _∷_, map}
+use mathlib.Core.List.{List, [], _∷_}
 use Prim.Native.Nat.{ℕ, suc, _+_}
 use native.Mathlib.Omega.{arith}
 use lib.Dec.{leb, leb·suc-suc}
@@ -43,16 +43,6 @@ module _ {A : Type 0} (p : A → Bool) where
 
     pub nothing-any : found n (place p l) ≡ Found.Nothing → any p l ≡ false
     nothing-any f = not-true (any p l) (sym (full-any l n e) ∙ found-full p d l n e f)
-
-  -- ---- every entry put through f
-
-  pub any-mapped : (f : A → A) (q : A → Bool) → ((x : A) → p (f x) ≡ q x) → (l : List A) → any p (map f l) ≡ any q l
-  any-mapped f q same [] = refl
-  any-mapped f q same (x ∷ l) = ap₂ _||_ (same x) (any-mapped f q same l)
-
-  pub any-same : (q : A → Bool) → ((x : A) → p x ≡ q x) → (l : List A) → any p l ≡ any q l
-  any-same q same [] = refl
-  any-same q same (x ∷ l) = ap₂ _||_ (same x) (any-same q same l)
 
   -- ---- two tests
 

@@ -10,9 +10,8 @@ use lib.Dec.{eqb, leb}
 use lib.ListN.{length, take}
 use borrow.Author.Tests.{eqb-true, leb-true, eq-eqb}
 use Rattle.lent.specs.Bytes.{win, splice}
-use Rattle.lent.specs.Tables.{if_then_else_}
-use Rattle.lent.proofs.Choices.{and-yes, case-of}
-use Rattle.lent.proofs.Splice.{win-splice}
+use Rattle.lent.proofs.Choices.{and-yes, case-of, if-ind}
+use Rattle.lent.proofs.Splice.{take-splice}
 use Rattle.machine.specs.Sizes.{stateSize, valueMax}
 use Rattle.machine.specs.Words.{wordOf, HIT}
 use Rattle.machine.specs.State.{Value}
@@ -29,102 +28,95 @@ use Rattle.book.specs.Book.{bookSize, linesIn, counted}
 use Rattle.rules.specs.Rules as rules
 use Rattle.rules.specs.Rules.{unreadable, begins, commands}
 use Rattle.rules.proofs.Hits.{start-no-hit}
+use Rattle.rules.proofs.Told.{says-unless-hit}
 use Rattle.writes.specs.Writes.{writes}
 use Rattle.rules.specs.Says.{Says}
 use Rattle.rules.specs.declared.Said.{Said}
-use Rattle.lines.specs.Fields.{lineMax, valueRoom}
+use Rattle.lines.specs.Fields.{valueRoom}
 use Rattle.lines.specs.Lines as lines
 use Rattle.lines.specs.Lines.{keyMax, readLine}
 use Rattle.lines.proofs.Laws.{line-sound}
 use Rattle.lines.specs.declared.Line.{Line}
 use Rattle.replies.specs.Replies as replies
 use Rattle.replies.specs.Replies.{lineRoom, detailed, ended}
-use Rattle.rehearsal.specs.Rehearsal.{lentRight, numbered, commanded, acted, saidOf, turn, lineOf, endOf, Leaves}
+use Rattle.rehearsal.specs.Rehearsal.{lentRight, commandSaid, commanded, acted, saidOf, turn, lineOf, endOf, Leaves}
 use Rattle.rehearsal.specs.Saying.{notRead, Within, handed, textOf, Prints}
 
 -- ---- the cases of a line
 
 -- what is said stands where it stands
-pub here : {s : rules.Said} {at : ℕ} {r : Said} {x b : List ℕ} → Says s at r x b → Says s (r .at) r x b
-here h = record { word = h .word; detail = h .detail; place = refl; rule = h .rule; cache = h .cache; book = h .book; value = h .value; inside = h .inside; short = h .short }
+pub says-here : {s : rules.Said} {at : ℕ} {r : Said} {x b : List ℕ} → Says s at r x b → Says s (r .at) r x b
+says-here h = record { word = h .word; detail = h .detail; place = refl; rule = h .rule; cache = h .cache; book = h .book; value = h .value; inside = h .inside; short = h .short }
 
 -- a line that is not taken
 pub not-taken : (s : rules.Said) (x b : List ℕ) (r : Said) → r ≡ notRead → s ≡ unreadable x b → Says s (r .at) r x b
-not-taken s x b r e q = rw (e, q) (record { word = refl; detail = refl; place = refl; rule = refl; cache = refl; book = refl; value = λ w. absurd (omega arith); inside = λ w. absurd (omega arith); short = λ w. absurd (omega arith) })
+not-taken s x b r e q = rw (e, q) (says-unless-hit (unreadable x b) 0 (λ w. omega arith))
 
 module _ (x b : List ℕ) where
   pub start-late : (readLife writeLife : ℕ) → book.started b ≡ true → acted x b (Line.Start readLife writeLife) [] ≡ unreadable x b
   unfolding acted
-  start-late readLife writeLife e = rw e refl
+  start-late readLife writeLife e = rw e
 
   pub start-first : (readLife writeLife : ℕ) → book.started b ≡ false → acted x b (Line.Start readLife writeLife) [] ≡ begins x b readLife writeLife
   unfolding acted
-  start-first readLife writeLife e = rw e refl
+  start-first readLife writeLife e = rw e
 
   pub write-early : (n k l : ℕ) (v : Value) → book.started b ≡ false → acted x b (Line.Write n k l) v ≡ unreadable x b
   unfolding acted
-  write-early n k l v e = rw e refl
+  write-early n k l v e = rw e
 
   pub write-started : (n k l : ℕ) (v : Value) → book.started b ≡ true → acted x b (Line.Write n k l) v ≡ writes x b n k v
   unfolding acted
-  write-started n k l v e = rw e refl
+  write-started n k l v e = rw e
 
   pub command-early : (time : ℕ) (c : Numbered) (v : Value) → book.started b ≡ false → commanded x b time c v ≡ unreadable x b
-  command-early time c v e = rw e refl
+  command-early time c v e = rw e
 
   pub command-is : (time : ℕ) (q : Numbered) (c : Command) (v : Value) → q ≡ Numbered.Is c → book.started b ≡ true → commanded x b time q v ≡ commands x b time c v
-  command-is time q c v p e = rw (e, p) refl
+  command-is time q c v p e = rw (e, p)
 
   pub command-unknown : (time : ℕ) (q : Numbered) (v : Value) → q ≡ Numbered.Unknown → book.started b ≡ true → commanded x b time q v ≡ unreadable x b
-  command-unknown time q v p e = rw (e, p) refl
+  command-unknown time q v p e = rw (e, p)
 
 -- ---- a line by what is read
 
--- the value that was read stands at the front of the buffer
-front : (n : ℕ) (v buf : List ℕ) → n ≡ length v → length v ≤ length buf → take n (splice buf 0 v) ≡ v
-unfolding win
-front n v buf e l = win-splice buf 0 v n (sym e) (omega arith)
+module _ (t : List ℕ) (r : Line) (is : r ≡ readLine t .line) where
+  pub write-size : (n k l : ℕ) → r ≡ Line.Write n k l → (l ≡ length (readLine t .value)) × ((l ≤ valueMax) × (l ≤ valueRoom))
+  write-size n k l e =
+      let s = line-sound t in
+      let q : l ≡ length (readLine t .value) = rw (← is, e) at (s .size) in
+      let g : (k ≤ keyMax) × (l ≤ lines.valueMax) = rw (← is, e) at (s .range) in
+      (q, (g .1, omega (arith, s .room)))
 
+  pub command-size : (p time a₁ a₂ a₃ a₄ l : ℕ) → r ≡ Line.Command p time a₁ a₂ a₃ a₄ l → (l ≡ length (readLine t .value)) × (l ≤ valueRoom)
+  command-size p time a₁ a₂ a₃ a₄ l e =
+      let s = line-sound t in
+      let q : l ≡ length (readLine t .value) = rw (← is, e) at (s .size) in
+      (q, omega (arith, s .room))
+
+-- the value that was read stands at the front of the buffer
 module _ (x b t : List ℕ) (r : Line) (is : r ≡ readLine t .line) where
   pub said-unreadable : r ≡ Line.Unreadable → saidOf x b t ≡ unreadable x b
   unfolding saidOf acted
-  said-unreadable e = rw (← is, e) refl
+  said-unreadable e = rw (← is, e)
 
   pub said-start : (readLife writeLife : ℕ) → r ≡ Line.Start readLife writeLife → saidOf x b t ≡ acted x b (Line.Start readLife writeLife) []
   unfolding saidOf acted
-  said-start readLife writeLife e = rw (← is, e) refl
+  said-start readLife writeLife e = rw (← is, e)
 
-  module _ (n k l : ℕ) (e : r ≡ Line.Write n k l) where
-    pub write-size : (l ≡ length (readLine t .value)) × ((l ≤ valueMax) × (l ≤ valueRoom))
-    write-size =
-        let s = line-sound t in
-        let q : l ≡ length (readLine t .value) = rw (← is, e) at (s .size) in
-        let g : (k ≤ keyMax) × (l ≤ lines.valueMax) = rw (← is, e) at (s .range) in
-        (q, (g .1, omega (arith, s .room)))
+  pub said-write : (n k l : ℕ) → r ≡ Line.Write n k l → (buf buf′ : List ℕ) → buf′ ≡ splice buf 0 (readLine t .value) → saidOf x b t ≡ acted x b (Line.Write n k l) (take l buf′)
+  unfolding saidOf
+  said-write n k l e buf buf′ q = rw (q, take-splice buf (readLine t .value) l (sym (write-size t r is n k l e .0)), ← is, e)
 
-    pub said-write : (buf buf′ : List ℕ) → length buf ≡ lineMax → buf′ ≡ splice buf 0 (readLine t .value) → saidOf x b t ≡ acted x b (Line.Write n k l) (take l buf′)
-    unfolding saidOf
-    said-write buf buf′ f q = rw (q, front l (readLine t .value) buf (write-size .0) (omega (arith, line-sound t .room)), ← is, e) refl
-
-  module _ (p time a₁ a₂ a₃ a₄ l : ℕ) (e : r ≡ Line.Command p time a₁ a₂ a₃ a₄ l) where
-    pub command-size : (l ≡ length (readLine t .value)) × (l ≤ valueRoom)
-    command-size =
-        let s = line-sound t in
-        let q : l ≡ length (readLine t .value) = rw (← is, e) at (s .size) in
-        (q, omega (arith, s .room))
-
-    pub said-command : (buf buf′ : List ℕ) (c : Numbered) → length buf ≡ lineMax → buf′ ≡ splice buf 0 (readLine t .value) → c ≡ commandOf p a₁ a₂ a₃ a₄ → saidOf x b t ≡ commanded x b time c (take l buf′)
-    unfolding saidOf acted
-    said-command buf buf′ c f q d = rw (q, front l (readLine t .value) buf (command-size .0) (omega (arith, line-sound t .room)), ← is, e, d) refl
+  pub said-command : (p time a₁ a₂ a₃ a₄ l : ℕ) → r ≡ Line.Command p time a₁ a₂ a₃ a₄ l → (buf buf′ : List ℕ) (c : Numbered) → buf′ ≡ splice buf 0 (readLine t .value) → c ≡ commandOf p a₁ a₂ a₃ a₄
+      → saidOf x b t ≡ commanded x b time c (take l buf′)
+  unfolding saidOf acted
+  said-command p time a₁ a₂ a₃ a₄ l e buf buf′ c q d = rw (q, take-splice buf (readLine t .value) l (sym (command-size t r is p time a₁ a₂ a₃ a₄ l e .0)), ← is, e, d)
 
 -- ---- a HIT comes from a cache of its size
 
 abbrev HitSized : List ℕ → ℕ → Type 0
 HitSized x word = word ≡ HIT → length x ≡ stateSize
-
-if-sized : (q : Bool) (s t : rules.Said) (x : List ℕ) → HitSized x (s .word) → HitSized x (t .word) → HitSized x ((if q then s else t) .word)
-if-sized true s t x f g = f
-if-sized false s t x f g = g
 
 ran-sized : (x : List ℕ) (time : ℕ) (c : Command) (v : Value) → HitSized x (wordOf (ran x time c v .answer))
 unfolding ran
@@ -146,17 +138,17 @@ module _ (x b : List ℕ) where
   unfolding writes
   writes-sized n k v w = absurd (omega arith)
 
-  numbered-sized : (time : ℕ) (q : Numbered) (v : Value) → HitSized x (numbered x b time q v .word)
+  command-sized : (time : ℕ) (q : Numbered) (v : Value) → HitSized x (commandSaid x b time q v .word)
   unfolding commands
-  numbered-sized time (Numbered.Is c) v = ran-sized x time c v
-  numbered-sized time Numbered.Unknown v = unreadable-sized
+  command-sized time (Numbered.Is c) v = ran-sized x time c v
+  command-sized time Numbered.Unknown v = unreadable-sized
 
   acted-sized : (l : Line) (v : Value) → HitSized x (acted x b l v .word)
   unfolding acted
   acted-sized Line.Unreadable v = unreadable-sized
-  acted-sized (Line.Start r w) v = if-sized (book.started b) (unreadable x b) (begins x b r w) x unreadable-sized (begins-sized r w)
-  acted-sized (Line.Write n k l) v = if-sized (book.started b) (writes x b n k v) (unreadable x b) x (writes-sized n k v) unreadable-sized
-  acted-sized (Line.Command p t a₁ a₂ a₃ a₄ l) v = if-sized (book.started b) (numbered x b t (commandOf p a₁ a₂ a₃ a₄) v) (unreadable x b) x (numbered-sized t (commandOf p a₁ a₂ a₃ a₄) v) unreadable-sized
+  acted-sized (Line.Start r w) v = if-ind (λ (s : rules.Said). HitSized x (s .word)) (book.started b) (λ q. unreadable-sized) (λ q. begins-sized r w)
+  acted-sized (Line.Write n k l) v = if-ind (λ (s : rules.Said). HitSized x (s .word)) (book.started b) (λ q. writes-sized n k v) (λ q. unreadable-sized)
+  acted-sized (Line.Command p t a₁ a₂ a₃ a₄ l) v = if-ind (λ (s : rules.Said). HitSized x (s .word)) (book.started b) (λ q. command-sized t (commandOf p a₁ a₂ a₃ a₄) v) (λ q. unreadable-sized)
 
 said-sized : (x b t : List ℕ) → HitSized x (saidOf x b t .word)
 unfolding saidOf
@@ -173,28 +165,28 @@ unfolding detailed
 value-only word detail v u f = go (case-of (eqb word HIT))
   where
     go : (eqb word HIT ≡ true) ⊎ (eqb word HIT ≡ false) → detailed word detail v ≡ detailed word detail u
-    go (inl q) = rw (f (eqb-true word HIT q)) refl
-    go (inr q) = rw q refl
+    go (inl q) = rw (f (eqb-true word HIT q))
+    go (inr q) = rw q
 
 text-only : (n word detail : ℕ) (v u : Value) (rule : ℕ) → (word ≡ HIT → v ≡ u) → replies.replied n word detail v rule ≡ replies.replied n word detail u rule
 unfolding replies.replied
-text-only n word detail v u rule f = rw (value-only word detail v u f) refl
+text-only n word detail v u rule f = rw (value-only word detail v u f)
 
 handed-hit : (r : Said) (x : List ℕ) → r .word ≡ HIT → handed r x ≡ win x (r .at) (r .detail)
-handed-hit r x w = rw (eq-eqb (r .word) HIT w) refl
+handed-hit r x w = rw (eq-eqb (r .word) HIT w)
 
 -- the text of what is said is that of the definition
 text-is : (s : rules.Said) (at : ℕ) (r : Said) (x b b′ : List ℕ) → Says s at r x b → textOf r x b′ ≡ replies.replied (linesIn b′) (s .word) (s .detail) (s .value) (s .rule)
 text-is s at r x b b′ h =
     text-only (linesIn b′) (r .word) (r .detail) (handed r x) (s .value) (r .rule) (λ w. handed-hit r x w ∙ h .value w)
-    ∙ rw (h .word, h .detail, h .rule) refl
+    ∙ rw (h .word, h .detail, h .rule)
 
 -- the text stands at the front of what was lent
-pub prints : (r : Said) (x b o : List ℕ) (n m : ℕ) (b′ o′ v : List ℕ)
+pub prints-text : (r : Said) (x b o : List ℕ) (n m : ℕ) (b′ o′ v : List ℕ)
     → (m ≡ length (replies.replied n (r .word) (r .detail) v (r .rule))) × (o′ ≡ splice o 0 (replies.replied n (r .word) (r .detail) v (r .rule)))
     → (r .word ≡ HIT → v ≡ win x (r .at) (r .detail)) → b′ ≡ counted b (r .rule) → n ≡ linesIn b′ → Prints r x b o m b′ o′
-prints r x b o n m b′ o′ v h f k e =
-    let y : replies.replied n (r .word) (r .detail) v (r .rule) ≡ textOf r x b′ = text-only n (r .word) (r .detail) v (handed r x) (r .rule) (λ w. f w ∙ sym (handed-hit r x w)) ∙ rw e refl in
+prints-text r x b o n m b′ o′ v h f k e =
+    let y : replies.replied n (r .word) (r .detail) v (r .rule) ≡ textOf r x b′ = text-only n (r .word) (r .detail) v (handed r x) (r .rule) (λ w. f w ∙ sym (handed-hit r x w)) ∙ rw e in
     record { book = k; size = rw (← y) (h .0); out = rw (← y) (h .1) }
 
 -- ---- the public functions
@@ -221,11 +213,11 @@ module _ (x b t out : List ℕ) where
       → Leaves (lineOf x b t out) n x′ b″ out′
   unfolding lineOf turn
   line-printed e r x′ b′ b″ out′ n h p =
-      let k : b″ ≡ counted (saidOf x b t .book) (saidOf x b t .rule) = p .book ∙ rw (h .book, h .rule) refl in
+      let k : b″ ≡ counted (saidOf x b t .book) (saidOf x b t .rule) = p .book ∙ rw (h .book, h .rule) in
       let y = text-is (saidOf x b t) (r .at) r x′ b′ b″ h in
       rw e (record {
-        length = p .size ∙ rw (y, k) refl;
+        length = p .size ∙ rw (y, k);
         cache = h .cache;
         book = k;
-        out = p .out ∙ rw (y, k) refl;
+        out = p .out ∙ rw (y, k);
       })

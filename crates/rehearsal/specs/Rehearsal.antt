@@ -19,12 +19,12 @@ use Rattle.replies.specs.Replies.{lineRoom, replied, ended}
 
 -- "until an A line has answered READY each line that isn't an A line, and after it each A line" is UNREADABLE
 
-abbrev pub numbered : List ℕ → List ℕ → ℕ → Numbered → Value → Said
-numbered x b time (Numbered.Is c) v = commands x b time c v
-numbered x b time Numbered.Unknown v = unreadable x b
+abbrev pub commandSaid : List ℕ → List ℕ → ℕ → Numbered → Value → Said
+commandSaid x b time (Numbered.Is c) v = commands x b time c v
+commandSaid x b time Numbered.Unknown v = unreadable x b
 
 abbrev pub commanded : List ℕ → List ℕ → ℕ → Numbered → Value → Said
-commanded x b time c v = if started b then numbered x b time c v else unreadable x b
+commanded x b time c v = if started b then commandSaid x b time c v else unreadable x b
 
 unfoldable pub acted : List ℕ → List ℕ → Line → Value → Said
 acted x b Line.Unreadable v = unreadable x b
@@ -42,11 +42,11 @@ pub record Turn : Type 0 where
   pub cache : List ℕ
   pub book : List ℕ
 
-abbrev pub printed : Said → Turn
-printed s = let b = counted (s .book) (s .rule) in record { text = replied (linesIn b) (s .word) (s .detail) (s .value) (s .rule); cache = s .cache; book = b }
+abbrev pub turnOf : Said → Turn
+turnOf s = let b = counted (s .book) (s .rule) in record { text = replied (linesIn b) (s .word) (s .detail) (s .value) (s .rule); cache = s .cache; book = b }
 
 unfoldable pub turn : List ℕ → List ℕ → List ℕ → Turn
-turn x b t = printed (saidOf x b t)
+turn x b t = turnOf (saidOf x b t)
 
 -- a book of its size, and room for an output line
 abbrev pub lentRight : List ℕ → List ℕ → Bool

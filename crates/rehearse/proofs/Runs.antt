@@ -5,8 +5,7 @@ use mathlib.Core.List.{List, _++_}
 use Prim.Native.Nat.{ℕ, _≤_}
 use native.Mathlib.Omega.{arith}
 use lib.ListN.{length, take}
-use Rattle.lent.specs.Bytes.{win}
-use Rattle.lent.proofs.Splice.{win-splice}
+use Rattle.lent.proofs.Splice.{take-splice}
 use Rattle.feed.specs.Lines.{heldMax}
 use Rattle.feed.specs.Answers.{Answered, Open, behind, fed}
 use Rattle.feed.proofs.Cut.{fed-append}
@@ -38,10 +37,9 @@ read-more o now then more r e = (r .0 ++ more, e ∙ rw (fed-append answerLine o
 
 -- the front of what a text is printed on is the text
 printed-front : (text out after : List ℕ) (next : ℕ) → Printed text out 0 after next → take next after ≡ text
-unfolding win
 printed-front text out after next p =
     let e : length text ≡ next = let q = p .place in omega arith in
-    rw (p .bytes) (win-splice out 0 text next e (omega arith))
+    rw (p .bytes) (take-splice out text next e)
 
 -- whether or not the last write succeeds
 pub read-ends : (w : Memory) (now : Open Memory) (after : Memory) (out out′ : List ℕ) (next : ℕ) (b : Bool) → ReadSoFar (nothingRead w) now

@@ -12,15 +12,15 @@ use borrow.Author.Tests.{lt-ltb}
 use Rattle.lent.specs.Bytes.{zeros}
 use Rattle.lent.specs.Tables.{same, allZero}
 use Rattle.lent.proofs.Choices.{clash}
-use Rattle.machine.specs.Sizes.{keyCount, sessionCount}
+use Rattle.machine.specs.Sizes.{sessionCount}
 use Rattle.machine.specs.Tables.{any}
 use Rattle.machine.specs.Words.{wordOf, STORED, DONE, UNDONE}
-use Rattle.machine.specs.State.{Value, Key, blank, noSession, State, fresh, sessionPlace}
+use Rattle.machine.specs.State.{Value, State, fresh, sessionPlace}
 use Rattle.machine.specs.Sound.{sound}
 use Rattle.machine.specs.Refusals.{notLive}
 use Rattle.machine.specs.Expiry.{expire}
 use Rattle.machine.specs.Step.{step}
-use Rattle.machine.specs.World.{Event, command, write, World, freshWorld, commanded, written, next, run, EventBytes, AllBytes}
+use Rattle.machine.specs.World.{Event, command, write, World, freshWorld, commanded, written, next, run, EventBytes, AllBytes, Consistent}
 use Rattle.machine.specs.Test.{differs}
 use Rattle.machine.specs.declared.Answer.{Answer}
 use Rattle.machine.specs.declared.Command.{Command}
@@ -49,7 +49,7 @@ use Rattle.writes.specs.Writes.{mayWrite, marked, writes}
 use Rattle.rehearsed.specs.TwoValues.{oldest, brokenTwo, verdictsTwo, AllKeptTwo}
 use Rattle.rehearsed.specs.Column.{ruleAt, after, through, column, startedMemory, NewBook, Readable, AllReadable, Promised}
 use Rattle.rehearsed.proofs.Moves.{moves-step}
-use Rattle.rehearsed.proofs.TwoValues.{oldest-any, stored-lease, under, allKeptTwo-of, allKeptTwo-unbroken, allKept-two}
+use Rattle.rehearsed.proofs.TwoValues.{oldest-any, stored-lease, under, allKeptTwo-of, allKeptTwo-unbroken, two-allKept}
 use Rattle.rehearsed.proofs.Outlived.{done-live, undone-live, was-live, differs-expired, any-differs-as}
 use Rattle.rehearsed.proofs.Recorded.{Recorded, recorded-counted, recorded-commanded, recorded-written}
 
@@ -58,6 +58,9 @@ pub record Tied (p : Memory) (w : World) : Type 0 where
   pub formed : wellFormed (p .cache) ≡ true
   pub says : decode (p .cache) ≡ w .state
   pub records : Recorded (p .book) w
+
+pub tied-promised : (p : Memory) (w : World) → Tied p w → Consistent w → Promised p w
+tied-promised p w h c = record { consistent = c; formed = h .formed; cache = h .says; register = h .records .register }
 
 -- One line
 
@@ -170,8 +173,8 @@ unfolding fresh
 recorded-new b readLife writeLife h = record {
   size = h .size;
   register = h .empty;
-  grants = λ k l e. Views.no-some l (sym (ap (λ (x : Key). x .lease) (Views.getD-same keyCount k blank)) ∙ e);
-  marks = λ i x e. Views.no-session x (sym (Views.getD-same sessionCount i noSession) ∙ e);
+  grants = λ k l e. Views.fresh-lease readLife writeLife k l e;
+  marks = λ i x e. Views.fresh-session readLife writeLife i x e;
   below = λ i f. let z = h .unmarked i f in omega arith;
   wrote = λ n e. clash false e refl;
 }
@@ -206,9 +209,4 @@ module _ (x b : List ℕ) (readLife writeLife : ℕ) (ready : startOf x readLife
   pub zeros-promised : (es fs : List Event) → AllBytes (es ++ fs) → AllReadable (es ++ fs) → allZero (column p₀ (es ++ fs)) ≡ true → Promised (through p₀ es) (run w₀ es)
   zeros-promised es fs u y e =
       let h = tied-run p₀ w₀ tied-started es (all-bytes-before es fs u) (readable-before es fs y) in
-      record {
-        consistent = demand-3 readLife writeLife es fs (allKept-two readLife writeLife (es ++ fs) (column-kept (es ++ fs) u y e));
-        formed = h .formed;
-        cache = h .says;
-        register = h .records .register;
-      }
+      tied-promised (through p₀ es) (run w₀ es) h (demand-3 readLife writeLife es fs (two-allKept readLife writeLife (es ++ fs) (column-kept (es ++ fs) u y e)))

@@ -4,7 +4,7 @@
 use mathlib.Core.Path.{_≡_, refl, sym, ap, subst, _∙_}
 use mathlib.Core.Bool.{true}
 use mathlib.Core.List.{List, [], _∷_, _++_}
-use mathlib.Core.Option.{none, some}
+use mathlib.Core.Option.{Option, none, some}
 use Prim.Native.Nat.{ℕ}
 use native.Mathlib.Omega.{arith}
 use lib.ListN.{length, take, drop, take-append-drop}
@@ -20,8 +20,8 @@ use Rattle.machine.specs.Expiry.{leave, finish, expire}
 use Rattle.machine.specs.Refusals.{decide, blocked, sight, wouldLease, wouldGrant, refusals, refusal}
 use Rattle.machine.specs.Effects.{begins, wait, leased, missed, looked, fills, asks, operate, changed, stages, effect}
 use Rattle.machine.specs.Step.{settled, step}
-use Rattle.machine.specs.Examples.{says}
-use Rattle.machine.specs.World.{Event, command, freshWorld, commanded, written, run, AllKept}
+use Rattle.machine.specs.Examples.{Told, says}
+use Rattle.machine.specs.World.{Event, command, commanded, written, run, AllKept}
 use Rattle.machine.specs.Witness.{heard}
 use Rattle.machine.specs.declared.Answer.{Answer}
 use Rattle.machine.specs.declared.Command.the-variants.{Get, Done}
@@ -30,9 +30,9 @@ use Rattle.layout.specs.Layout.{decode}
 use Rattle.layout.specs.WellFormed.{wellFormed}
 use Rattle.layout.proofs.Formed.{holds-decoded}
 use Rattle.layout.proofs.Held.{value-stands}
-use Rattle.startup.specs.Start.{Reply, startOf}
-use Rattle.startup.proofs.Started.{started-ready}
+use Rattle.startup.specs.Start.{Reply}
 use Rattle.cache.specs.Run.{ran}
+use Rattle.promises.proofs.Witness.{witness-ready}
 use Rattle.cache.proofs.Taken.{ran-formed}
 use Rattle.promises.proofs.Ran.{formed-kept, decode-ran}
 use Rattle.book.specs.Memory.{Memory, memoryOf}
@@ -45,31 +45,24 @@ use Rattle.lines.specs.declared.Line.{Line}
 use Rattle.rehearsal.specs.Rehearsal.{saidOf}
 use Rattle.rehearsed.specs.Column.{Promised}
 use Rattle.rehearsed.specs.Text.{Text, textThrough, textColumn, eventOf, eventsIn, worldAfter, begunBy, runOf, RulesKept, PromisedIn}
-use Rattle.rehearsed.specs.Example.{starting, between, hitting, example, secondValue, eventsBetween, exampleEvents, runFrom}
+use Rattle.rehearsed.specs.Example.{readLife, writeLife, starting, between, hitting, example, secondValue, eventsBetween, exampleEvents, runFrom}
+use Rattle.rehearsed.specs.Witness.{begunWorld}
 use Rattle.rehearsed.proofs.Column.{new-zeros}
 use Rattle.rehearsed.proofs.Text.{saidBy, text-told, lines-zeros, rehearsal-begun, rehearsal-promised}
 
--- What the lines tell
+-- What the lines tell: the first, those between, all behind the first, and the last
 
-starts : readLine starting .line ≡ Line.Start 1000 5000
+lines-tell : (readLine starting .line ≡ Line.Start readLife writeLife)
+    × (eventsIn between ≡ eventsBetween)
+    × (eventsIn (between ++ (hitting ∷ [])) ≡ exampleEvents)
+    × (eventOf hitting ≡ some (command 15 (Get 0 7) []))
 unfolding fields readNumber readCount numbers digitValue readHex shapeOf commandLine startLine writeLine timedLine readLine
-starts = refl
-
-between-tells : eventsIn between ≡ eventsBetween
-unfolding fields readNumber readCount numbers digitValue readHex shapeOf commandLine startLine writeLine timedLine readLine
-between-tells = refl
-
-all-tell : eventsIn (between ++ (hitting ∷ [])) ≡ exampleEvents
-unfolding fields readNumber readCount numbers digitValue readHex shapeOf commandLine startLine writeLine timedLine readLine
-all-tell = refl
-
-hitting-tells : eventOf hitting ≡ some (command 15 (Get 0 7) [])
-unfolding fields readNumber readCount numbers digitValue readHex shapeOf commandLine startLine writeLine timedLine readLine
-hitting-tells = refl
+lines-tell = (refl, refl, refl, refl)
 
 -- What the machine beside the register makes of it: the answers of the worked example, and no rule broken
 
-pub example-heard : heard (freshWorld 1000 5000) exampleEvents ≡ (
+abbrev pub exampleTold : List (Option Told)
+exampleTold =
     some (says (Answer.Lease 1))
     ∷ some (says (Answer.Session 1))
     ∷ some (says Answer.Granted)
@@ -82,33 +75,25 @@ pub example-heard : heard (freshWorld 1000 5000) exampleEvents ≡ (
     ∷ some (says Answer.Stored)
     ∷ some (record { answer = Answer.Hit (valueAt 7) 2; handed = secondValue })
     ∷ []
-    )
-unfolding same allZero readCount decision fresh leave finish expire decide blocked sight wouldLease wouldGrant refusals refusal begins wait leased missed looked fills asks operate changed stages effect settled step commanded written
-example-heard = refl
-
-kept : AllKept (freshWorld 1000 5000) exampleEvents
-unfolding same allZero readCount decision fresh leave finish expire decide blocked sight wouldLease wouldGrant refusals refusal begins wait leased missed looked fills asks operate changed stages effect settled step commanded written
-kept = allKept-of (freshWorld 1000 5000) exampleEvents refl
 
 abbrev stateBefore : State
-stateBefore = run (freshWorld 1000 5000) eventsBetween .state
+stateBefore = run begunWorld eventsBetween .state
 
-hit-told : step stateBefore 15 (Get 0 7) [] .answer ≡ Answer.Hit (valueAt 7) 2
+machine-tells : (heard begunWorld exampleEvents ≡ exampleTold)
+    × AllKept begunWorld exampleEvents
+    × (step stateBefore 15 (Get 0 7) [] .answer ≡ Answer.Hit (valueAt 7) 2)
+    × (cached (step stateBefore 15 (Get 0 7) [] .after) 7 ≡ some secondValue)
 unfolding same allZero readCount decision fresh leave finish expire decide blocked sight wouldLease wouldGrant refusals refusal begins wait leased missed looked fills asks operate changed stages effect settled step commanded written
-hit-told = refl
+machine-tells = (refl, allKept-of begunWorld exampleEvents refl, refl, refl)
 
-hit-cached : cached (step stateBefore 15 (Get 0 7) [] .after) 7 ≡ some secondValue
-unfolding same allZero readCount decision fresh leave finish expire decide blocked sight wouldLease wouldGrant refusals refusal begins wait leased missed looked fills asks operate changed stages effect settled step commanded written
-hit-cached = refl
+pub example-heard : heard begunWorld exampleEvents ≡ exampleTold
+example-heard = machine-tells .0
 
 -- The rehearsal, from any buffer of the state's size
 
 module _ (x : List ℕ) (l : length x ≡ stateSize) where
-  ready : startOf x 1000 5000 .answer ≡ Answer.Ready
-  ready = ap (λ (r : Reply). r .answer) (started-ready x 1000 5000 l refl refl)
-
   run-of : (ts : List Text) (es : List Event) → eventsIn ts ≡ es → runOf x (starting ∷ ts) ≡ some (runFrom es)
-  run-of ts es e = ap (λ (y : Line). begunBy x y (eventsIn ts) (runOf x ts)) starts ∙ rw (ready, e)
+  run-of ts es e = ap (λ (y : Line). begunBy x y (eventsIn ts) (runOf x ts)) (lines-tell .0) ∙ rw (witness-ready x l, e)
 
   abbrev p₀ : Memory
   p₀ = memoryOf x (zeros bookSize)
@@ -116,41 +101,42 @@ module _ (x : List ℕ) (l : length x ≡ stateSize) where
   pub example-zeros : allZero (textColumn p₀ example) ≡ true
   example-zeros =
       lines-zeros x (zeros bookSize) new-zeros (Laws.started-new bookSize) example
-      (subst RulesKept (sym (run-of (between ++ (hitting ∷ [])) exampleEvents all-tell)) kept)
+      (subst RulesKept (sym (run-of (between ++ (hitting ∷ [])) exampleEvents (lines-tell .2))) (machine-tells .1))
 
   pub example-promised : (i : ℕ) → RulesKept (runOf x (take i example)) × PromisedIn (textThrough p₀ (take i example)) (runOf x (take i example))
   example-promised i = rehearsal-promised x (take i example) (drop i example) (rw (take-append-drop i example) example-zeros)
 
   -- behind the first eleven the last is told HIT, and handed what the register holds
 
-  abbrev p : Memory
-  p = textThrough p₀ (starting ∷ between)
+  abbrev beforeHit : Memory
+  beforeHit = textThrough p₀ (starting ∷ between)
 
-  first : runOf x (starting ∷ between) ≡ some (runFrom eventsBetween)
-  first = run-of between eventsBetween between-tells
+  run-before : runOf x (starting ∷ between) ≡ some (runFrom eventsBetween)
+  run-before = run-of between eventsBetween (lines-tell .1)
 
-  promised : Promised p (worldAfter (runFrom eventsBetween))
-  promised = subst (PromisedIn p) first (rehearsal-promised x (starting ∷ between) (hitting ∷ []) example-zeros .1)
+  promised-before : Promised beforeHit (worldAfter (runFrom eventsBetween))
+  promised-before = subst (PromisedIn beforeHit) run-before (rehearsal-promised x (starting ∷ between) (hitting ∷ []) example-zeros .1)
 
   abbrev reply : Reply
-  reply = ran (p .cache) 15 (Get 0 7) []
+  reply = ran (beforeHit .cache) 15 (Get 0 7) []
 
   reply-hit : reply .answer ≡ Answer.Hit (valueAt 7) 2
   reply-hit =
-      ap (λ (r : Reply). r .answer) (ran-formed (p .cache) 15 (Get 0 7) [] (promised .formed))
-      ∙ ap (λ (s : State). step s 15 (Get 0 7) [] .answer) (promised .cache) ∙ hit-told
+      ap (λ (r : Reply). r .answer) (ran-formed (beforeHit .cache) 15 (Get 0 7) [] (promised-before .formed))
+      ∙ ap (λ (s : State). step s 15 (Get 0 7) [] .answer) (promised-before .cache) ∙ machine-tells .2
 
   reply-stands : win (reply .bytes) (valueAt 7) 2 ≡ secondValue
   reply-stands =
       let none-read : Bytes [] = λ i. omega arith in
-      let f : wellFormed (reply .bytes) ≡ true = formed-kept (p .cache) 15 (Get 0 7) [] none-read (promised .formed) in
-      let e : cached (decode (reply .bytes)) 7 ≡ some secondValue =
-      ap (λ (s : State). cached s 7) (decode-ran (p .cache) 15 (Get 0 7) [] none-read (promised .formed) ∙ ap (λ (s : State). step s 15 (Get 0 7) [] .after) (promised .cache)) ∙ hit-cached in
+      let f : wellFormed (reply .bytes) ≡ true = formed-kept (beforeHit .cache) 15 (Get 0 7) [] none-read (promised-before .formed) in
+      let after = decode-ran (beforeHit .cache) 15 (Get 0 7) [] none-read (promised-before .formed) ∙ ap (λ (s : State). step s 15 (Get 0 7) [] .after) (promised-before .cache) in
+      let e : cached (decode (reply .bytes)) 7 ≡ some secondValue = ap (λ (s : State). cached s 7) after ∙ machine-tells .3 in
       value-stands (holds-decoded (reply .bytes) f) 7 (omega arith) secondValue e
 
-  said-hit : saidOf (p .cache) (p .book) hitting ≡ commands (p .cache) (p .book) 15 (Get 0 7) []
-  said-hit = text-told p hitting (rehearsal-begun x (starting ∷ between) (runFrom eventsBetween) first) ∙ ap (saidBy p) hitting-tells
+  said-hit : saidOf (beforeHit .cache) (beforeHit .book) hitting ≡ commands (beforeHit .cache) (beforeHit .book) 15 (Get 0 7) []
+  said-hit = text-told beforeHit hitting (rehearsal-begun x (starting ∷ between) (runFrom eventsBetween) run-before) ∙ ap (saidBy beforeHit) (lines-tell .3)
 
-  pub example-hit : (saidOf (p .cache) (p .book) hitting .word ≡ HIT) × ((saidOf (p .cache) (p .book) hitting .value ≡ secondValue) × (worldAfter (runFrom eventsBetween) .register 7 ≡ secondValue))
+  pub example-hit : let said = saidOf (beforeHit .cache) (beforeHit .book) hitting in
+      (said .word ≡ HIT) × ((said .value ≡ secondValue) × (worldAfter (runFrom eventsBetween) .register 7 ≡ secondValue))
   unfolding commands written commanded
-  example-hit = (rw (said-hit, reply-hit) refl, (rw (said-hit, reply-hit) reply-stands, refl))
+  example-hit = (rw (said-hit, reply-hit), (rw (said-hit, reply-hit) reply-stands, refl))

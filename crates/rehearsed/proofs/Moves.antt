@@ -34,12 +34,12 @@ pub data Leases (s : State) (c : Command) (a : Answer) (t : State) : Type 0 wher
       → ((j : ℕ) (l : Lease) → leaseOn t j ≡ some l → ((k ≡ j → ⊥) × (leaseOn s j ≡ some l)) ⊎ ((k ≡ j) × (l .token ≡ s .head .nextToken))) → Leases s c a t
 
 -- a session of t at place i: its number is new, or it stood there
-abbrev pub Stood : State → ℕ → Session → Type 0
-Stood s i x = (s .head .nextSession ≤ x .number) ⊎ ((m : Session) × (sessionAt s i ≡ session m) × (m .number ≡ x .number))
+abbrev pub StoodAt : State → ℕ → Session → Type 0
+StoodAt s i x = (s .head .nextSession ≤ x .number) ⊎ ((m : Session) × (sessionAt s i ≡ session m) × (m .number ≡ x .number))
 
 pub record Moves (s : State) (c : Command) (r : Outcome) : Type 0 where
   pub leases : Leases s c (r .answer) (r .after)
-  pub places : (i : ℕ) (x : Session) → sessionAt (r .after) i ≡ session x → Stood s i x
+  pub places : (i : ℕ) (x : Session) → sessionAt (r .after) i ≡ session x → StoodAt s i x
   pub grows : s .head .nextSession ≤ r .after .head .nextSession
 
 module _ (s : State) (c : Command) where
@@ -64,7 +64,7 @@ module _ (s : State) (c : Command) where
   moves-finished n = moves-ended Answer.Done (n ∷ []) (settle (n ∷ []) toCache (s .rows) (s .keys)) refl (λ k l e. sym (Views.settle-lease (n ∷ []) toCache k (s .rows) (s .keys)) ∙ e)
 
   -- one session is put through f, which keeps its number
-  stood-slot : (n : ℕ) (f : Session → Session) → ((m : Session) → f m .number ≡ m .number) → (i : ℕ) (x : Session) → sessionAt (withSession s n f) i ≡ session x → Stood s i x
+  stood-slot : (n : ℕ) (f : Session → Session) → ((m : Session) → f m .number ≡ m .number) → (i : ℕ) (x : Session) → sessionAt (withSession s n f) i ≡ session x → StoodAt s i x
   stood-slot n f same i x e = let r = OrderlyKept.was-slot s n f i x e in
       inr (r .0, r .1, elim (r .2) [ inl p ↦ sym (ap (λ (y : Session). y .number) p) | inr p ↦ sym (ap (λ (y : Session). y .number) (p .1) ∙ same (r .0)) ])
 

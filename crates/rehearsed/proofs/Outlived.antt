@@ -3,7 +3,7 @@
 use mathlib.Core.Path.{_≡_, refl, sym, ap, _∙_}
 use mathlib.Core.Bool.{true, false, not, _&&_}
 use mathlib.Core.Logic.{_⊎_, inl, inr}
-use mathlib.Core.List.{List, [], _∷_, map}
+use mathlib.Core.List.{List}
 use mathlib.Core.Option.{Option, none, some}
 use Prim.Native.Nat.{ℕ}
 use borrow.Author.Tests.{eqb-true}
@@ -21,20 +21,22 @@ use Rattle.machine.specs.Step.{settled, step}
 use Rattle.machine.specs.Test.{differs}
 use Rattle.machine.specs.declared.Command.{Command}
 use Rattle.machine.specs.declared.Command.the-variants.{Done, Undo}
+use Rattle.machine.proofs.Views.{any-mapped, any-same}
 use Rattle.machine.proofs.OrderlyKept.{was-session}
 use Rattle.machine.proofs.Accepted.{passed, session-of, found-live}
+use Rattle.words.specs.Numbers.{REFUSED}
 use Rattle.rehearsed.proofs.Moves.{expire-session}
 
--- A word that is not 0 is that of no refusal
+-- A word that is not REFUSED is that of no refusal
 
-module _ (s : State) (now : ℕ) (c : Command) (v : Value) (word : ℕ) (some-word : eqb 0 word ≡ false) where
+module _ (s : State) (now : ℕ) (c : Command) (v : Value) (word : ℕ) (some-word : eqb REFUSED word ≡ false) where
   pub accepted : eqb (wordOf (step s now c v .answer)) word ≡ true → refusal (expire now s) now c v ≡ none
   unfolding step settled
   accepted = go (refusal (expire now s) now c v)
     where
       go : (o : Option ℕ) → eqb (wordOf (settled s now o (effect (expire now s) now c v) .answer)) word ≡ true → o ≡ none
       go none p = refl
-      go (some e) p = clash (eqb 0 word) p some-word
+      go (some e) p = clash (eqb REFUSED word) p some-word
 
 module _ (s : State) (now n : ℕ) (v : Value) where
   -- DONE and UNDO are accepted of a session that is live after expiry
@@ -67,13 +69,11 @@ differs-freed register n ns h (row m k d (staged u)) = if-ind (λ (r : Row). dif
     other q (inl e) = clash (mem n ns) (rw (eqb-true m n e) at q) h
     other q (inr e) = rw e
 
-any-freed : (register : ℕ → Value) (n : ℕ) (ns : List ℕ) → mem n ns ≡ false → (rs : List Row) → any (differs register n) (map (freeIfOf ns) rs) ≡ any (differs register n) rs
-any-freed register n ns h [] = refl
-any-freed register n ns h (r ∷ rs) = rw (differs-freed register n ns h r, any-freed register n ns h rs)
-
 pub differs-expired : (register : ℕ → Value) (now : ℕ) (s : State) (n : ℕ) → notLive (expire now s) n ≡ false → any (differs register n) (expire now s .rows) ≡ any (differs register n) (s .rows)
 unfolding expire finish leave
-differs-expired register now s n live = any-freed register n (those (isDue now) (s .sessions)) (not-due now s n live) (s .rows)
+differs-expired register now s n live =
+    let due = those (isDue now) (s .sessions) in
+    any-mapped (differs register n) (freeIfOf due) (differs register n) (differs-freed register n due (not-due now s n live)) (s .rows)
 
 -- two registers that hold the same
 
@@ -84,5 +84,4 @@ differs-as f g h n (row m k d (staged u)) = rw (h k)
 differs-as f g h n (row m k d DROP) = refl
 
 pub any-differs-as : (f g : ℕ → Value) → ((k : ℕ) → f k ≡ g k) → (n : ℕ) (rs : List Row) → any (differs f n) rs ≡ any (differs g n) rs
-any-differs-as f g h n [] = refl
-any-differs-as f g h n (r ∷ rs) = rw (differs-as f g h n r, any-differs-as f g h n rs)
+any-differs-as f g h n = any-same (differs f n) (differs g n) (differs-as f g h n)

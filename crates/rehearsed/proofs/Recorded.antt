@@ -15,25 +15,24 @@ use Rattle.lent.specs.Tables.{if_then_else_}
 use Rattle.lent.proofs.Choices.{case-of, clash, if-ind}
 use Rattle.machine.specs.Sizes.{keyCount, sessionCount, valueMax}
 use Rattle.machine.specs.Words.{wordOf, LEASE}
-use Rattle.machine.specs.State.{Value, Lease, Key, blank, noSession, session, State, numbered, sessionPlace, sessionOf, leaseOn, sessionAt}
+use Rattle.machine.specs.State.{Value, Lease, noSession, session, State, numbered, sessionPlace, sessionOf, leaseOn, sessionAt}
 use Rattle.machine.specs.Sound.{sound}
 use Rattle.machine.specs.Refusals.{notLive}
 use Rattle.machine.specs.Effects.{Outcome}
 use Rattle.machine.specs.World.{World, sinceGrant, commanded, written}
 use Rattle.machine.specs.WellFormed.{Orderly}
 use Rattle.machine.specs.declared.Session.{Session}
-use Rattle.machine.specs.declared.Answer.{Answer}
 use Rattle.machine.specs.declared.Command.{Command}
-use Rattle.machine.specs.declared.Command.the-variants.{Begin, Get, Fill, Quar, Stage, Delta, Validate, Done, Undo, Evict, Tick}
 use Rattle.machine.proofs.Views
 use Rattle.machine.proofs.Accepted.{session-of}
-use Rattle.machine.proofs.Every.{place-inside}
-use Rattle.machine.proofs.SoundMeans.{sound-means, keys-length, sessions-length}
+use Rattle.machine.proofs.SoundMeans.{sound-means, key-inside, keys-length, sessions-length}
 use Rattle.machine.proofs.SoundFacts.{next-session, session-place}
 use Rattle.layout.proofs.Search.{place-passes}
 use Rattle.book.specs.Book.{bookSize, registered, granted, withRegistered, withGranted, mark, withMark, counted}
 use Rattle.book.proofs.Laws
 use Rattle.rules.specs.Rules.{noted}
+use Rattle.rules.specs.Tests.{asksFor}
+use Rattle.rules.proofs.Told.{noted-is, noted-none, noted-grant}
 use Rattle.rehearsed.specs.TwoValues.{oldest}
 use Rattle.rehearsed.proofs.Moves.{Leases, quiet, grant, Moves}
 use Rattle.rehearsed.proofs.TwoValues.{oldest-any, since-quiet, since-grant, since-other}
@@ -66,27 +65,7 @@ recorded-counted b w rule h = record {
 
 -- nothing, or a grant
 pub noted-ind : (P : List ℕ → Type 0) (b : List ℕ) (c : Command) (word : ℕ) → P b → ((k : ℕ) → eqb word LEASE ≡ true → P (withGranted b k (registered b k))) → P (noted b c word)
-noted-ind P b Begin word f g = f
-noted-ind P b (Get n k) word f g = if-ind P (eqb word LEASE) (g k) (λ q. f)
-noted-ind P b (Fill t k) word f g = f
-noted-ind P b (Quar n k d) word f g = f
-noted-ind P b (Stage n i k) word f g = f
-noted-ind P b (Delta n i k o) word f g = f
-noted-ind P b (Validate n m) word f g = f
-noted-ind P b (Done n) word f g = f
-noted-ind P b (Undo n) word f g = f
-noted-ind P b (Evict k) word f g = f
-noted-ind P b Tick word f g = f
-
-noted-quiet : (b : List ℕ) (c : Command) (word : ℕ) → eqb word LEASE ≡ false → noted b c word ≡ b
-noted-quiet b c word q = noted-ind (λ x. x ≡ b) b c word refl (λ k e. clash (eqb word LEASE) e q)
-
-noted-grant : (b : List ℕ) (c : Command) (n k : ℕ) (a : Answer) (t : ℕ) → c ≡ Get n k → a ≡ Answer.Lease t → noted b c (wordOf a) ≡ withGranted b k (registered b k)
-noted-grant b c n k a t p q = rw (p, q)
-
--- a key with a lease is a key
-pub lease-key : (s : State) → sound s ≡ true → (k : ℕ) (l : Lease) → leaseOn s k ≡ some l → k < keyCount
-lease-key s h k l e = let z = place-inside (s .keys) blank k (λ q. Views.no-some l (sym (ap (λ (x : Key). x .lease) q) ∙ e)) in omega (arith, keys-length s h, z)
+noted-ind P b c word f g = rw (noted-is b c word) (if-ind P (eqb word LEASE) (g (asksFor c)) (λ q. f))
 
 module _ (b : List ℕ) (w : World) (h : Recorded b w) (o : Orderly (w .state)) (c : Command) (r : Outcome) (m : Moves (w .state) c r) (after-sound : sound (r .after) ≡ true) where
   -- a session after it is marked as it was; one that is new is unmarked, and the register has not written for it
@@ -117,9 +96,9 @@ module _ (b : List ℕ) (w : World) (h : Recorded b w) (o : Orderly (w .state)) 
   recorded-commanded = go (m .leases)
     where
       go : Leases (w .state) c (r .answer) (r .after) → Recorded (noted b c (wordOf (r .answer))) (commanded w r)
-      go (quiet q f) = rw (noted-quiet b c (wordOf (r .answer)) q) (recorded-by b (h .size) (λ k. refl) (λ i. refl)
+      go (quiet q f) = rw (← noted-none b c (wordOf (r .answer)) (eqb-false (wordOf (r .answer)) LEASE q)) (recorded-by b (h .size) (λ k. refl) (λ i. refl)
           (λ k l e. rw (since-quiet (w .register) (w .since) (r .answer) (l .token) k q) (h .grants k l (f k l e))))
-      go (grant n k p q f) = rw (noted-grant b c n k (r .answer) (w .state .head .nextToken) p q) (recorded-by b′ (Laws.length-granted b (h .size) k (registered b k) short)
+      go (grant n k p q f) = rw (← noted-grant b c (wordOf (r .answer)) k (ap wordOf q) (sym (ap asksFor p))) (recorded-by b′ (Laws.length-granted b (h .size) k (registered b k) short)
           (Laws.registered-granted b (h .size) k (registered b k) short) (Laws.mark-granted b (h .size) k (registered b k) short) (λ j l e. there j l e (f j l e)))
         where
           b′ : List ℕ
@@ -137,7 +116,7 @@ module _ (b : List ℕ) (w : World) (h : Recorded b w) (o : Orderly (w .state)) 
               let given = o .leases j l (y .1) .0 in
               rw (since-other (w .register) (w .since) (r .answer) t (l .token) j q (λ z. omega arith), Laws.granted-other b (h .size) k (registered b k) short j (λ z. y .0 (sym z))) (h .grants j l (y .1))
           there j l e (inr y) =
-              let new : granted b′ j ≡ w .register j = ap (granted b′) (sym (y .0)) ∙ Laws.granted-same b (h .size) k (registered b k) short (rw (y .0) (lease-key (r .after) after-sound j l e)) ∙ h .register k ∙ ap (w .register) (y .0) in
+              let new : granted b′ j ≡ w .register j = ap (granted b′) (sym (y .0)) ∙ Laws.granted-same b (h .size) k (registered b k) short (rw (y .0) (key-inside (r .after) j l (keys-length (r .after) after-sound) e)) ∙ h .register k ∙ ap (w .register) (y .0) in
               rw (since-grant (w .register) (w .since) (r .answer) t (l .token) j q (y .1), new) (omega arith, refl)
 
 -- A write: the session is marked where it is live
@@ -149,7 +128,7 @@ place-live s h n e = let x = session-of s n e in lt-ltb (sessionPlace s n) sessi
 place-dead : (s : State) → sound s ≡ true → (n : ℕ) → notLive s n ≡ true → ltb (sessionPlace s n) sessionCount ≡ false
 place-dead s h n e = elim (case-of (ltb (sessionPlace s n) sessionCount)) [
   | inl q ↦ (let f = ltb-true (sessionPlace s n) sessionCount q in
-      clash (numbered n (sessionOf s n)) (place-passes (numbered n) noSession (s .sessions) (omega (arith, sessions-length s h, f))) (rw (Views.free-slot-is (sessionOf s n) e) refl))
+      clash (numbered n (sessionOf s n)) (place-passes (numbered n) noSession (s .sessions) (omega (arith, sessions-length s h, f))) (rw (Views.free-slot-is (sessionOf s n) e)))
   | inr q ↦ q
 ]
 

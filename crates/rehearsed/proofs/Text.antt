@@ -13,7 +13,7 @@ use lib.ListN.{length}
 use borrow.Author.Tests.{ltb-true}
 use Rattle.lent.specs.Bytes.{Bytes, zeros}
 use Rattle.lent.specs.Tables.{allZero}
-use Rattle.lent.proofs.Choices.{and-yes, if-ind}
+use Rattle.lent.proofs.Choices.{case-of, and-yes, if-ind}
 use Rattle.machine.specs.Sizes.{sessionCount}
 use Rattle.machine.specs.Words.{wordOf}
 use Rattle.machine.specs.State.{Value, sessionPlace}
@@ -37,13 +37,13 @@ use Rattle.writes.specs.Writes.{marked, writes}
 use Rattle.lines.specs.Lines.{readLine}
 use Rattle.lines.specs.declared.Line.{Line}
 use Rattle.lines.proofs.Laws.{sizeOf, Ranged, line-sound}
-use Rattle.rehearsal.specs.Rehearsal.{numbered, acted, saidOf, turn}
+use Rattle.rehearsal.specs.Rehearsal.{commandSaid, acted, saidOf, turn}
 use Rattle.rehearsed.specs.TwoValues.{verdictsTwo}
 use Rattle.rehearsed.specs.Column.{actOf, left, NewBook, Readable}
-use Rattle.rehearsed.specs.Text.{Text, textRule, textAfter, textThrough, textColumn, commandTold, lineTold, eventOf, before, eventsIn, Run, beginning, worldAfter, begunBy, runOf, ruleBy, ruleIn, RulesKept, PromisedIn}
-use Rattle.rehearsed.proofs.TwoValues.{allKeptTwo-of, allKeptTwo-unbroken, allKept-two, two-allKept}
+use Rattle.rehearsed.specs.Text.{Text, textRule, textAfter, textThrough, textColumn, commandTold, lineTold, eventOf, before, eventsIn, Run, beginning, worldAfter, ready, begunBy, runOf, ruleBy, ruleIn, RulesKept, PromisedIn}
+use Rattle.rehearsed.proofs.TwoValues.{allKeptTwo-of, allKeptTwo-unbroken, two-allKept, allKept-two}
 use Rattle.rehearsed.proofs.Recorded.{noted-ind}
-use Rattle.rehearsed.proofs.Column.{Tied, rule-as, tied-next, tied-counted, tied-started, new-zeros, new-counted}
+use Rattle.rehearsed.proofs.Column.{Tied, tied-promised, rule-as, tied-next, tied-counted, tied-started, new-zeros, new-counted}
 
 -- What a line does
 
@@ -52,16 +52,16 @@ abbrev pub saidBy : Memory → Option Event → Said
 saidBy p none = unreadable (p .cache) (p .book)
 saidBy p (some e) = actOf p e
 
-numbered-told : (p : Memory) (time : ℕ) (c : Numbered) (v : Value) → numbered (p .cache) (p .book) time c v ≡ saidBy p (commandTold time c v)
-numbered-told p time (Numbered.Is c) v = refl
-numbered-told p time Numbered.Unknown v = refl
+command-said : (p : Memory) (time : ℕ) (c : Numbered) (v : Value) → commandSaid (p .cache) (p .book) time c v ≡ saidBy p (commandTold time c v)
+command-said p time (Numbered.Is c) v = refl
+command-said p time Numbered.Unknown v = refl
 
 acted-told : (p : Memory) → started (p .book) ≡ true → (l : Line) (v : Value) → acted (p .cache) (p .book) l v ≡ saidBy p (lineTold l v)
 unfolding acted
 acted-told p h Line.Unreadable v = refl
 acted-told p h (Line.Start readLife writeLife) v = rw h
 acted-told p h (Line.Write n k size) v = rw h
-acted-told p h (Line.Command number time a₁ a₂ a₃ a₄ size) v = rw h (numbered-told p time (commandOf number a₁ a₂ a₃ a₄) v)
+acted-told p h (Line.Command number time a₁ a₂ a₃ a₄ size) v = rw h (command-said p time (commandOf number a₁ a₂ a₃ a₄) v)
 
 -- before READY an A line is START, and each other line nothing
 abbrev saidFirst : List ℕ → List ℕ → Line → Said
@@ -146,6 +146,29 @@ still-acted p h (write n k v) r =
     let b = marked (p .cache) (p .book) n in
     let m = still-marked (p .cache) (p .book) h n in
     (Laws.length-registered b (m .0) k v (r .1), Laws.started-registered b (m .0) k v (r .1) ∙ m .1)
+
+-- and the book keeps its size
+
+sized-said : (p : Memory) → StillBegun (p .book) → (o : Option Event) → InRange o → length (saidBy p o .book) ≡ bookSize
+sized-said p h none r = h .0
+sized-said p h (some e) r = still-acted p h e (r .1) .0
+
+sized-first : (x b : List ℕ) → length b ≡ bookSize → (l : Line) → length (saidFirst x b l .book) ≡ bookSize
+unfolding begins
+sized-first x b h Line.Unreadable = h
+sized-first x b h (Line.Start readLife writeLife) =
+    if-ind (λ (y : List ℕ). length y ≡ bookSize) (ready x readLife writeLife) (λ q. Laws.length-started b h) (λ q. h)
+sized-first x b h (Line.Write n k size) = h
+sized-first x b h (Line.Command number time a₁ a₂ a₃ a₄ size) = h
+
+pub sized-text : (p : Memory) → length (p .book) ≡ bookSize → (t : Text) → length (textAfter p t .book) ≡ bookSize
+sized-text p h t = elim (case-of (started (p .book))) [
+  | inl f ↦ go (saidBy p (eventOf t)) (text-told p t f) (sized-said p (h, f) (eventOf t) (event-in-range t))
+  | inr f ↦ go (saidFirst (p .cache) (p .book) (readLine t .line)) (text-first p t f) (sized-first (p .cache) (p .book) h (readLine t .line))
+]
+  where
+    go : (s : Said) → saidOf (p .cache) (p .book) t ≡ s → length (s .book) ≡ bookSize → length (textAfter p t .book) ≡ bookSize
+    go s e l = ap (λ (m : Memory). length (m .book)) (text-after p t s e) ∙ Laws.length-counted (s .book) l (s .rule)
 
 -- After READY
 
@@ -275,20 +298,15 @@ rule-beside p col (some r) h t = tied-rule p (worldAfter r) (h .0 .tied) (h .0 .
 
 kept-zeros : (p : Memory) (col : List ℕ) (o : Option Run) → Follows p col o → RulesKept o → allZero col ≡ true
 kept-zeros p col none h k = h .1
-kept-zeros p col (some r) h k = h .1 ∙ allKeptTwo-unbroken (beginning r) (r .events) (orderly-fresh (r .readLife) (r .writeLife)) (two-allKept (r .readLife) (r .writeLife) (r .events) k)
+kept-zeros p col (some r) h k = h .1 ∙ allKeptTwo-unbroken (beginning r) (r .events) (orderly-fresh (r .readLife) (r .writeLife)) (allKept-two (r .readLife) (r .writeLife) (r .events) k)
 
 zeros-kept : (p : Memory) (col : List ℕ) (o : Option Run) → Follows p col o → allZero col ≡ true → RulesKept o
 zeros-kept p col none h z = tt
-zeros-kept p col (some r) h z = allKept-two (r .readLife) (r .writeLife) (r .events) (allKeptTwo-of (beginning r) (r .events) (sym (h .1) ∙ z))
+zeros-kept p col (some r) h z = two-allKept (r .readLife) (r .writeLife) (r .events) (allKeptTwo-of (beginning r) (r .events) (sym (h .1) ∙ z))
 
 kept-promised : (p : Memory) (col : List ℕ) (o : Option Run) → Follows p col o → RulesKept o → PromisedIn p o
 kept-promised p col none h k = h .0
-kept-promised p col (some r) h k = record {
-  consistent = demand-3-whole (r .readLife) (r .writeLife) (r .events) k;
-  formed = h .0 .tied .formed;
-  cache = h .0 .tied .says;
-  register = h .0 .tied .records .register;
-}
+kept-promised p col (some r) h k = tied-promised p (worldAfter r) (h .0 .tied) (demand-3-whole (r .readLife) (r .writeLife) (r .events) k)
 
 zeros-first : (p : Memory) (ts us : List Text) → allZero (textColumn p (ts ++ us)) ≡ true → allZero (textColumn p ts) ≡ true
 unfolding allZero

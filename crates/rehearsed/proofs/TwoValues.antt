@@ -13,10 +13,9 @@ use lib.Dec.{eqb}
 use lib.ListN.{length}
 use Rattle.lent.specs.Tables.{if_then_else_, same, allZero}
 use Rattle.lent.proofs.Choices.{and-yes, clash, if-ind}
-use Rattle.machine.specs.Sizes.{keyCount}
 use Rattle.machine.specs.Tables.{any}
 use Rattle.machine.specs.Words.{wordOf, LEASE, STORED}
-use Rattle.machine.specs.State.{Value, Lease, Key, blank, State, fresh, leaseOn}
+use Rattle.machine.specs.State.{Value, Lease, State, leaseOn}
 use Rattle.machine.specs.Expiry.{expire}
 use Rattle.machine.specs.Refusals.{refusal}
 use Rattle.machine.specs.Effects.{Outcome, matches, fills, effect}
@@ -79,7 +78,7 @@ Stores s t k r = eqb (wordOf (r .answer)) STORED ≡ true → (l : Lease) × (le
 stores-settled : (s : State) (now t k : ℕ) (v : Value) (o : Option ℕ) → Stores (expire now s) t k (settled s now o (effect (expire now s) now (Fill t k) v))
 unfolding Stores settled effect fills
 stores-settled s now t k v (some e) = λ p. clash false p refl
-stores-settled s now t k v none = if-ind (λ (r : Outcome). eqb (wordOf (r .answer)) STORED ≡ true → (l : Lease) × (leaseOn (expire now s) k ≡ some l) × (l .token ≡ t)) (matches t (leaseOn (expire now s) k))
+stores-settled s now t k v none = if-ind (Stores (expire now s) t k) (matches t (leaseOn (expire now s) k))
     (λ m p. matched t (leaseOn (expire now s) k) m) (λ m p. clash false p refl)
 
 pub stored-lease : (s : State) (now t k : ℕ) (v : Value) → eqb (wordOf (step s now (Fill t k) v .answer)) STORED ≡ true → (l : Lease) × (leaseOn s k ≡ some l) × (l .token ≡ t)
@@ -99,15 +98,11 @@ pub record Steady (w : World) : Type 0 where
   pub level : (k : ℕ) (l : Lease) → leaseOn (w .state) k ≡ some l → Level (w .register k) (w .since (l .token) k)
 
 begun-steady : (readLife writeLife : ℕ) → Steady (freshWorld readLife writeLife)
-unfolding fresh
 begun-steady readLife writeLife = record {
   orderly = orderly-fresh readLife writeLife;
-  noted = λ k l e. none-fresh k l e;
-  level = λ k l e. none-fresh k l e;
+  noted = λ k l e. Views.fresh-lease readLife writeLife k l e;
+  level = λ k l e. Views.fresh-lease readLife writeLife k l e;
 }
-  where
-    none-fresh : {A : Type 0} (k : ℕ) (l : Lease) → leaseOn (freshWorld readLife writeLife .state) k ≡ some l → A
-    none-fresh k l e = Views.no-some l (sym (ap (λ (x : Key). x .lease) (Views.getD-same keyCount k blank)) ∙ e)
 
 -- what is remembered of a token after an answer
 pub since-quiet : (register : ℕ → Value) (since : ℕ → ℕ → List Value) (a : Answer) (t k : ℕ) → eqb (wordOf a) LEASE ≡ false → sinceGrant register since a t k ≡ since t k
@@ -121,17 +116,17 @@ since-other register since a u t k p q = rw (p, ne-eqb u t q)
 
 -- what a command leaves of a lease that it finds or grants
 pub data Remembered (w : World) (a : Answer) (k : ℕ) (l : Lease) : Type 0 where
-  found : leaseOn (w .state) k ≡ some l → sinceGrant (w .register) (w .since) a (l .token) k ≡ w .since (l .token) k → Remembered w a k l
-  granted : sinceGrant (w .register) (w .since) a (l .token) k ≡ (w .register k ∷ []) → Remembered w a k l
+  kept-lease : leaseOn (w .state) k ≡ some l → sinceGrant (w .register) (w .since) a (l .token) k ≡ w .since (l .token) k → Remembered w a k l
+  new-lease : sinceGrant (w .register) (w .since) a (l .token) k ≡ (w .register k ∷ []) → Remembered w a k l
 
 pub remembered : (w : World) (c : Command) (r : Outcome) → Orderly (w .state) → Moves (w .state) c r → (k : ℕ) (l : Lease) → leaseOn (r .after) k ≡ some l → Remembered w (r .answer) k l
 remembered w c r h m k l e = go (m .leases)
   where
     go : Leases (w .state) c (r .answer) (r .after) → Remembered w (r .answer) k l
-    go (quiet q f) = found (f k l e) (since-quiet (w .register) (w .since) (r .answer) (l .token) k q)
+    go (quiet q f) = kept-lease (f k l e) (since-quiet (w .register) (w .since) (r .answer) (l .token) k q)
     go (grant n j p q f) = elim (f k l e) [
-      | inl y ↦ found (y .1) (since-other (w .register) (w .since) (r .answer) (w .state .head .nextToken) (l .token) k q (λ z. let given = h .leases k l (y .1) .0 in omega arith))
-      | inr y ↦ granted (since-grant (w .register) (w .since) (r .answer) (w .state .head .nextToken) (l .token) k q (y .1))
+      | inl y ↦ kept-lease (y .1) (since-other (w .register) (w .since) (r .answer) (w .state .head .nextToken) (l .token) k q (λ z. let given = h .leases k l (y .1) .0 in omega arith))
+      | inr y ↦ new-lease (since-grant (w .register) (w .since) (r .answer) (w .state .head .nextToken) (l .token) k q (y .1))
     ]
 
 commanded-steady : (w : World) → Steady w → (c : Command) (r : Outcome) → Orderly (r .after) → Moves (w .state) c r → Steady (commanded w r)
@@ -143,12 +138,12 @@ commanded-steady w g c r h m = record {
 }
   where
     noted : (k : ℕ) (l : Lease) → Remembered w (r .answer) k l → 1 ≤ length (sinceGrant (w .register) (w .since) (r .answer) (l .token) k)
-    noted k l (found p q) = rw q (g .noted k l p)
-    noted k l (granted q) = rw q (omega arith)
+    noted k l (kept-lease p q) = rw q (g .noted k l p)
+    noted k l (new-lease q) = rw q (omega arith)
 
     level : (k : ℕ) (l : Lease) → Remembered w (r .answer) k l → Level (w .register k) (sinceGrant (w .register) (w .since) (r .answer) (l .token) k)
-    level k l (found p q) = rw q (g .level k l p)
-    level k l (granted q) = rw q (λ u x. List·Memᴰ·eq-of-singleton x)
+    level k l (kept-lease p q) = rw q (g .level k l p)
+    level k l (new-lease q) = rw q (λ u x. List·Memᴰ·eq-of-singleton x)
 
 -- rule 2: a key that is written has a row, and so no lease
 written-steady : (w : World) → Steady w → (n k : ℕ) (v : Value) → HasRow (w .state .rows) n k → Steady (written w n k v)
@@ -212,11 +207,11 @@ module _ (readLife writeLife : ℕ) where
   pub two-values-rule-1 : (es : List Event) → WritesKept (freshWorld readLife writeLife) es → (e : Event) → brokenTwo (run (freshWorld readLife writeLife) es) e ≡ broken (run (freshWorld readLife writeLife) es) e
   two-values-rule-1 es rules = steady-two _ (steady-run es rules)
 
-  pub kept-two : (es : List Event) → WritesKept (freshWorld readLife writeLife) es → (e : Event) → KeptTwo (run (freshWorld readLife writeLife) es) e → Kept (run (freshWorld readLife writeLife) es) e
-  kept-two es rules = steady-kept _ (steady-run es rules)
+  pub two-kept : (es : List Event) → WritesKept (freshWorld readLife writeLife) es → (e : Event) → KeptTwo (run (freshWorld readLife writeLife) es) e → Kept (run (freshWorld readLife writeLife) es) e
+  two-kept es rules = steady-kept _ (steady-run es rules)
 
-  pub two-kept : (es : List Event) → WritesKept (freshWorld readLife writeLife) es → (e : Event) → Kept (run (freshWorld readLife writeLife) es) e → KeptTwo (run (freshWorld readLife writeLife) es) e
-  two-kept es rules = steady-kept-two _ (steady-run es rules)
+  pub kept-two : (es : List Event) → WritesKept (freshWorld readLife writeLife) es → (e : Event) → Kept (run (freshWorld readLife writeLife) es) e → KeptTwo (run (freshWorld readLife writeLife) es) e
+  kept-two es rules = steady-kept-two _ (steady-run es rules)
 
 -- So a whole run that keeps the two-value form keeps the rules, and the other way round
 
@@ -237,8 +232,8 @@ all-two w (e ∷ es) g h =
     let two : KeptTwo w e = steady-kept-two w g e (h .0) in
     (two, all-two (next w e) es (next-steady w e g (write-kept w e two)) (h .1))
 
-pub allKept-two : (readLife writeLife : ℕ) (es : List Event) → AllKeptTwo (freshWorld readLife writeLife) es → AllKept (freshWorld readLife writeLife) es
-allKept-two readLife writeLife es = all-kept (freshWorld readLife writeLife) es (begun-steady readLife writeLife)
+pub two-allKept : (readLife writeLife : ℕ) (es : List Event) → AllKeptTwo (freshWorld readLife writeLife) es → AllKept (freshWorld readLife writeLife) es
+two-allKept readLife writeLife es = all-kept (freshWorld readLife writeLife) es (begun-steady readLife writeLife)
 
-pub two-allKept : (readLife writeLife : ℕ) (es : List Event) → AllKept (freshWorld readLife writeLife) es → AllKeptTwo (freshWorld readLife writeLife) es
-two-allKept readLife writeLife es = all-two (freshWorld readLife writeLife) es (begun-steady readLife writeLife)
+pub allKept-two : (readLife writeLife : ℕ) (es : List Event) → AllKept (freshWorld readLife writeLife) es → AllKeptTwo (freshWorld readLife writeLife) es
+allKept-two readLife writeLife es = all-two (freshWorld readLife writeLife) es (begun-steady readLife writeLife)

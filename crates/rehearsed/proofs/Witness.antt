@@ -18,21 +18,18 @@ use Rattle.machine.specs.Expiry.{leave, finish, expire}
 use Rattle.machine.specs.Refusals.{decide, blocked, sight, wouldLease, wouldGrant, refusals, refusal}
 use Rattle.machine.specs.Effects.{begins, wait, leased, missed, looked, fills, asks, operate, changed, stages, effect}
 use Rattle.machine.specs.Step.{settled, step}
-use Rattle.machine.specs.World.{Event, command, write, freshWorld, commanded, written, run, AllBytes}
+use Rattle.machine.specs.World.{Event, command, write, commanded, written, run, AllBytes}
 use Rattle.machine.specs.Test.{verdicts}
 use Rattle.machine.specs.Witness.{events}
 use Rattle.machine.specs.declared.Answer.{Answer}
-use Rattle.startup.specs.Start.{Reply, startOf}
-use Rattle.startup.proofs.Started.{started-ready}
+use Rattle.startup.specs.Start.{startOf}
 use Rattle.book.specs.Book.{bookSize}
-use Rattle.promises.proofs.Witness.{byteTest, byte-test}
+use Rattle.promises.proofs.Witness.{witness-ready, byteTest, byte-test}
 use Rattle.rehearsed.specs.TwoValues.{verdictsTwo}
 use Rattle.rehearsed.specs.Column.{through, column, AllReadable, Promised}
-use Rattle.rehearsed.specs.Witness.{begunMemory, breaks, third}
+use Rattle.rehearsed.specs.Example.{readLife, writeLife}
+use Rattle.rehearsed.specs.Witness.{begunMemory, begunWorld, breaks, third}
 use Rattle.rehearsed.proofs.Column.{new-zeros, column-verdicts, zeros-promised}
-
-ready : startOf (zeros stateSize) 1000 5000 .answer ≡ Answer.Ready
-ready = ap (λ (r : Reply). r .answer) (started-ready (zeros stateSize) 1000 5000 (length-replicate {A = ℕ} stateSize 0) refl refl)
 
 -- that a run can be read is tested
 
@@ -41,47 +38,48 @@ readTest [] = true
 readTest (command now c v ∷ es) = byteTest v && readTest es
 readTest (write n k v ∷ es) = (ltb k keyCount && leb (length v) valueMax) && readTest es
 
-read-bytes : (es : List Event) → readTest es ≡ true → AllBytes es
-read-bytes [] e = tt
-read-bytes (command now c v ∷ es) e = (byte-test v (and-yes (byteTest v) (readTest es) e .0), read-bytes es (and-yes (byteTest v) (readTest es) e .1))
-read-bytes (write n k v ∷ es) e = (tt, read-bytes es (and-yes (ltb k keyCount && leb (length v) valueMax) (readTest es) e .1))
+tested-readable : (es : List Event) → readTest es ≡ true → AllBytes es × AllReadable es
+tested-readable [] e = (tt, tt)
+tested-readable (command now c v ∷ es) e =
+    let x = and-yes (byteTest v) (readTest es) e in
+    let r = tested-readable es (x .1) in
+    ((byte-test v (x .0), r .0), (tt, r .1))
+tested-readable (write n k v ∷ es) e =
+    let x = and-yes (ltb k keyCount && leb (length v) valueMax) (readTest es) e in
+    let y = and-yes (ltb k keyCount) (leb (length v) valueMax) (x .0) in
+    let r = tested-readable es (x .1) in
+    ((tt, r .0), ((ltb-true k keyCount (y .0), leb-true (length v) valueMax (y .1)), r .1))
 
-read-readable : (es : List Event) → readTest es ≡ true → AllReadable es
-read-readable [] e = tt
-read-readable (command now c v ∷ es) e = (tt, read-readable es (and-yes (byteTest v) (readTest es) e .1))
-read-readable (write n k v ∷ es) e =
-    let x = and-yes (ltb k keyCount && leb (length v) valueMax) (readTest es) e .0 in (
-      (ltb-true k keyCount (and-yes (ltb k keyCount) (leb (length v) valueMax) x .0), leb-true (length v) valueMax (and-yes (ltb k keyCount) (leb (length v) valueMax) x .1)),
-      read-readable es (and-yes (ltb k keyCount && leb (length v) valueMax) (readTest es) e .1),
-    )
+zeros-ready : startOf (zeros stateSize) readLife writeLife .answer ≡ Answer.Ready
+zeros-ready = witness-ready (zeros stateSize) (length-replicate {A = ℕ} stateSize 0)
 
 -- then its column is what is computed
-column-is : (es : List Event) (l : List ℕ) → readTest es ≡ true → verdictsTwo (freshWorld 1000 5000) es ≡ l → column begunMemory es ≡ l
-column-is es l e f = column-verdicts (zeros stateSize) (zeros bookSize) 1000 5000 ready new-zeros es (read-bytes es e) (read-readable es e) ∙ f
+column-is : (es : List Event) (l : List ℕ) → readTest es ≡ true → verdictsTwo begunWorld es ≡ l → column begunMemory es ≡ l
+column-is es l e f =
+    let r = tested-readable es e in
+    column-verdicts (zeros stateSize) (zeros bookSize) readLife writeLife zeros-ready new-zeros es (r .0) (r .1) ∙ f
 
--- The run that keeps the rules
+-- The verdicts of a run that keeps the rules, of one that breaks each, and of one that breaks rule 2 between a grant and its FILL: the register held a third
+-- value there, so that rule 1 is kept and its two-value form is not
 
-verdicts-zero : allZero (verdictsTwo (freshWorld 1000 5000) events) ≡ true
+verdicts-are : (allZero (verdictsTwo begunWorld events) ≡ true)
+    × (verdictsTwo begunWorld breaks ≡ (0 ∷ 1 ∷ 2 ∷ 0 ∷ 0 ∷ 0 ∷ 0 ∷ 0 ∷ 4 ∷ 0 ∷ 2 ∷ 3 ∷ []))
+    × (verdictsTwo begunWorld third ≡ (0 ∷ 2 ∷ 2 ∷ 1 ∷ []))
+    × (verdicts begunWorld third ≡ (0 ∷ 2 ∷ 2 ∷ 0 ∷ []))
 unfolding same allZero readCount decision fresh leave finish expire decide blocked sight wouldLease wouldGrant refusals refusal begins wait leased missed looked fills asks operate changed stages effect settled step commanded written
-verdicts-zero = refl
+verdicts-are = (refl, refl, refl, refl)
 
 pub witness-zeros : allZero (column begunMemory events) ≡ true
-witness-zeros = ap allZero (column-is events (verdictsTwo (freshWorld 1000 5000) events) refl refl) ∙ verdicts-zero
+witness-zeros = ap allZero (column-is events (verdictsTwo begunWorld events) refl refl) ∙ verdicts-are .0
 
-pub witness-promised : (i : ℕ) → Promised (through begunMemory (take i events)) (run (freshWorld 1000 5000) (take i events))
+pub witness-promised : (i : ℕ) → Promised (through begunMemory (take i events)) (run begunWorld (take i events))
 witness-promised i =
     let whole : (take i events ++ drop i events) ≡ events = take-append-drop i events in
-    zeros-promised (zeros stateSize) (zeros bookSize) 1000 5000 ready new-zeros (take i events) (drop i events)
-    (rw whole (read-bytes events refl)) (rw whole (read-readable events refl)) (rw whole witness-zeros)
-
--- A run that breaks each
+    let r = tested-readable events refl in
+    zeros-promised (zeros stateSize) (zeros bookSize) readLife writeLife zeros-ready new-zeros (take i events) (drop i events) (rw whole (r .0)) (rw whole (r .1)) (rw whole witness-zeros)
 
 pub witness-breaks : column begunMemory breaks ≡ (0 ∷ 1 ∷ 2 ∷ 0 ∷ 0 ∷ 0 ∷ 0 ∷ 0 ∷ 4 ∷ 0 ∷ 2 ∷ 3 ∷ [])
-unfolding same allZero readCount decision fresh leave finish expire decide blocked sight wouldLease wouldGrant refusals refusal begins wait leased missed looked fills asks operate changed stages effect settled step commanded written
-witness-breaks = column-is breaks (0 ∷ 1 ∷ 2 ∷ 0 ∷ 0 ∷ 0 ∷ 0 ∷ 0 ∷ 4 ∷ 0 ∷ 2 ∷ 3 ∷ []) refl refl
+witness-breaks = column-is breaks (0 ∷ 1 ∷ 2 ∷ 0 ∷ 0 ∷ 0 ∷ 0 ∷ 0 ∷ 4 ∷ 0 ∷ 2 ∷ 3 ∷ []) refl (verdicts-are .1)
 
--- Where rule 2 is broken between the grant and the FILL, the register held a third value there: rule 1 is kept, its two-value form is not
-
-pub witness-third : (column begunMemory third ≡ (0 ∷ 2 ∷ 2 ∷ 1 ∷ [])) × (verdicts (freshWorld 1000 5000) third ≡ (0 ∷ 2 ∷ 2 ∷ 0 ∷ []))
-unfolding same allZero readCount decision fresh leave finish expire decide blocked sight wouldLease wouldGrant refusals refusal begins wait leased missed looked fills asks operate changed stages effect settled step commanded written
-witness-third = (column-is third (0 ∷ 2 ∷ 2 ∷ 1 ∷ []) refl refl, refl)
+pub witness-third : (column begunMemory third ≡ (0 ∷ 2 ∷ 2 ∷ 1 ∷ [])) × (verdicts begunWorld third ≡ (0 ∷ 2 ∷ 2 ∷ 0 ∷ []))
+witness-third = (column-is third (0 ∷ 2 ∷ 2 ∷ 1 ∷ []) refl (verdicts-are .2), verdicts-are .3)

@@ -1,10 +1,18 @@
 -- 01's worked example of the rehearsal: its twelve lines as text, and the events that they tell after START.
+use Prim.Native.Nat.{ℕ}
 use mathlib.Core.List.{List, [], _∷_, _++_}
 use Rattle.machine.specs.State.{Value}
 use Rattle.machine.specs.World.{Event, command, write}
 use Rattle.machine.specs.declared.Command.the-variants.{Begin, Get, Fill, Quar, Validate, Done}
 use Rattle.replies.specs.Text.{ascii}
 use Rattle.rehearsed.specs.Text.{Text, Run}
+
+-- the lifetimes that START is given, in the first line
+abbrev pub readLife : ℕ
+readLife = 1000
+
+abbrev pub writeLife : ℕ
+writeLife = 5000
 
 -- The lines
 
@@ -35,10 +43,10 @@ example = starting ∷ (between ++ (hitting ∷ []))
 
 -- the bytes of 6131 and of 6232
 abbrev pub firstValue : Value
-firstValue = 97 ∷ 49 ∷ []
+firstValue = ascii "a1"
 
 abbrev pub secondValue : Value
-secondValue = 98 ∷ 50 ∷ []
+secondValue = ascii "b2"
 
 abbrev pub eventsBetween : List Event
 eventsBetween =
@@ -57,6 +65,6 @@ eventsBetween =
 abbrev pub exampleEvents : List Event
 exampleEvents = eventsBetween ++ (command 15 (Get 0 7) [] ∷ [])
 
--- the run with these events behind `A 1000 5000`
+-- the run with these events behind the first line
 abbrev pub runFrom : List Event → Run
-runFrom es = record { readLife = 1000; writeLife = 5000; events = es }
+runFrom es = record { readLife = readLife; writeLife = writeLife; events = es }

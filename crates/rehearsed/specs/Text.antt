@@ -1,7 +1,7 @@
 -- The rehearsal's run over lines of text: both buffers and the column of the rules through them, and the run of the machine beside the register that the lines tell.
 use mathlib.Core.Path.{_≡_}
 use mathlib.Core.Bool.{Bool, false}
-use mathlib.Core.List.{List, [], _∷_}
+use mathlib.Core.List.{List, [], _∷_, _++_}
 use mathlib.Core.Option.{Option, none, some}
 use Prim.Native.Nat.{ℕ}
 use lib.Dec.{eqb}
@@ -13,7 +13,8 @@ use Rattle.startup.specs.Start.{startOf}
 use Rattle.numbered.specs.Commands.{commandOf}
 use Rattle.numbered.specs.declared.Numbered.{Numbered}
 use Rattle.book.specs.Memory.{Memory}
-use Rattle.book.specs.Book.{started}
+use Rattle.book.specs.Book.{started, linesIn}
+use Rattle.replies.specs.Replies.{replied}
 use Rattle.lines.specs.Lines.{readLine}
 use Rattle.lines.specs.declared.Line.{Line}
 use Rattle.rehearsal.specs.Rehearsal.{saidOf, turn}
@@ -39,6 +40,13 @@ textThrough p (t ∷ ts) = textThrough (textAfter p t) ts
 abbrev pub textColumn : Memory → List Text → List ℕ
 textColumn p [] = []
 textColumn p (t ∷ ts) = textRule p t ∷ textColumn (textAfter p t) ts
+
+-- what is printed of them: an output line each, which ends in its rule
+abbrev pub textPrinted : Memory → List Text → List ℕ
+textPrinted p [] = []
+textPrinted p (t ∷ ts) =
+    let s = saidOf (p .cache) (p .book) t in
+    replied (linesIn (textAfter p t .book)) (s .word) (s .detail) (s .value) (textRule p t) ++ textPrinted (textAfter p t) ts
 
 -- What the lines tell
 

@@ -3,22 +3,26 @@ use mathlib.Core.List.{List, [], _∷_}
 use Rattle.lent.specs.Bytes.{zeros}
 use Rattle.machine.specs.Sizes.{stateSize}
 use Rattle.machine.specs.State.{Value}
-use Rattle.machine.specs.World.{Event, command, write}
+use Rattle.machine.specs.World.{Event, command, write, World, freshWorld}
 use Rattle.machine.specs.declared.Command.the-variants.{Begin, Get, Fill, Quar, Stage, Validate, Done, Undo}
 use Rattle.book.specs.Memory.{Memory}
 use Rattle.book.specs.Book.{bookSize}
+use Rattle.replies.specs.Text.{ascii}
 use Rattle.rehearsed.specs.Column.{startedMemory}
+use Rattle.rehearsed.specs.Example.{readLife, writeLife}
 
--- after START
+-- after START, both buffers and the world of the machine
 abbrev pub begunMemory : Memory
-begunMemory = startedMemory (zeros stateSize) (zeros bookSize) 1000 5000
+begunMemory = startedMemory (zeros stateSize) (zeros bookSize) readLife writeLife
 
--- "old", "new"
+abbrev pub begunWorld : World
+begunWorld = freshWorld readLife writeLife
+
 abbrev pub old : Value
-old = 111 ∷ 108 ∷ 100 ∷ []
+old = ascii "old"
 
 abbrev pub new : Value
-new = 110 ∷ 101 ∷ 119 ∷ []
+new = ascii "new"
 
 -- a FILL of what the register never held, a write for nobody, a DONE that caches another value, an UNDO after a write
 abbrev pub breaks : List Event

@@ -19,7 +19,8 @@ use Rattle.machine.specs.Sizes.{valueMax}
 use Rattle.machine.specs.Words.{SESSION, BACKOFF, LEASE}
 use Rattle.words.specs.Numbers.{REFUSED}
 use Rattle.hex.proofs.Printing.{hex-most}
-use Rattle.replies.specs.Text.{ascii, space, newline}
+use Rattle.lent.specs.Text.{space, newline}
+use Rattle.replies.specs.Text.{ascii}
 use Rattle.replies.specs.Replies.{lineRoom, detailMax, nameOf, printed, numbered, valued, detailed, field, replied, ended, Put}
 use Rattle.replies.proofs.Names.{name-most}
 
@@ -60,7 +61,7 @@ unfolding printed
 printed-most n = decimal-most n
 
 pub number-most : (n v : ℕ) → length (field (printed n) v) ≤ digitsMax + 1
-number-most n v = rw (length-append (printed n) (v ∷ [])) (omega (arith, printed-most n))
+number-most n v = omega (arith, field-length (printed n) v, printed-most n)
 
 module _ (n : ℕ) (s : List ℕ) (h : digitsMax ≤ length s) where
   pub printed-bytes : written n s .bytes ≡ splice s 0 (printed n)

@@ -11,7 +11,7 @@ use Rattle.lent.specs.Tables.{every, same}
 use Rattle.lent.proofs.Choices.{and-yes}
 use Rattle.lent.proofs.Walks.{every-all}
 use Rattle.lent.proofs.Equal.{same-eq}
-use Rattle.replies.specs.Text.{space}
+use Rattle.lent.specs.Text.{space}
 use Rattle.replies.specs.Replies.{UNREADABLE, wordCount, wordMax, words, nameOf}
 
 -- a number behind the list is UNREADABLE's
@@ -20,28 +20,28 @@ unfolding nameOf words
 name-other word h = sym (List·getD-eq-default words _ h)
 
 -- the tables, as the code has them: each word's length, and its row of ten bytes
-unfoldable pub lengths : List ℕ
-lengths = map (λ (x : List ℕ). length x) words
+unfoldable pub wordLengths : List ℕ
+wordLengths = map (λ (x : List ℕ). length x) words
 
-unfoldable pub rows : List (List ℕ)
-rows = map (λ (x : List ℕ). take wordMax (x ++ replicate wordMax space)) words
+unfoldable pub paddedWords : List (List ℕ)
+paddedWords = map (λ (x : List ℕ). take wordMax (x ++ replicate wordMax space)) words
 
-length-each : every (λ i. eqb (getD lengths i 0) (length (nameOf i)) && leb (getD lengths i 0) wordMax) wordCount ≡ true
-unfolding every lengths words nameOf
+length-each : every (λ i. eqb (getD wordLengths i 0) (length (nameOf i)) && leb (getD wordLengths i 0) wordMax) wordCount ≡ true
+unfolding every wordLengths words nameOf
 length-each = refl
 
-front-each : every (λ i. same (take (length (nameOf i)) (getD rows i [])) (nameOf i)) wordCount ≡ true
-unfolding every same rows words nameOf
+front-each : every (λ i. same (take (length (nameOf i)) (getD paddedWords i [])) (nameOf i)) wordCount ≡ true
+unfolding every same paddedWords words nameOf
 front-each = refl
 
-pub length-at : (word : ℕ) → word < wordCount → (getD lengths word 0 ≡ length (nameOf word)) × (getD lengths word 0 ≤ wordMax)
+pub length-at : (word : ℕ) → word < wordCount → (getD wordLengths word 0 ≡ length (nameOf word)) × (getD wordLengths word 0 ≤ wordMax)
 length-at word h =
-    let p = and-yes (eqb (getD lengths word 0) (length (nameOf word))) (leb (getD lengths word 0) wordMax) (every-all (λ i. eqb (getD lengths i 0) (length (nameOf i)) && leb (getD lengths i 0) wordMax) wordCount word length-each h) in
-    (eqb-true (getD lengths word 0) (length (nameOf word)) (p .0), leb-true (getD lengths word 0) wordMax (p .1))
+    let p = and-yes (eqb (getD wordLengths word 0) (length (nameOf word))) (leb (getD wordLengths word 0) wordMax) (every-all (λ i. eqb (getD wordLengths i 0) (length (nameOf i)) && leb (getD wordLengths i 0) wordMax) wordCount word length-each h) in
+    (eqb-true (getD wordLengths word 0) (length (nameOf word)) (p .0), leb-true (getD wordLengths word 0) wordMax (p .1))
 
-pub front-at : (word : ℕ) → word < wordCount → take (length (nameOf word)) (getD rows word []) ≡ nameOf word
+pub front-at : (word : ℕ) → word < wordCount → take (length (nameOf word)) (getD paddedWords word []) ≡ nameOf word
 front-at word h =
-    same-eq (take (length (nameOf word)) (getD rows word [])) (nameOf word) (every-all (λ i. same (take (length (nameOf i)) (getD rows i [])) (nameOf i)) wordCount word front-each h)
+    same-eq (take (length (nameOf word)) (getD paddedWords word [])) (nameOf word) (every-all (λ i. same (take (length (nameOf i)) (getD paddedWords i [])) (nameOf i)) wordCount word front-each h)
 
 -- a row's front of the word's length
 pub front-is : (n : ℕ) (x row : List ℕ) → n ≡ length x → take (length x) row ≡ x → take n row ≡ x

@@ -8,11 +8,12 @@ use lib.Dec.{eqb}
 use lib.ListN.{length, getD}
 use Rattle.lent.specs.Bytes.{splice}
 use Rattle.lent.specs.Tables.{if_then_else_}
+use Rattle.lent.specs.Text.{space, newline}
 use Rattle.counts.specs.Count.{decimal}
 use Rattle.hex.specs.Hex.{hexOf}
 use Rattle.machine.specs.Words.{SESSION, HIT, BACKOFF, LEASE}
 use Rattle.words.specs.Numbers.{REFUSED}
-use Rattle.replies.specs.Text.{ascii, space, newline}
+use Rattle.replies.specs.Text.{ascii}
 
 -- the room that a line is given; none takes more
 abbrev pub lineRoom : ℕ
@@ -75,7 +76,7 @@ nameOf word = getD words word (ascii "UNREADABLE")
 abbrev pub detailMax : ℕ
 detailMax = 128
 
--- a number in decimal
+-- a number in decimal; unlike `decimal` it stays folded where lines are compared
 unfoldable pub printed : ℕ → List ℕ
 printed n = decimal n
 

@@ -9,9 +9,3 @@ use mathlib.Core.List.{List, [], _∷_}
 abbrev pub ascii : String → List ℕ
 ascii text.[] = []
 ascii (text._∷_ c s) = code c ∷ ascii s
-
-abbrev pub space : ℕ
-space = 32
-
-abbrev pub newline : ℕ
-newline = 10

@@ -4,7 +4,7 @@ ghost use mathlib.Core.List.{[], _∷_};
 ghost use Prim.Native.Nat.{_+_, _≤_, _<_};
 ghost use lib.ListN.{length, take};
 ghost use Rattle.lent.specs.Bytes.{splice};
-ghost use Rattle.replies.specs.Text.{space};
+ghost use Rattle.lent.specs.Text.{space};
 ghost use Rattle.counts.specs.Count.{digitsMax};
 ghost use Rattle.hex.specs.Hex.{hexOf};
 ghost use Rattle.machine.specs.Sizes.{valueMax};

@@ -1,10 +1,10 @@
--- Rule 4 on the rows: what a row's fields say of its staged value, and a walk over all rows.
-use Prim.Native.Nat.{ℕ, suc, _≤_, _<_}
+-- A row breaks rule 4 for n where it is n's, has a staged value, and that value is not the register's; each test is read from the row's fields, and a walk that met no such row shows there is none.
+use Prim.Native.Nat.{ℕ, _≤_, _<_}
 use mathlib.Core.Path.{_≡_, refl, ap, _∙_}
 use mathlib.Core.Bool.{Bool, false, not}
-use mathlib.Core.List.{List, [], _∷_}
+use mathlib.Core.List.{List}
 use native.Mathlib.Omega.{arith}
-use lib.ListN.{length, getD}
+use lib.ListN.{length}
 use borrow.Author.Tests.{eq-eqb, ne-eqb}
 use Rattle.lent.specs.Bytes.{win}
 use Rattle.lent.specs.Tables.{same, some}
@@ -13,7 +13,8 @@ use Rattle.machine.specs.Sizes.{rowCount, stagedAt}
 use Rattle.machine.specs.Tables.{any}
 use Rattle.machine.specs.State.{Value, nothing, staged, DROP, Row, noRow, row, State, stagedIn, rowAt}
 use Rattle.machine.specs.Test.{differs}
-use Rattle.layout.specs.Fields.{rowSession, rowKey, stagedMark, stagedLength}
+use Rattle.machine.proofs.Views.{none-any}
+use Rattle.layout.specs.Fields.{rowSession, rowKey, VALUED, stagedMark, stagedLength}
 use Rattle.layout.specs.Holds.{Holds}
 use Rattle.layout.proofs.Held.{staged-stands}
 
@@ -26,13 +27,13 @@ module _ (register : ℕ → Value) (n : ℕ) where
   differs-other (row m k d (staged u)) f = rw (ne-eqb m n f)
   differs-other (row m k d DROP) f = refl
 
-  pub differs-unstaged : (r : Row) → (stagedMark (stagedIn r) ≡ 1 → ⊥) → differs register n r ≡ false
+  pub differs-unstaged : (r : Row) → (stagedMark (stagedIn r) ≡ VALUED → ⊥) → differs register n r ≡ false
   differs-unstaged noRow f = refl
   differs-unstaged (row m k d nothing) f = refl
   differs-unstaged (row m k d (staged u)) f = absurd (f refl)
   differs-unstaged (row m k d DROP) f = refl
 
-  differs-staged : (r : Row) (v : Value) → rowSession r ≡ n → stagedMark (stagedIn r) ≡ 1 → ((u : Value) → stagedIn r ≡ staged u → v ≡ u)
+  differs-staged : (r : Row) (v : Value) → rowSession r ≡ n → stagedMark (stagedIn r) ≡ VALUED → ((u : Value) → stagedIn r ≡ staged u → v ≡ u)
       → differs register n r ≡ not (same v (register (rowKey r)))
   differs-staged noRow v e m f = absurd (omega arith)
   differs-staged (row j k d nothing) v e m f = absurd (omega arith)
@@ -40,16 +41,12 @@ module _ (register : ℕ → Value) (n : ℕ) where
   differs-staged (row j k d DROP) v e m f = absurd (omega arith)
 
   -- the value that stands in the bytes of row i
-  pub differs-row : {b : List ℕ} {s : State} → Holds b s → (i : ℕ) → i < rowCount → (l k : ℕ) → rowSession (rowAt s i) ≡ n → stagedMark (stagedIn (rowAt s i)) ≡ 1
+  pub differs-row : {b : List ℕ} {s : State} → Holds b s → (i : ℕ) → i < rowCount → (l k : ℕ) → rowSession (rowAt s i) ≡ n → stagedMark (stagedIn (rowAt s i)) ≡ VALUED
       → l ≡ stagedLength (stagedIn (rowAt s i)) → k ≡ rowKey (rowAt s i) → differs register n (rowAt s i) ≡ not (same (win b (stagedAt i) l) (register k))
   differs-row {b} {s} h i g l k e m q p =
       differs-staged (rowAt s i) (win b (stagedAt i) l) e m (λ u f. ap (win b (stagedAt i)) (q ∙ ap stagedLength f) ∙ staged-stands h i g u f) ∙ rw p
 
 -- ---- all rows
 
-any-none : {A : Type 0} (p : A → Bool) (d : A) (l : List A) → ((j : ℕ) → j < length l → p (getD l j d) ≡ false) → any p l ≡ false
-any-none p d [] f = refl
-any-none p d (x ∷ l) f = rw (f 0 (omega arith), any-none p d l (λ j h. f (suc j) (omega arith)))
-
 pub none-stale : (p : Row → Bool) (s : State) (i : ℕ) → length (s .rows) ≡ rowCount → rowCount ≤ i → some (λ j. p (rowAt s j)) i ≡ false → any p (s .rows) ≡ false
-none-stale p s i l g e = any-none p noRow (s .rows) (λ j h. some-none (λ j. p (rowAt s j)) i j e (omega arith))
+none-stale p s i l g e = none-any p noRow (s .rows) (λ j h. some-none (λ j. p (rowAt s j)) i j e (omega arith))

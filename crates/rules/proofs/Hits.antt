@@ -13,7 +13,7 @@ use Rattle.lent.specs.Tables.{if_then_else_}
 use Rattle.lent.proofs.Choices.{clash, if-ind}
 use Rattle.machine.specs.Sizes.{stateSize, keyCount, rowCount, valueMax, valueAt, stagedAt}
 use Rattle.machine.specs.Tables.{first, mem}
-use Rattle.machine.specs.Words.{wordOf, detailOf, HIT, wordsOf}
+use Rattle.machine.specs.Words.{wordOf, detailOf, HIT, wordsOf, INVALIDATE}
 use Rattle.machine.specs.State.{Value, nothing, staged, DROP, Row, noRow, row, State, freeRow, rowPlace, rowOf, rowAt, cached}
 use Rattle.machine.specs.Sound.{sound}
 use Rattle.machine.specs.Expiry.{expire}
@@ -36,89 +36,89 @@ use Rattle.words.specs.Numbers.{placeOf}
 use Rattle.cache.specs.Run.{ran}
 
 -- n bytes at a place, within the state and no more than a value has
-pub record Within (at n : ℕ) : Type 0 where
+pub record ValueInside (at n : ℕ) : Type 0 where
   pub inside : at + n ≤ stateSize
   pub short : n ≤ valueMax
 
 -- ---- what is in sight
 
 module _ (s : State) (ok : sound s ≡ true) (k : ℕ) (l : k < keyCount) where
-  cached-within : (o : Option Value) → cached s k ≡ o → (x : Sight) → cachedSight k o ≡ some x → Within (x .at) (length (x .value))
-  cached-within none q x e = no-some x e
-  cached-within (some v) q x e =
+  cached-inside : (o : Option Value) → cached s k ≡ o → (x : Sight) → cachedSight k o ≡ some x → ValueInside (x .at) (length (x .value))
+  cached-inside none q x e = no-some x e
+  cached-inside (some v) q x e =
       let f : length v ≤ valueMax = facts.value-fine s ok k q .short in
       rw (← some-eq (record { at = valueAt k; value = v }) x e) (record { inside = omega arith; short = f })
 
-  row-within : (i : ℕ) (r : Row) → rowAt s i ≡ r → (x : Sight) → rowSight i k r (cached s k) ≡ some x → Within (x .at) (length (x .value))
-  row-within i noRow q x e = cached-within (cached s k) refl x e
-  row-within i (row n j d nothing) q x e = go (eqb d 1) e
+  row-inside : (i : ℕ) (r : Row) → rowAt s i ≡ r → (x : Sight) → rowSight i k r (cached s k) ≡ some x → ValueInside (x .at) (length (x .value))
+  row-inside i noRow q x e = cached-inside (cached s k) refl x e
+  row-inside i (row n j d nothing) q x e = go (eqb d INVALIDATE) e
     where
-      go : (t : Bool) → (if t then none else cachedSight k (cached s k)) ≡ some x → Within (x .at) (length (x .value))
+      go : (t : Bool) → (if t then none else cachedSight k (cached s k)) ≡ some x → ValueInside (x .at) (length (x .value))
       go true f = no-some x f
-      go false f = cached-within (cached s k) refl x f
-  row-within i (row n j d (staged v)) q x e =
+      go false f = cached-inside (cached s k) refl x f
+  row-inside i (row n j d (staged v)) q x e =
       let p : i < rowCount = facts.row-place s ok i q in
       let f : length v ≤ valueMax = facts.row-staged s ok i q .1 .short in
       rw (← some-eq (record { at = stagedAt i; value = v }) x e) (record { inside = omega arith; short = f })
-  row-within i (row n j d DROP) q x e = no-some x e
+  row-inside i (row n j d DROP) q x e = no-some x e
 
-  sight-within : (n : ℕ) (x : Sight) → sight s n k ≡ some x → Within (x .at) (length (x .value))
+  sight-inside : (n : ℕ) (x : Sight) → sight s n k ≡ some x → ValueInside (x .at) (length (x .value))
   unfolding sight
-  sight-within n x e = row-within (rowPlace s n k) (rowOf s n k) refl x e
+  sight-inside n x e = row-inside (rowPlace s n k) (rowOf s n k) refl x e
 
 -- ---- a HIT
 
-abbrev pub HitWithin : Answer → Type 0
-HitWithin a = wordOf a ≡ HIT → Within (placeOf a) (detailOf a)
+abbrev pub HitInside : Answer → Type 0
+HitInside a = wordOf a ≡ HIT → ValueInside (placeOf a) (detailOf a)
 
-looked-within : (s : State) (now n k : ℕ) → sound s ≡ true → k < keyCount → (o : Option Sight) → sight s n k ≡ o → HitWithin (looked s now n k o .answer)
+looked-inside : (s : State) (now n k : ℕ) → sound s ≡ true → k < keyCount → (o : Option Sight) → sight s n k ≡ o → HitInside (looked s now n k o .answer)
 unfolding looked missed leased
-looked-within s now n k ok l (some x) q = λ w. sight-within s ok k l n x q
-looked-within s now n k ok l none q = if-ind (λ (r : Outcome). HitWithin (r .answer)) (freeRow (rowOf s n k))
-    (λ p. if-ind (λ (r : Outcome). HitWithin (r .answer)) (blocked s k) (λ b w. absurd (omega arith)) (λ b w. absurd (omega arith)))
+looked-inside s now n k ok l (some x) q = λ w. sight-inside s ok k l n x q
+looked-inside s now n k ok l none q = if-ind (λ (r : Outcome). HitInside (r .answer)) (freeRow (rowOf s n k))
+    (λ p. if-ind (λ (r : Outcome). HitInside (r .answer)) (blocked s k) (λ b w. absurd (omega arith)) (λ b w. absurd (omega arith)))
     (λ p w. absurd (omega arith))
 
-get-within : (s : State) (now n k : ℕ) (v : Value) → sound s ≡ true → refusal s now (Get n k) v ≡ none → HitWithin (effect s now (Get n k) v .answer)
+get-inside : (s : State) (now n k : ℕ) (v : Value) → sound s ≡ true → refusal s now (Get n k) v ≡ none → HitInside (effect s now (Get n k) v .answer)
 unfolding effect refusals
-get-within s now n k v ok e = looked-within s now n k ok (leb-false keyCount k (passed s now (Get n k) v e 1)) (sight s n k) refl
+get-inside s now n k v ok e = looked-inside s now n k ok (leb-false keyCount k (passed s now (Get n k) v e 1)) (sight s n k) refl
 
 -- the word of no other command
-no-hit : (s : State) (now : ℕ) (c : Command) (v : Value) → refusal (expire now s) now c v ≡ none → mem HIT (wordsOf c) ≡ false → HitWithin (step s now c v .answer)
+no-hit : (s : State) (now : ℕ) (c : Command) (v : Value) → refusal (expire now s) now c v ≡ none → mem HIT (wordsOf c) ≡ false → HitInside (step s now c v .answer)
 unfolding refusal
 no-hit s now c v e f w = clash (mem HIT (wordsOf c)) (rw w at (accepted-word s now c v e)) f
 
-refused-within : (s : State) (now : ℕ) (c : Command) (v : Value) (m : ℕ) → refusal (expire now s) now c v ≡ some m → HitWithin (step s now c v .answer)
+refused-inside : (s : State) (now : ℕ) (c : Command) (v : Value) (m : ℕ) → refusal (expire now s) now c v ≡ some m → HitInside (step s now c v .answer)
 unfolding step settled
-refused-within s now c v m e = rw e (λ w. absurd (omega arith))
+refused-inside s now c v m e = rw e (λ w. absurd (omega arith))
 
 module _ (s : State) (now : ℕ) (v : Value) (ok : sound s ≡ true) where
-  accepted-within : (c : Command) → refusal (expire now s) now c v ≡ none → HitWithin (step s now c v .answer)
+  accepted-inside : (c : Command) → refusal (expire now s) now c v ≡ none → HitInside (step s now c v .answer)
   unfolding step settled
-  accepted-within Begin e = no-hit s now Begin v e refl
-  accepted-within (Get n k) e = rw e (get-within (expire now s) now n k v (expire-sound s now ok) e)
-  accepted-within (Fill t k) e = no-hit s now (Fill t k) v e refl
-  accepted-within (Quar n k d) e = no-hit s now (Quar n k d) v e refl
-  accepted-within (Stage n i k) e = no-hit s now (Stage n i k) v e refl
-  accepted-within (Delta n i k o) e = no-hit s now (Delta n i k o) v e refl
-  accepted-within (Validate n m) e = no-hit s now (Validate n m) v e refl
-  accepted-within (Done n) e = no-hit s now (Done n) v e refl
-  accepted-within (Undo n) e = no-hit s now (Undo n) v e refl
-  accepted-within (Evict k) e = no-hit s now (Evict k) v e refl
-  accepted-within Tick e = no-hit s now Tick v e refl
+  accepted-inside Begin e = no-hit s now Begin v e refl
+  accepted-inside (Get n k) e = rw e (get-inside (expire now s) now n k v (expire-sound s now ok) e)
+  accepted-inside (Fill t k) e = no-hit s now (Fill t k) v e refl
+  accepted-inside (Quar n k d) e = no-hit s now (Quar n k d) v e refl
+  accepted-inside (Stage n i k) e = no-hit s now (Stage n i k) v e refl
+  accepted-inside (Delta n i k o) e = no-hit s now (Delta n i k o) v e refl
+  accepted-inside (Validate n m) e = no-hit s now (Validate n m) v e refl
+  accepted-inside (Done n) e = no-hit s now (Done n) v e refl
+  accepted-inside (Undo n) e = no-hit s now (Undo n) v e refl
+  accepted-inside (Evict k) e = no-hit s now (Evict k) v e refl
+  accepted-inside Tick e = no-hit s now Tick v e refl
 
-  step-within : (c : Command) → HitWithin (step s now c v .answer)
-  step-within c = go (refusal (expire now s) now c v) refl
+  step-inside : (c : Command) → HitInside (step s now c v .answer)
+  step-inside c = go (refusal (expire now s) now c v) refl
     where
-      go : (o : Option ℕ) → refusal (expire now s) now c v ≡ o → HitWithin (step s now c v .answer)
-      go none e = accepted-within c e
-      go (some m) e = refused-within s now c v m e
+      go : (o : Option ℕ) → refusal (expire now s) now c v ≡ o → HitInside (step s now c v .answer)
+      go none e = accepted-inside c e
+      go (some m) e = refused-inside s now c v m e
 
-pub ran-within : (x : List ℕ) (now : ℕ) (c : Command) (v : Value) → HitWithin (ran x now c v .answer)
+pub ran-inside : (x : List ℕ) (now : ℕ) (c : Command) (v : Value) → HitInside (ran x now c v .answer)
 unfolding ran
-ran-within x now c v = go (wellFormed x) refl
+ran-inside x now c v = go (wellFormed x) refl
   where
-    go : (t : Bool) → wellFormed x ≡ t → HitWithin (ran x now c v .answer)
-    go true e = rw e (step-within (decode x) now v (formed x e .sound) c)
+    go : (t : Bool) → wellFormed x ≡ t → HitInside (ran x now c v .answer)
+    go true e = rw e (step-inside (decode x) now v (formed x e .sound) c)
     go false e = rw e (λ w. absurd (omega arith))
 
 -- START is answered READY or refused

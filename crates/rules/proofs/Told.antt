@@ -1,12 +1,12 @@
 -- What the acts hand back is what is said of the line: a rule by the word at which it counts, a grant by its key, and an answer by its numbers.
 use Prim.Native.Nat.{ℕ}
 use mathlib.Core.Path.{_≡_, refl, sym, _∙_}
-use mathlib.Core.Bool.{Bool, true, false, not, _&&_, _||_}
+use mathlib.Core.Bool.{Bool, true, false, _||_}
 use mathlib.Core.List.{List}
 use lib.Dec.{eqb}
 use borrow.Author.Tests.{eq-eqb, ne-eqb}
 use Rattle.lent.specs.Tables.{if_then_else_, same}
-use Rattle.lent.proofs.Choices.{if-same}
+use Rattle.lent.proofs.Choices.{if-same, if-and, if-and-not}
 use Rattle.machine.specs.Sizes.{keyCount}
 use Rattle.machine.specs.State.{Value}
 use Rattle.machine.specs.Words.{wordOf, READY, HIT, LEASE, STORED, DONE, UNDONE}
@@ -22,49 +22,40 @@ use Rattle.replies.specs.Replies.{UNREADABLE}
 use Rattle.book.specs.Book.{withStarted, registered, granted, withGranted}
 use Rattle.risks.specs.Risks.{wroteFor, staleFor}
 use Rattle.risks.specs.Tests.{riskOf}
-use Rattle.rules.specs.Rules.{answered, begins, ruleOf, noted, commands}
+use Rattle.rules.specs.Rules.{Said, answered, begins, ruleOf, noted, commands}
 use Rattle.rules.specs.Says.{told, toldOf, Says}
 use Rattle.rules.specs.Tests.{watched, asksFor}
 use Rattle.rules.specs.declared.Said.{Said as Told}
-use Rattle.rules.proofs.Hits.{HitWithin, ran-within, start-no-hit}
+use Rattle.rules.proofs.Hits.{HitInside, ran-inside, start-no-hit}
 
 -- ---- the rule broken, by the word at which it counts
-
-counts : (t u : Bool) (n : ℕ) → (if t && u then n else 0) ≡ (if t then (if u then n else 0) else 0)
-counts true u n = refl
-counts false u n = refl
-
-counts-not : (t u : Bool) (n : ℕ) → (if t && not u then n else 0) ≡ (if t then (if u then 0 else n) else 0)
-counts-not true true n = refl
-counts-not true false n = refl
-counts-not false u n = refl
 
 rule-is : (x b : List ℕ) (c : Command) (v : Value) (w : ℕ) → ruleOf x b c v w ≡ (if eqb w (watched c) then riskOf x b c v else 0)
 rule-is x b Begin v w = sym (if-same (eqb w UNREADABLE) 0)
 rule-is x b (Get n k) v w = sym (if-same (eqb w UNREADABLE) 0)
-rule-is x b (Fill t k) v w = counts-not (eqb w STORED) (same v (registered b k) || same v (granted b k)) 1
+rule-is x b (Fill t k) v w = if-and-not (eqb w STORED) (same v (registered b k) || same v (granted b k)) 1 0
 rule-is x b (Quar n k d) v w = sym (if-same (eqb w UNREADABLE) 0)
 rule-is x b (Stage n i k) v w = sym (if-same (eqb w UNREADABLE) 0)
 rule-is x b (Delta n i k o) v w = sym (if-same (eqb w UNREADABLE) 0)
 rule-is x b (Validate n m) v w = sym (if-same (eqb w UNREADABLE) 0)
-rule-is x b (Done n) v w = counts (eqb w DONE) (staleFor x b n) 4
-rule-is x b (Undo n) v w = counts (eqb w UNDONE) (wroteFor x b n) 3
+rule-is x b (Done n) v w = if-and (eqb w DONE) (staleFor x b n) 4 0
+rule-is x b (Undo n) v w = if-and (eqb w UNDONE) (wroteFor x b n) 3 0
 rule-is x b (Evict k) v w = sym (if-same (eqb w UNREADABLE) 0)
 rule-is x b Tick v w = sym (if-same (eqb w UNREADABLE) 0)
 
 -- no rule counts at a refusal
-unwatched : (c : Command) → eqb REFUSED (watched c) ≡ false
-unwatched Begin = refl
-unwatched (Get n k) = refl
-unwatched (Fill t k) = refl
-unwatched (Quar n k d) = refl
-unwatched (Stage n i k) = refl
-unwatched (Delta n i k o) = refl
-unwatched (Validate n m) = refl
-unwatched (Done n) = refl
-unwatched (Undo n) = refl
-unwatched (Evict k) = refl
-unwatched Tick = refl
+watched-not-refused : (c : Command) → eqb REFUSED (watched c) ≡ false
+watched-not-refused Begin = refl
+watched-not-refused (Get n k) = refl
+watched-not-refused (Fill t k) = refl
+watched-not-refused (Quar n k d) = refl
+watched-not-refused (Stage n i k) = refl
+watched-not-refused (Delta n i k o) = refl
+watched-not-refused (Validate n m) = refl
+watched-not-refused (Done n) = refl
+watched-not-refused (Undo n) = refl
+watched-not-refused (Evict k) = refl
+watched-not-refused Tick = refl
 
 -- on bytes that are not well formed what would be broken does not matter
 pub rule-told : (x b : List ℕ) (now : ℕ) (c : Command) (v : Value) (risk w : ℕ) → w ≡ wordOf (ran x now c v .answer) → (wellFormed x ≡ true → risk ≡ riskOf x b c v)
@@ -74,7 +65,7 @@ rule-told x b now c v risk w e f = go (wellFormed x) refl ∙ sym (rule-is x b c
   where
     go : (t : Bool) → wellFormed x ≡ t → (if eqb w (watched c) then risk else 0) ≡ (if eqb w (watched c) then riskOf x b c v else 0)
     go true q = rw (f q)
-    go false q = let z : w ≡ REFUSED = e ∙ rw q in rw (z, unwatched c)
+    go false q = let z : w ≡ REFUSED = e ∙ rw q in rw (z, watched-not-refused c)
 
 -- ---- a grant, by its key
 
@@ -85,7 +76,7 @@ no-key b v = refl
 noted-other : (b : List ℕ) (w : ℕ) → b ≡ (if eqb w LEASE then withGranted b keyCount (registered b keyCount) else b)
 noted-other b w = rw (no-key b (registered b keyCount)) (sym (if-same (eqb w LEASE) b))
 
-noted-is : (b : List ℕ) (c : Command) (w : ℕ) → noted b c w ≡ (if eqb w LEASE then withGranted b (asksFor c) (registered b (asksFor c)) else b)
+pub noted-is : (b : List ℕ) (c : Command) (w : ℕ) → noted b c w ≡ (if eqb w LEASE then withGranted b (asksFor c) (registered b (asksFor c)) else b)
 noted-is b Begin w = noted-other b w
 noted-is b (Get n k) w = refl
 noted-is b (Fill t k) w = noted-other b w
@@ -106,8 +97,22 @@ noted-grant b c w k h e = rw (noted-is b c w, eq-eqb w LEASE h, e)
 
 -- ---- an answer by its numbers
 
-says : (r : Reply) (rule : ℕ) (b : List ℕ) → HitWithin (r .answer) → Says (answered r rule b) (placeOf (r .answer)) (toldOf (r .answer) rule) (r .bytes) b
-says r rule b h = record {
+-- a word that is not HIT hands out no value
+pub says-unless-hit : (s : Said) (at : ℕ) → (s .word ≡ HIT → ⊥) → Says s at (record { word = s .word; detail = s .detail; at = at; rule = s .rule }) (s .cache) (s .book)
+says-unless-hit s at h = record {
+  word = refl;
+  detail = refl;
+  place = refl;
+  rule = refl;
+  cache = refl;
+  book = refl;
+  value = λ w. absurd (h w);
+  inside = λ w. absurd (h w);
+  short = λ w. absurd (h w);
+}
+
+says-answered : (r : Reply) (rule : ℕ) (b : List ℕ) → HitInside (r .answer) → Says (answered r rule b) (placeOf (r .answer)) (toldOf (r .answer) rule) (r .bytes) b
+says-answered r rule b h = record {
   word = refl;
   detail = refl;
   place = refl;
@@ -125,7 +130,7 @@ module _ (x b : List ℕ) (readLife writeLife : ℕ) (a : Answer) (x′ : List �
 
   begin-says : (b′ : List ℕ) → b′ ≡ (if eqb (wordOf a) READY then withStarted b else b) → Started b′
   unfolding begins
-  begin-says b′ g = rw (g, f, e) (says (startOf x readLife writeLife) 0 (if eqb (wordOf (startOf x readLife writeLife .answer)) READY then withStarted b else b) (λ w. absurd (start-no-hit x readLife writeLife w)))
+  begin-says b′ g = rw (g, f, e) (says-answered (startOf x readLife writeLife) 0 (if eqb (wordOf (startOf x readLife writeLife .answer)) READY then withStarted b else b) (λ w. absurd (start-no-hit x readLife writeLife w)))
 
   pub begin-refused : (wordOf a ≡ READY → ⊥) → Started b
   begin-refused h = begin-says b (rw (ne-eqb (wordOf a) READY h))
@@ -145,4 +150,4 @@ pub command-says : (x b : List ℕ) (now : ℕ) (c : Command) (v : Value) (a : A
 unfolding commands
 command-says x b now c v a x′ b′ risk t f e g =
     let r = rule-told x b now c v risk (wordOf (ran x now c v .answer)) refl f in
-    rw (g .0, g .1, e .1, e .0, r) (says (ran x now c v) (ruleOf x b c v (wordOf (ran x now c v .answer))) (noted b c (wordOf (ran x now c v .answer))) (ran-within x now c v))
+    rw (g .0, g .1, e .1, e .0, r) (says-answered (ran x now c v) (ruleOf x b c v (wordOf (ran x now c v .answer))) (noted b c (wordOf (ran x now c v .answer))) (ran-inside x now c v))

@@ -9,17 +9,17 @@ use lib.Dec.{eqb, leb}
 use borrow.Author.Tests.{le-leb}
 use Rattle.lent.specs.Bytes.{splice}
 use Rattle.lent.specs.Tables.{if_then_else_}
-use Rattle.lent.proofs.Splice.{length-win, part-win, splice-none}
+use Rattle.lent.proofs.Splice.{splice-none}
 use Rattle.book.specs.Book.{bookSize, linesIn, brokenIn}
 use Rattle.replies.specs.Replies.{lineRoom, ended}
 use Rattle.rehearsal.specs.Rehearsal.{Left, Leaves, wrote, turn, lineOf, endOf}
 use Rattle.book.specs.Memory.{memoryOf}
 use Rattle.script.specs.Input.{asAnswer, answerLine, endLine}
 use Rattle.script.specs.Buffers.{Printed, Delivered}
-use Rattle.script.proofs.Prints.{printed-part}
+use Rattle.script.proofs.Prints.{lentPart, length-lent, printed-part}
 
--- the part that is lent for a text, when it comes back as x with a text of r bytes
-pub record Put (text part : List ℕ) (r : ℕ) (x : List ℕ) : Type 0 where
+-- the part that is lent for a text, when it comes back as x with a text of r bytes at its front
+pub record AtFront (text part : List ℕ) (r : ℕ) (x : List ℕ) : Type 0 where
   pub number : r ≡ length text
   pub bytes : x ≡ splice part 0 text
 
@@ -28,51 +28,47 @@ unfolding splice
 splice-least s x = simp length-append (omega arith)
 
 -- a text that was put into the part of lineRoom bytes at `put`
-pub put-printed : (out text x : List ℕ) (put r : ℕ) → put + lineRoom ≤ length out
-    → length x ≡ length (take (put + lineRoom - put) (drop put out)) → Put text (take (put + lineRoom - put) (drop put out)) r x
+pub at-front-printed : (out text x : List ℕ) (put r : ℕ) → put + lineRoom ≤ length out
+    → length x ≡ length (lentPart out put) → AtFront text (lentPart out put) r x
     → Printed text out put (take put out ++ (x ++ drop (put + lineRoom - put) (drop put out))) (put + r) × (r ≤ lineRoom)
-put-printed out text x put r h l p =
-    let part : List ℕ = take (put + lineRoom - put) (drop put out) in
-    let lp : length part ≡ lineRoom = ap length (part-win out put lineRoom) ∙ length-win out put lineRoom h in
-    let f : length text ≤ lineRoom = let s = splice-least part text in omega (arith, ap length (p .bytes)) in
+at-front-printed out text x put r h l p =
+    let f : length text ≤ lineRoom = let s = splice-least (lentPart out put) text in omega (arith, ap length (p .bytes), length-lent out put h) in
     (printed-part out text x put r h (p .bytes) (p .number) f, omega (arith, p .number))
 
-part-room : (out : List ℕ) (put : ℕ) → put + lineRoom ≤ length out → leb lineRoom (length (take (put + lineRoom - put) (drop put out))) ≡ true
-part-room out put h =
-    let lp : length (take (put + lineRoom - put) (drop put out)) ≡ lineRoom = ap length (part-win out put lineRoom) ∙ length-win out put lineRoom h in
-    le-leb lineRoom (length (take (put + lineRoom - put) (drop put out))) (omega arith)
+part-room : (out : List ℕ) (put : ℕ) → put + lineRoom ≤ length out → leb lineRoom (length (lentPart out put)) ≡ true
+part-room out put h = le-leb lineRoom (length (lentPart out put)) (omega (arith, length-lent out put h))
 
 -- the two calls, where there is room
 module _ (book part : List ℕ) (room : leb lineRoom (length part) ≡ true) where
-  line-put : (cache l cache′ book′ x : List ℕ) (r : ℕ) → Leaves (lineOf cache book l part) r cache′ book′ x
-      → Put (answerLine (memoryOf cache book) l .text) part r x × (memoryOf cache′ book′ ≡ answerLine (memoryOf cache book) l .world)
+  line-at-front : (cache l cache′ book′ x : List ℕ) (r : ℕ) → Leaves (lineOf cache book l part) r cache′ book′ x
+      → AtFront (answerLine (memoryOf cache book) l .text) part r x × (memoryOf cache′ book′ ≡ answerLine (memoryOf cache book) l .world)
   unfolding lineOf answerLine
-  line-put cache l cache′ book′ x r = rw room (go (eqb (length book) bookSize))
+  line-at-front cache l cache′ book′ x r = rw room (go (eqb (length book) bookSize))
     where
       go : (t : Bool) → Leaves (if t && true then wrote (turn cache book l) part else record { length = 0; cache = cache; book = book; out = part }) r cache′ book′ x
-          → let s = if t then asAnswer (turn cache book l) else record { world = memoryOf cache book; text = [] } in Put (s .text) part r x × (memoryOf cache′ book′ ≡ s .world)
+          → let s = if t then asAnswer (turn cache book l) else record { world = memoryOf cache book; text = [] } in AtFront (s .text) part r x × (memoryOf cache′ book′ ≡ s .world)
       go true e = (record { number = e .length; bytes = e .out }, rw (e .cache, e .book))
       go false e = (record { number = e .length; bytes = e .out ∙ sym (splice-none part 0) }, rw (e .cache, e .book))
 
-  end-put : (x : List ℕ) (r : ℕ) → (r ≡ endOf book part .length) × (x ≡ endOf book part .out) → Put (endLine book) part r x
+  end-at-front : (x : List ℕ) (r : ℕ) → (r ≡ endOf book part .length) × (x ≡ endOf book part .out) → AtFront (endLine book) part r x
   unfolding endOf endLine
-  end-put x r = rw room (go (eqb (length book) bookSize))
+  end-at-front x r = rw room (go (eqb (length book) bookSize))
     where
       go : (t : Bool) → let l : Left = if t && true then wrote (record { text = ended (linesIn book) (brokenIn book); cache = []; book = book }) part else record { length = 0; cache = []; book = book; out = part } in (r ≡ l .length) × (x ≡ l .out)
-          → Put (if t then ended (linesIn book) (brokenIn book) else []) part r x
+          → AtFront (if t then ended (linesIn book) (brokenIn book) else []) part r x
       go true e = record { number = e .0; bytes = e .1 }
       go false e = record { number = e .0; bytes = e .1 ∙ sym (splice-none part 0) }
 
 -- the same in the whole buffer
 module _ (book out : List ℕ) (put : ℕ) (h : put + lineRoom ≤ length out) (x : List ℕ) (r : ℕ)
-    (same : length x ≡ length (take (put + lineRoom - put) (drop put out))) where
-  pub line-delivered : (cache l cache′ book′ : List ℕ) → Leaves (lineOf cache book l (take (put + lineRoom - put) (drop put out))) r cache′ book′ x
+    (same : length x ≡ length (lentPart out put)) where
+  pub line-delivered : (cache l cache′ book′ : List ℕ) → Leaves (lineOf cache book l (lentPart out put)) r cache′ book′ x
       → Delivered (answerLine (memoryOf cache book) l) (memoryOf cache′ book′) out put (take put out ++ (x ++ drop (put + lineRoom - put) (drop put out))) (put + r) × (r ≤ lineRoom)
   line-delivered cache l cache′ book′ e =
-      let p = line-put book _ (part-room out put h) cache l cache′ book′ x r e in
-      let q = put-printed out _ x put r h same (p .0) in
+      let p = line-at-front book _ (part-room out put h) cache l cache′ book′ x r e in
+      let q = at-front-printed out _ x put r h same (p .0) in
       (record { world = p .1; printed = q .0 }, q .1)
 
-  pub end-printed : let e = endOf book (take (put + lineRoom - put) (drop put out)) in (r ≡ e .length) × (x ≡ e .out)
+  pub end-printed : let e = endOf book (lentPart out put) in (r ≡ e .length) × (x ≡ e .out)
       → Printed (endLine book) out put (take put out ++ (x ++ drop (put + lineRoom - put) (drop put out))) (put + r) × (r ≤ lineRoom)
-  end-printed e = put-printed out _ x put r h same (end-put book _ (part-room out put h) x r e)
+  end-printed e = at-front-printed out _ x put r h same (end-at-front book _ (part-room out put h) x r e)

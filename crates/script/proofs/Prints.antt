@@ -10,9 +10,16 @@ use Rattle.lent.proofs.Splice.{length-win, length-splice, splice-none, splice-n
 use Rattle.replies.specs.Replies.{lineRoom}
 use Rattle.script.specs.Buffers.{Printed}
 
+-- the part of the buffer that is lent for a text
+abbrev pub lentPart : List ℕ → ℕ → List ℕ
+lentPart out put = take (put + lineRoom - put) (drop put out)
+
+pub length-lent : (out : List ℕ) (put : ℕ) → put + lineRoom ≤ length out → length (lentPart out put) ≡ lineRoom
+length-lent out put h = ap length (part-win out put lineRoom) ∙ length-win out put lineRoom h
+
 -- a text at the front of the part that was lent
 pub printed-part : (out text x : List ℕ) (put r : ℕ) → put + lineRoom ≤ length out
-    → x ≡ splice (take (put + lineRoom - put) (drop put out)) 0 text → r ≡ length text → length text ≤ lineRoom
+    → x ≡ splice (lentPart out put) 0 text → r ≡ length text → length text ≤ lineRoom
     → Printed text out put (take put out ++ (x ++ drop (put + lineRoom - put) (drop put out))) (put + r)
 printed-part out text x put r h e n f =
     let q : x ≡ splice (win out put lineRoom) 0 text = e ∙ ap (λ (l : List ℕ). splice l 0 text) (part-win out put lineRoom) in

@@ -1,14 +1,14 @@
 -- A stretch of the chunk, byte by byte: the bytes taken so far are answered and held as the definitions say, and a byte more is its step.
 use mathlib.Core.Path.{_≡_, refl, sym, ap, _∙_}
 use mathlib.Core.Logic.{⊎-elim}
-use mathlib.Core.List.{List, [], _∷_, _++_}
+use mathlib.Core.List.{List, [], _++_}
 use Prim.Native.Nat.{ℕ, _+_, _-_, _≤_, _<_}
 use native.Mathlib.Nat.{eq-or-lt-of-le}
 use native.Mathlib.Omega.{arith}
 use lib.ListN.{length, take, getD}
 use lib.Seq.{take-add}
 use Rattle.lent.specs.Bytes.{win}
-use Rattle.lent.proofs.Splice.{win-none, win-more}
+use Rattle.lent.proofs.Splice.{win-to-none, win-to-more}
 use Rattle.feed.specs.Held.{Buffer, pushed, pushedAll}
 use Rattle.feed.specs.Answers.{Open, behind, byte, fed}
 use Rattle.feed.proofs.Laws.{pushed-none, pushed-more}
@@ -19,31 +19,23 @@ use Rattle.script.specs.Input.{answerLine}
 use Rattle.script.specs.Buffers.{Delivered, Reaches, Stretched}
 use Rattle.script.proofs.Prints.{printed-none, printed-next}
 
--- the bytes from one place of the chunk to another
+-- the buffer behind the bytes from one place of the chunk to another
 module _ (chunk : List ℕ) (from : ℕ) where
-  win-to-none : win chunk from (from - from) ≡ []
-  win-to-none = let z : from - from ≡ 0 = omega arith in rw z (win-none chunk from)
-
-  win-to-more : (i : ℕ) → from ≤ i → i < length chunk → win chunk from (i + 1 - from) ≡ win chunk from (i - from) ++ getD chunk i 0 ∷ []
-  win-to-more i f l =
-      let n : i + 1 - from ≡ i - from + 1 = omega arith in
-      let a : from + (i - from) ≡ i = omega arith in
-      rw n (win-more chunk from (i - from) (omega arith) ∙ rw a)
-
   pub buffer-none : (k : Buffer) → k ≡ pushedAll k (win chunk from (from - from))
-  buffer-none k = rw win-to-none (sym (pushed-none k))
+  buffer-none k = rw (win-to-none chunk from) (sym (pushed-none k))
 
   pub buffer-more : (k now then : Buffer) (i : ℕ) → from ≤ i → i < length chunk → now ≡ pushedAll k (win chunk from (i - from)) → then ≡ pushed now (getD chunk i 0)
       → then ≡ pushedAll k (win chunk from (i + 1 - from))
-  buffer-more k now then i f l e q = rw (win-to-more i f l, pushed-more k (win chunk from (i - from)) (getD chunk i 0), ← e) q
+  buffer-more k now then i f l e q = rw (win-to-more chunk from i f l, pushed-more k (win chunk from (i - from)) (getD chunk i 0), ← e) q
 
 module _ (o : Open Memory) (chunk : List ℕ) (from : ℕ) (out : List ℕ) where
+  fed-to-none : fed answerLine o (win chunk from (from - from)) ≡ record { world = o; text = [] }
+  fed-to-none = rw (win-to-none chunk from) (fed-none answerLine o)
+
   pub reaches-none : from ≤ length chunk → Reaches o chunk from from o out out 0
   reaches-none h =
-      let e : fed answerLine o (win chunk from (from - from)) ≡ record { world = o; text = [] } =
-      rw (win-to-none chunk from) (fed-none answerLine o) in
       record {
-        answered = rw e (record { world = refl; printed = printed-none out 0 (omega arith) });
+        answered = rw fed-to-none (record { world = refl; printed = printed-none out 0 (omega arith) });
         within = (omega arith, h);
         room = λ k l. absurd (omega arith);
       }
@@ -71,11 +63,8 @@ module _ (o : Open Memory) (chunk : List ℕ) (from : ℕ) (out : List ℕ) wher
     where
       none : from ≡ next → length out < put + lineRoom → ⊥
       none q f =
-          let z : next - from ≡ 0 = omega arith in
-          let e : fed answerLine o (win chunk from (next - from)) ≡ record { world = o; text = [] } =
-          rw (z, win-none chunk from) (fed-none answerLine o) in
-          let p : put ≡ 0 + length (fed answerLine o (win chunk from (next - from)) .text) = s .reaches .answered .printed .place in
-          let p0 : put ≡ 0 = rw e at p in
+          let p : put ≡ 0 + length (fed answerLine o (win chunk from (from - from)) .text) = rw (← q) at (s .reaches .answered .printed .place) in
+          let p0 : put ≡ 0 = rw fed-to-none at p in
           omega arith
 
 -- stretches one behind the other

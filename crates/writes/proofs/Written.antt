@@ -28,6 +28,7 @@ use Rattle.sights.proofs.Sights.{row-missing, row-taken}
 use Rattle.book.specs.Book.{withRegistered, withMark}
 use Rattle.replies.specs.Replies.{WRITTEN}
 use Rattle.rules.specs.Says.{Says}
+use Rattle.rules.proofs.Told.{says-unless-hit}
 use Rattle.writes.specs.Writes.{mayWrite, marked, writes, Writes}
 
 -- ---- rule 2, of the session at place i, with its record as it was loaded
@@ -59,21 +60,21 @@ module _ (s : State) (ok : sound s ≡ true) (b b′ : List ℕ) (n k i : ℕ) (
 -- ---- on the cache's bytes
 
 module _ (x b : List ℕ) (n k : ℕ) where
-  abbrev Noted : ℕ → List ℕ → Type 0
-  Noted r b′ = (r ≡ (if mayWrite x n k then 0 else 2)) × (b′ ≡ marked x b n)
+  abbrev NotedRule : ℕ → List ℕ → Type 0
+  NotedRule r b′ = (r ≡ (if mayWrite x n k then 0 else 2)) × (b′ ≡ marked x b n)
 
-  pub written-damaged : wellFormed x ≡ false → Noted 2 b
+  pub written-damaged : wellFormed x ≡ false → NotedRule 2 b
   unfolding mayWrite marked
   written-damaged e = rw e (refl, refl)
 
-  pub written-nobody : wellFormed x ≡ true → found sessionCount (sessionPlace (decode x) n) ≡ Found.Nothing → Noted 2 b
+  pub written-nobody : wellFormed x ≡ true → found sessionCount (sessionPlace (decode x) n) ≡ Found.Nothing → NotedRule 2 b
   unfolding mayWrite marked
   written-nobody e f =
       let z = unlocated (decode x) n (formed x e .sound) f in
       rw (e, z, le-ltb (sessionPlace (decode x) n) sessionCount (found-nothing sessionCount (sessionPlace (decode x) n) f)) (refl, refl)
 
   pub written-at : wellFormed x ≡ true → (i r : ℕ) (b′ : List ℕ) → found sessionCount (sessionPlace (decode x) n) ≡ Found.At i
-      → ((s : State) → Holds x s → sound s ≡ true → (m : ℕ) → sessionPlace s m ≡ i → Writes s b m k i r b′) → Noted r b′
+      → ((s : State) → Holds x s → sound s ≡ true → (m : ℕ) → sessionPlace s m ≡ i → Writes s b m k i r b′) → NotedRule r b′
   unfolding mayWrite marked
   written-at e i r b′ f w =
       let q = found-at sessionCount (sessionPlace (decode x) n) i f in
@@ -86,14 +87,4 @@ module _ (x b : List ℕ) (n k : ℕ) where
 pub write-says : (x b : List ℕ) (n k : ℕ) (v : Value) (rule : ℕ) (b₁ b′ : List ℕ) → rule ≡ (if mayWrite x n k then 0 else 2) → b₁ ≡ marked x b n → b′ ≡ withRegistered b₁ k v
     → Says (writes x b n k v) 0 (record { word = WRITTEN; detail = 0; at = 0; rule = rule }) x b′
 unfolding writes
-write-says x b n k v rule b₁ b′ e f g = record {
-  word = refl;
-  detail = refl;
-  place = refl;
-  rule = e;
-  cache = refl;
-  book = g ∙ ap (λ (y : List ℕ). withRegistered y k v) f;
-  value = λ w. absurd (omega arith);
-  inside = λ w. absurd (omega arith);
-  short = λ w. absurd (omega arith);
-}
+write-says x b n k v rule b₁ b′ e f g = rw (e, g, f) (says-unless-hit (writes x b n k v) 0 (λ w. omega arith))

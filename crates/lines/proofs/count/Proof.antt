@@ -1,7 +1,7 @@
 -- `count` meets its contract: a text of two bytes or more that starts with a zero is no number, and any other says what `counts::read` finds.
 use mathlib.Core.Path.{sym, _∙_}
 use native.Mathlib.Omega.{arith}
-use Rattle.lines.proofs.Cutting.{number-short, number-zero, number-other}
+use Rattle.lines.proofs.Saying.{number-short, number-zero, number-other}
 use borrow.Author.Needs.{needs}
 use Rattle.lines.proofs.count.Statement.{statement}
 use Rattle.lines.proofs.count.Tie as tie

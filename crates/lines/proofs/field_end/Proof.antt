@@ -5,12 +5,12 @@ use lib.ListN.{length, drop}
 use borrow.Author.Needs.{needs}
 use Rattle.lent.specs.Bytes.{win}
 use Rattle.lines.specs.Fields.{fields, fieldsAt}
-use Rattle.lines.proofs.Cutting.{behind, end-start, end-turn, end-space, end-line}
+use Rattle.lines.proofs.Cutting.{prefixed, end-start, end-turn, end-space, end-line}
 use Rattle.lines.proofs.field_end.Statement.{statement}
 use Rattle.lines.proofs.field_end.Tie as tie
 
 abbrev Inv-loop : tie.InvT-loop
-Inv-loop line at e₀ e = (at ≤ e) × ((e ≤ length line) × (fieldsAt line at ≡ behind (win line at (e - at)) (fields (drop e line))))
+Inv-loop line at e₀ e = (at ≤ e) × ((e ≤ length line) × (fieldsAt line at ≡ prefixed (win line at (e - at)) (fields (drop e line))))
 
 abbrev μ-loop : tie.MeasureT-loop
 μ-loop line at e₀ e = length line - e

@@ -14,7 +14,9 @@ field-end-requires : tie.Need-field-end-requires
 field-end-requires c κs = search needs
 
 returns-2 : tie.Need-returns-2
-returns-2 c = rw (value-not-last (c .before .before .before .before .before .args .most) (c .before .before .before .before .before .args .line .now) (c .before .before .before .before .before .args .at) (c .before .field-end .result) (c .before .field-end .ensures) (search needs)) (refl, sym (splice-none _ _))
+returns-2 c =
+    let a = c .before .before .before .before .before .args in
+    rw (value-not-last (a .most) (a .line .now) (a .at) (c .before .field-end .result) (c .before .field-end .ensures) (search needs)) (refl, sym (splice-none _ _))
 
 sub-length : tie.Need-sub-length
 sub-length c = search needs
@@ -35,10 +37,23 @@ enum-told : tie.Need-enum-told
 enum-told c = search needs
 
 returns-3 : tie.Need-returns-3
-returns-3 c = rw (value-last (c .before .before .before .before .before .before .before .before .before .args .most) (c .before .before .before .before .before .before .before .before .before .args .line .now) (c .before .before .before .before .before .before .before .before .before .args .at) (c .before .before .before .before .before .field-end .result) (c .before .before .before .before .before .field-end .ensures) (omega arith), up-to-not (c .before .before .before .before .before .before .before .before .before .args .most) _ (c .before .before .length .result) (c .before .before .length .ensures) (c .enum-told .given .1)) (refl, sym (splice-none _ _))
+returns-3 c =
+    let a = c .before .before .before .before .before .before .before .before .before .args in
+    let field-end = c .before .before .before .before .before .field-end in
+    rw (
+      value-last (a .most) (a .line .now) (a .at) (field-end .result) (field-end .ensures) (omega arith),
+      up-to-not (a .most) _ (c .before .before .length .result) (c .before .before .length .ensures) (c .enum-told .given .1),
+    ) (refl, sym (splice-none _ _))
 
 returns-4 : tie.Need-returns-4
-returns-4 c = rw (value-last (c .before .before .before .before .before .before .before .before .before .before .before .args .most) (c .before .before .before .before .before .before .before .before .before .before .before .args .line .now) (c .before .before .before .before .before .before .before .before .before .before .before .args .at) (c .before .before .before .before .before .before .before .field-end .result) (c .before .before .before .before .before .before .before .field-end .ensures) (omega arith), up-to-long (c .before .before .before .before .before .before .before .before .before .before .before .args .most) _ (c .before .before .before .before .length .result) (c .before .before .before .before .length .ensures) _ (c .before .before .n .given .1) (search needs)) (refl, sym (splice-none _ _))
+returns-4 c =
+    let a = c .before .before .before .before .before .before .before .before .before .before .before .args in
+    let field-end = c .before .before .before .before .before .before .before .field-end in
+    let length = c .before .before .before .before .length in
+    rw (
+      value-last (a .most) (a .line .now) (a .at) (field-end .result) (field-end .ensures) (omega arith),
+      up-to-long (a .most) _ (length .result) (length .ensures) _ (c .before .before .n .given .1) (search needs),
+    ) (refl, sym (splice-none _ _))
 
 sub-read : tie.Need-sub-read
 sub-read c = search needs
@@ -56,7 +71,14 @@ same-length : tie.Need-same-length
 same-length c = search needs
 
 returns-5 : tie.Need-returns-5
-returns-5 c = rw (value-last (c .before .before .before .before .before .before .before .before .before .before .before .before .before .before .before .before .args .most) (c .before .before .before .before .before .before .before .before .before .before .before .before .before .before .before .before .args .line .now) (c .before .before .before .before .before .before .before .before .before .before .before .before .before .before .before .before .args .at) (c .before .before .before .before .before .before .before .before .before .before .before .before .field-end .result) (c .before .before .before .before .before .before .before .before .before .before .before .before .field-end .ensures) (omega arith), up-to-all (c .before .before .before .before .before .before .before .before .before .before .before .before .before .before .before .before .args .most) _ (c .before .before .before .before .before .before .before .before .before .length .result) (c .before .before .before .before .before .before .before .before .before .length .ensures) _ (c .before .before .before .before .before .before .before .n .given .1) (search needs)) (c .before .before .read .ensures)
+returns-5 c =
+    let a = c .before .before .before .before .before .before .before .before .before .before .before .before .before .before .before .before .args in
+    let field-end = c .before .before .before .before .before .before .before .before .before .before .before .before .field-end in
+    let length = c .before .before .before .before .before .before .before .before .before .length in
+    rw (
+      value-last (a .most) (a .line .now) (a .at) (field-end .result) (field-end .ensures) (omega arith),
+      up-to-all (a .most) _ (length .result) (length .ensures) _ (c .before .before .before .before .before .before .before .n .given .1) (search needs),
+    ) (c .before .before .read .ensures)
 
 pub last-value-spec : {M : Type 1} → statement M
 last-value-spec =

@@ -2,7 +2,8 @@
 use Prim.Native.Nat.{_-_}
 use mathlib.Core.Path.{_≡_}
 use native.Mathlib.Omega.{arith}
-use Rattle.lines.proofs.Cutting.{fields-past, letter-not, letter-is}
+use Rattle.lines.proofs.Cutting.{fields-past}
+use Rattle.lines.proofs.Saying.{letter-not, letter-is}
 use borrow.Author.Needs.{needs}
 use Rattle.lines.proofs.letter_at.Statement.{statement}
 use Rattle.lines.proofs.letter_at.Tie as tie

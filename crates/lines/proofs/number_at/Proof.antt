@@ -1,4 +1,4 @@
--- `number_at` meets its contract: the field is what stands up to its end, and the rest starts behind it (`number-cut` of `Saying`).
+-- `number_at` meets its contract: where none is wanted nothing is taken; else the field is what stands up to its end, and the rest starts behind it (`number-cut` of `Saying`).
 use mathlib.Core.Path.{_∙_}
 use borrow.Author.Tests.{not-true, not-false}
 use Rattle.lines.proofs.Cutting.{fields-past}
@@ -35,13 +35,22 @@ enum-told : tie.Need-enum-told
 enum-told c = search needs
 
 returns-3 : tie.Need-returns-3
-returns-3 c = rw (not-false (c .before .before .before .before .before .before .before .before .args .wanted) (c .before .before .before .before .before .before .if1 .left)) (number-cut (c .before .before .before .before .before .before .before .before .args .line .now) (c .before .before .before .before .before .before .before .before .args .at) (c .before .before .before .before .field-end .result) (c .before .before .count .result) (c .before .before .before .before .field-end .ensures) (c .before .before .count .ensures) ∙ rw (c .enum-told .given .1))
+returns-3 c =
+    let a = c .before .before .before .before .before .before .before .before .args in
+    let field-end = c .before .before .before .before .field-end in
+    rw (not-false (a .wanted) (c .before .before .before .before .before .before .if1 .left)) (number-cut (a .line .now) (a .at) (field-end .result)
+    (c .before .before .count .result) (field-end .ensures) (c .before .before .count .ensures) ∙ rw (c .enum-told .given .1))
 
 add-t7 : tie.Need-add-t7
 add-t7 c = search needs
 
 returns-4 : tie.Need-returns-4
-returns-4 c = rw (not-false (c .before .before .before .before .before .before .before .before .before .args .wanted) (c .before .before .before .before .before .before .before .if1 .left)) (number-cut (c .before .before .before .before .before .before .before .before .before .args .line .now) (c .before .before .before .before .before .before .before .before .before .args .at) (c .before .before .before .before .before .field-end .result) (c .before .before .before .count .result) (c .before .before .before .before .before .field-end .ensures) (c .before .before .before .count .ensures) ∙ rw (c .before .n .given .1))
+returns-4 c =
+    let a = c .before .before .before .before .before .before .before .before .before .args in
+    let field-end = c .before .before .before .before .before .field-end in
+    let count = c .before .before .before .count in
+    rw (not-false (a .wanted) (c .before .before .before .before .before .before .before .if1 .left)) (number-cut (a .line .now) (a .at) (field-end .result) (count .result)
+    (field-end .ensures) (count .ensures) ∙ rw (c .before .n .given .1))
 
 pub number-at-spec : {M : Type 1} → statement M
 number-at-spec =

@@ -39,14 +39,30 @@ same-length c = search needs
 
 returns-3 : tie.Need-returns-3
 unfolding writeLine
-returns-3 c = rw (c .before .before .before .before .before .before .before .before .before .before .numbers .ensures, c .before .before .before .before .before .before .before .before .session .given .1, le-ltb keyMax (c .before .before .before .before .before .before .before .before .session .given .0 .1 .0) (search needs)) (gives-no-value (lastValue valueMax (fieldsAt (c .before .before .before .before .before .before .before .before .before .before .before .before .before .args .line .now) (c .before .before .before .before .before .before .before .before .session .given .0 .1 .1 .1 .1 .0))) (λ n. Line.Write (c .before .before .before .before .before .before .before .before .session .given .0 .0) (c .before .before .before .before .before .before .before .before .session .given .0 .1 .0) n) (c .before .before .before .before .last-value .result) _ _ (c .before .before .before .before .last-value .ensures .0) (c .before .before .before .before .last-value .ensures .1) (c .enum-told2 .given .1))
+returns-3 c =
+    let session = c .before .before .before .before .before .before .before .before .session .given in
+    let last-value = c .before .before .before .before .last-value in
+    rw (c .before .before .before .before .before .before .before .before .before .before .numbers .ensures, session .1, le-ltb keyMax (session .0 .1 .0) (search needs))
+    (gives-no-value
+    (lastValue valueMax (fieldsAt (c .before .before .before .before .before .before .before .before .before .before .before .before .before .args .line .now) (session .0 .1 .1 .1 .1 .0)))
+    (λ n. Line.Write (session .0 .0) (session .0 .1 .0) n) (last-value .result) _ _ (last-value .ensures .0) (last-value .ensures .1) (c .enum-told2 .given .1))
 
 same-length-2 : tie.Need-same-length-2
 same-length-2 c = search needs
 
 returns-4 : tie.Need-returns-4
 unfolding writeLine
-returns-4 c = rw (c .before .before .before .before .before .before .before .before .before .before .before .numbers .ensures, c .before .before .before .before .before .before .before .before .before .session .given .1, le-ltb keyMax (c .before .before .before .before .before .before .before .before .before .session .given .0 .1 .0) (search needs)) (gives-value (lastValue valueMax (fieldsAt (c .before .before .before .before .before .before .before .before .before .before .before .before .before .before .args .line .now) (c .before .before .before .before .before .before .before .before .before .session .given .0 .1 .1 .1 .1 .0))) (λ n. Line.Write (c .before .before .before .before .before .before .before .before .before .session .given .0 .0) (c .before .before .before .before .before .before .before .before .before .session .given .0 .1 .0) n) (c .before .before .before .before .before .last-value .result) _ _ (c .before .before .before .before .before .last-value .ensures .0) (c .before .before .before .before .before .last-value .ensures .1) (c .before .length .given .0 .0) (c .before .length .given .1))
+returns-4 c =
+    let session = c .before .before .before .before .before .before .before .before .before .session .given in
+    let last-value = c .before .before .before .before .before .last-value in
+    rw (
+      c .before .before .before .before .before .before .before .before .before .before .before .numbers .ensures,
+      session .1,
+      le-ltb keyMax (session .0 .1 .0) (search needs),
+    ) (gives-value
+    (lastValue valueMax (fieldsAt (c .before .before .before .before .before .before .before .before .before .before .before .before .before .before .args .line .now) (session .0 .1 .1 .1 .1 .0)))
+    (λ n. Line.Write (session .0 .0) (session .0 .1 .0) n) (last-value .result) _ _ (last-value .ensures .0) (last-value .ensures .1) (c .before .length .given .0 .0)
+    (c .before .length .given .1))
 
 pub register-write-spec : {M : Type 1} → statement M
 register-write-spec =

@@ -34,14 +34,28 @@ same-length c = search needs
 
 returns-2 : tie.Need-returns-2
 unfolding commandLine
-returns-2 c = rw (c .before .before .before .before .before .before .before .before .before .numbers .ensures, c .before .before .before .before .before .before .before .a .given .1) (gives-no-value (lastValue valueRoom (fieldsAt (c .before .before .before .before .before .before .before .before .before .before .before .before .args .line .now) (c .before .before .before .before .before .before .before .a .given .0 .1 .1 .1 .1 .0))) (λ n. Line.Command (c .before .before .before .before .before .before .before .before .before .before .before .before .args .place) (c .before .before .before .before .before .before .before .before .before .before .before .before .args .time) (c .before .before .before .before .before .before .before .a .given .0 .0) (c .before .before .before .before .before .before .before .a .given .0 .1 .0) (c .before .before .before .before .before .before .before .a .given .0 .1 .1 .0) (c .before .before .before .before .before .before .before .a .given .0 .1 .1 .1 .0) n) (c .before .before .before .before .last-value .result) _ _ (c .before .before .before .before .last-value .ensures .0) (c .before .before .before .before .last-value .ensures .1) (c .enum-told2 .given .1))
+returns-2 c =
+    let a = c .before .before .before .before .before .before .before .before .before .before .before .before .args in
+    let numbers = c .before .before .before .before .before .before .before .a .given in
+    let last-value = c .before .before .before .before .last-value in
+    rw (c .before .before .before .before .before .before .before .before .before .numbers .ensures, numbers .1) (gives-no-value
+    (lastValue valueRoom (fieldsAt (a .line .now) (numbers .0 .1 .1 .1 .1 .0)))
+    (λ n. Line.Command (a .place) (a .time) (numbers .0 .0) (numbers .0 .1 .0) (numbers .0 .1 .1 .0) (numbers .0 .1 .1 .1 .0) n) (last-value .result) _ _ (last-value .ensures .0)
+    (last-value .ensures .1) (c .enum-told2 .given .1))
 
 same-length-2 : tie.Need-same-length-2
 same-length-2 c = search needs
 
 returns-3 : tie.Need-returns-3
 unfolding commandLine
-returns-3 c = rw (c .before .before .before .before .before .before .before .before .before .before .numbers .ensures, c .before .before .before .before .before .before .before .before .a .given .1) (gives-value (lastValue valueRoom (fieldsAt (c .before .before .before .before .before .before .before .before .before .before .before .before .before .args .line .now) (c .before .before .before .before .before .before .before .before .a .given .0 .1 .1 .1 .1 .0))) (λ n. Line.Command (c .before .before .before .before .before .before .before .before .before .before .before .before .before .args .place) (c .before .before .before .before .before .before .before .before .before .before .before .before .before .args .time) (c .before .before .before .before .before .before .before .before .a .given .0 .0) (c .before .before .before .before .before .before .before .before .a .given .0 .1 .0) (c .before .before .before .before .before .before .before .before .a .given .0 .1 .1 .0) (c .before .before .before .before .before .before .before .before .a .given .0 .1 .1 .1 .0) n) (c .before .before .before .before .before .last-value .result) _ _ (c .before .before .before .before .before .last-value .ensures .0) (c .before .before .before .before .before .last-value .ensures .1) (c .before .length .given .0 .0) (c .before .length .given .1))
+returns-3 c =
+    let a = c .before .before .before .before .before .before .before .before .before .before .before .before .before .args in
+    let numbers = c .before .before .before .before .before .before .before .before .a .given in
+    let last-value = c .before .before .before .before .before .last-value in
+    rw (c .before .before .before .before .before .before .before .before .before .before .numbers .ensures, numbers .1) (gives-value
+    (lastValue valueRoom (fieldsAt (a .line .now) (numbers .0 .1 .1 .1 .1 .0)))
+    (λ n. Line.Command (a .place) (a .time) (numbers .0 .0) (numbers .0 .1 .0) (numbers .0 .1 .1 .0) (numbers .0 .1 .1 .1 .0) n) (last-value .result) _ _ (last-value .ensures .0)
+    (last-value .ensures .1) (c .before .length .given .0 .0) (c .before .length .given .1))
 
 pub valued-spec : {M : Type 1} → statement M
 valued-spec =

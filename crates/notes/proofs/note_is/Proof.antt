@@ -1,4 +1,4 @@
--- The note is the part of the book that is lent, and the two are compared.
+-- The note is the part of the book that is lent, and it is compared with v.
 use Rattle.book.specs.Book.{note}
 use mathlib.Core.Path.{_∙_}
 use Rattle.lent.proofs.Splice.{part-win}

@@ -1,5 +1,4 @@
 -- What is read decides: each way of reading is a law of `Turns`, and the value that was read stands at the front of the buffer.
-use mathlib.Core.List.{[]}
 use lib.ListN.{length-take}
 use native.Mathlib.Omega.{arith}
 use Rattle.rehearsal.proofs.Turns.{not-taken, said-unreadable, said-start, write-size, said-write, command-size, said-command}
@@ -26,13 +25,13 @@ enum-known-read-2 : tie.Need-enum-known-read-2
 enum-known-read-2 c = search needs
 
 slice-reshare-prefix-write : tie.Need-slice-reshare-prefix-write
-slice-reshare-prefix-write c = let g = write-size [] [] (c .before .before .before .before .before .before .before .before .before .before .before .before .before .args .line .now) _ (c .before .before .before .before .before .before .before .read .ensures .line) _ _ _ (c .before .before .before .read3 .given .1) .1 .1 in omega (arith, g)
+slice-reshare-prefix-write c = let g = write-size (c .before .before .before .before .before .before .before .before .before .before .before .before .before .args .line .now) _ (c .before .before .before .before .before .before .before .read .ensures .line) _ _ _ (c .before .before .before .read3 .given .1) .1 .1 in omega (arith, g)
 
 slice-aggregate-write : tie.Need-slice-aggregate-write
-slice-aggregate-write c = let g = write-size [] [] (c .before .before .before .before .before .before .before .before .before .before .before .before .before .before .args .line .now) _ (c .before .before .before .before .before .before .before .before .read .ensures .line) _ _ _ (c .before .before .before .before .read3 .given .1) .1 .1 in simp length-take (omega (arith, g))
+slice-aggregate-write c = let g = write-size (c .before .before .before .before .before .before .before .before .before .before .before .before .before .before .args .line .now) _ (c .before .before .before .before .before .before .before .before .read .ensures .line) _ _ _ (c .before .before .before .before .read3 .given .1) .1 .1 in simp length-take (omega (arith, g))
 
 write-requires : tie.Need-write-requires
-write-requires c κs = let g = write-size [] [] (c .before .before .before .before .before .before .before .before .before .before .before .before .before .before .args .line .now) _ (c .before .before .before .before .before .before .before .before .read .ensures .line) _ _ _ (c .before .before .before .before .read3 .given .1) .1 .0 in (search needs, simp length-take (omega (arith, g)))
+write-requires c κs = let g = write-size (c .before .before .before .before .before .before .before .before .before .before .before .before .before .before .args .line .now) _ (c .before .before .before .before .before .before .before .before .read .ensures .line) _ _ _ (c .before .before .before .before .read3 .given .1) .1 .0 in (search needs, simp length-take (omega (arith, g)))
 
 enum-known-read-3 : tie.Need-enum-known-read-3
 enum-known-read-3 c = search needs
@@ -41,10 +40,10 @@ command-of-requires : tie.Need-command-of-requires
 command-of-requires c κs = search needs
 
 slice-reshare-prefix-command : tie.Need-slice-reshare-prefix-command
-slice-reshare-prefix-command c = let g = command-size [] [] (c .before .before .before .before .before .before .before .before .before .before .before .before .before .before .args .line .now) _ (c .before .before .before .before .before .before .before .before .read .ensures .line) _ _ _ _ _ _ _ (c .before .before .before .before .read4 .given .1) .1 in omega (arith, g)
+slice-reshare-prefix-command c = let g = command-size (c .before .before .before .before .before .before .before .before .before .before .before .before .before .before .args .line .now) _ (c .before .before .before .before .before .before .before .before .read .ensures .line) _ _ _ _ _ _ _ (c .before .before .before .before .read4 .given .1) .1 in omega (arith, g)
 
 slice-aggregate-command : tie.Need-slice-aggregate-command
-slice-aggregate-command c = let g = command-size [] [] (c .before .before .before .before .before .before .before .before .before .before .before .before .before .before .before .args .line .now) _ (c .before .before .before .before .before .before .before .before .before .read .ensures .line) _ _ _ _ _ _ _ (c .before .before .before .before .before .read4 .given .1) .1 in simp length-take (omega (arith, g))
+slice-aggregate-command c = let g = command-size (c .before .before .before .before .before .before .before .before .before .before .before .before .before .before .before .args .line .now) _ (c .before .before .before .before .before .before .before .before .before .read .ensures .line) _ _ _ _ _ _ _ (c .before .before .before .before .before .read4 .given .1) .1 in simp length-take (omega (arith, g))
 
 command-requires : tie.Need-command-requires
 command-requires c κs = search needs
@@ -53,7 +52,10 @@ same-length : tie.Need-same-length
 same-length c = search needs
 
 returns : tie.Need-returns
-returns c = not-taken _ _ _ _ (c .unreadable .ensures) (said-unreadable (c .before .before .before .before .before .before .before .before .before .before .before .args .cache .now) (c .before .before .before .before .before .before .before .before .before .before .before .args .book .now) (c .before .before .before .before .before .before .before .before .before .before .before .args .line .now) _ (c .before .before .before .before .before .read .ensures .line) (c .before .enum-told .given .1))
+returns c =
+    let a = c .before .before .before .before .before .before .before .before .before .before .before .args in
+    not-taken _ _ _ _ (c .unreadable .ensures) (said-unreadable (a .cache .now) (a .book .now) (a .line .now) _
+    (c .before .before .before .before .before .read .ensures .line) (c .before .enum-told .given .1))
 
 same-length-2 : tie.Need-same-length-2
 same-length-2 c = search needs
@@ -65,7 +67,11 @@ same-length-4 : tie.Need-same-length-4
 same-length-4 c = search needs
 
 returns-2 : tie.Need-returns-2
-returns-2 c = rw (said-start (c .before .before .before .before .before .before .before .before .before .before .before .before .before .before .before .before .before .before .args .cache .now) (c .before .before .before .before .before .before .before .before .before .before .before .before .before .before .before .before .before .before .args .book .now) (c .before .before .before .before .before .before .before .before .before .before .before .before .before .before .before .before .before .before .args .line .now) _ (c .before .before .before .before .before .before .before .before .before .before .before .before .read .ensures .line) _ _ (c .before .before .before .before .before .before .before .before .read2 .given .1)) (c .before .before .before .before .start .ensures)
+returns-2 c =
+    let a = c .before .before .before .before .before .before .before .before .before .before .before .before .before .before .before .before .before .before .args in
+    rw (said-start (a .cache .now) (a .book .now) (a .line .now) _
+    (c .before .before .before .before .before .before .before .before .before .before .before .before .read .ensures .line) _ _
+    (c .before .before .before .before .before .before .before .before .read2 .given .1)) (c .before .before .before .before .start .ensures)
 
 same-length-5 : tie.Need-same-length-5
 same-length-5 c = search needs
@@ -77,7 +83,12 @@ same-length-7 : tie.Need-same-length-7
 same-length-7 c = search needs
 
 returns-3 : tie.Need-returns-3
-returns-3 c = rw (said-write (c .before .before .before .before .before .before .before .before .before .before .before .before .before .before .before .before .before .before .before .args .cache .now) (c .before .before .before .before .before .before .before .before .before .before .before .before .before .before .before .before .before .before .before .args .book .now) (c .before .before .before .before .before .before .before .before .before .before .before .before .before .before .before .before .before .before .before .args .line .now) _ (c .before .before .before .before .before .before .before .before .before .before .before .before .before .read .ensures .line) _ _ _ (c .before .before .before .before .before .before .before .before .before .read3 .given .1) (c .before .before .before .before .before .before .before .before .before .before .before .before .before .before .before .before .before .before .before .args .value .now) _ (c .before .before .before .before .before .before .before .before .before .before .before .before .before .before .before .before .before .before .before .pre .1) (c .before .before .before .before .before .before .before .before .before .before .before .before .before .read .ensures .value)) (c .before .before .before .before .write .ensures _)
+returns-3 c =
+    let a = c .before .before .before .before .before .before .before .before .before .before .before .before .before .before .before .before .before .before .before .args in
+    let read = c .before .before .before .before .before .before .before .before .before .before .before .before .before .read in
+    rw (said-write (a .cache .now) (a .book .now) (a .line .now) _ (read .ensures .line) _ _ _
+    (c .before .before .before .before .before .before .before .before .before .read3 .given .1) (a .value .now) _ (read .ensures .value))
+    (c .before .before .before .before .write .ensures _)
 
 same-length-8 : tie.Need-same-length-8
 same-length-8 c = search needs
@@ -89,7 +100,12 @@ same-length-10 : tie.Need-same-length-10
 same-length-10 c = search needs
 
 returns-4 : tie.Need-returns-4
-returns-4 c = rw (said-command (c .before .before .before .before .before .before .before .before .before .before .before .before .before .before .before .before .before .before .before .before .args .cache .now) (c .before .before .before .before .before .before .before .before .before .before .before .before .before .before .before .before .before .before .before .before .args .book .now) (c .before .before .before .before .before .before .before .before .before .before .before .before .before .before .before .before .before .before .before .before .args .line .now) _ (c .before .before .before .before .before .before .before .before .before .before .before .before .before .before .read .ensures .line) _ _ _ _ _ _ _ (c .before .before .before .before .before .before .before .before .before .before .read4 .given .1) (c .before .before .before .before .before .before .before .before .before .before .before .before .before .before .before .before .before .before .before .before .args .value .now) _ _ (c .before .before .before .before .before .before .before .before .before .before .before .before .before .before .before .before .before .before .before .before .pre .1) (c .before .before .before .before .before .before .before .before .before .before .before .before .before .before .read .ensures .value) (c .before .before .before .before .before .before .command-of .ensures)) (c .before .before .before .before .command .ensures)
+returns-4 c =
+    let a = c .before .before .before .before .before .before .before .before .before .before .before .before .before .before .before .before .before .before .before .before .args in
+    let read = c .before .before .before .before .before .before .before .before .before .before .before .before .before .before .read in
+    rw (said-command (a .cache .now) (a .book .now) (a .line .now) _ (read .ensures .line) _ _ _ _ _ _ _
+    (c .before .before .before .before .before .before .before .before .before .before .read4 .given .1) (a .value .now) _ _ (read .ensures .value)
+    (c .before .before .before .before .before .before .command-of .ensures)) (c .before .before .before .before .command .ensures)
 
 pub act-spec : {M : Type 1} → statement M
 act-spec =

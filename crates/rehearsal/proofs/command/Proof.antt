@@ -1,6 +1,6 @@
 -- A command counts only after START has answered READY; then its number decides.
 use Rattle.lent.proofs.Choices.{test-failed, test-passed}
-use Rattle.rehearsal.proofs.Turns.{here, not-taken, command-early, command-is, command-unknown}
+use Rattle.rehearsal.proofs.Turns.{says-here, not-taken, command-early, command-is, command-unknown}
 use borrow.Author.Needs.{needs}
 use Rattle.rehearsal.proofs.command.Statement.{statement}
 use Rattle.rehearsal.proofs.command.Tie as tie
@@ -15,7 +15,10 @@ same-length : tie.Need-same-length
 same-length c = search needs
 
 returns : tie.Need-returns
-returns c = not-taken _ _ _ _ (c .unreadable .ensures) (command-early (c .before .before .before .before .before .before .before .args .cache .now) (c .before .before .before .before .before .before .before .args .book .now) (c .before .before .before .before .before .before .before .args .time) (c .before .before .before .before .before .before .before .args .numbered) (c .before .before .before .before .before .before .before .args .value .now) (test-failed (c .before .before .started .ensures) (c .before .if1 .taken)))
+returns c =
+    let a = c .before .before .before .before .before .before .before .args in
+    not-taken _ _ _ _ (c .unreadable .ensures) (command-early (a .cache .now) (a .book .now) (a .time) (a .numbered) (a .value .now)
+    (test-failed (c .before .before .started .ensures) (c .before .if1 .taken)))
 
 enum-known-numbered : tie.Need-enum-known-numbered
 enum-known-numbered c = search needs
@@ -36,13 +39,21 @@ same-length-3 : tie.Need-same-length-3
 same-length-3 c = search needs
 
 returns-2 : tie.Need-returns-2
-returns-2 c = rw (command-is (c .before .before .before .before .before .before .before .before .before .before .before .before .before .before .before .before .args .cache .now) (c .before .before .before .before .before .before .before .before .before .before .before .before .before .before .before .before .args .book .now) (c .before .before .before .before .before .before .before .before .before .before .before .before .before .before .before .before .args .time) (c .before .before .before .before .before .before .before .before .before .before .before .before .before .before .before .before .args .numbered) _ (c .before .before .before .before .before .before .before .before .before .before .before .before .before .before .before .before .args .value .now) (c .before .before .before .before .before .before .before .before .numbered .given .1) (test-passed (c .before .before .before .before .before .before .before .before .before .before .before .started .ensures) (c .before .before .before .before .before .before .before .before .before .before .if1 .left))) (here (c .before .before .before .before .run .ensures))
+returns-2 c =
+    let a = c .before .before .before .before .before .before .before .before .before .before .before .before .before .before .before .before .args in
+    rw (command-is (a .cache .now) (a .book .now) (a .time) (a .numbered) _ (a .value .now)
+    (c .before .before .before .before .before .before .before .before .numbered .given .1)
+    (test-passed (c .before .before .before .before .before .before .before .before .before .before .before .started .ensures) (c .before .before .before .before .before .before .before .before .before .before .if1 .left)))
+    (says-here (c .before .before .before .before .run .ensures))
 
 same-length-4 : tie.Need-same-length-4
 same-length-4 c = search needs
 
 returns-3 : tie.Need-returns-3
-returns-3 c = not-taken _ _ _ _ (c .unreadable2 .ensures) (command-unknown (c .before .before .before .before .before .before .before .before .before .args .cache .now) (c .before .before .before .before .before .before .before .before .before .args .book .now) (c .before .before .before .before .before .before .before .before .before .args .time) (c .before .before .before .before .before .before .before .before .before .args .numbered) (c .before .before .before .before .before .before .before .before .before .args .value .now) (c .before .enum-told .given .1) (test-passed (c .before .before .before .before .started .ensures) (c .before .before .before .if1 .left)))
+returns-3 c =
+    let a = c .before .before .before .before .before .before .before .before .before .args in
+    not-taken _ _ _ _ (c .unreadable2 .ensures) (command-unknown (a .cache .now) (a .book .now) (a .time) (a .numbered) (a .value .now) (c .before .enum-told .given .1)
+    (test-passed (c .before .before .before .before .started .ensures) (c .before .before .before .if1 .left)))
 
 pub command-spec : {M : Type 1} → statement M
 command-spec =

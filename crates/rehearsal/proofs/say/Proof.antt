@@ -1,6 +1,6 @@
 -- The line is counted, and its text printed; only a HIT needs the bytes of the cache.
 use Rattle.lent.proofs.Splice.{part-win}
-use Rattle.rehearsal.proofs.Turns.{prints}
+use Rattle.rehearsal.proofs.Turns.{prints-text}
 use lib.ListN.{length-take}
 use native.Mathlib.Omega.{arith}
 use borrow.Author.Needs.{needs}
@@ -26,7 +26,10 @@ same-length-2 : tie.Need-same-length-2
 same-length-2 c = search needs
 
 returns : tie.Need-returns
-returns c = prints (c .before .before .before .before .before .before .before .before .before .before .before .before .before .before .before .args .said) (c .before .before .before .before .before .before .before .before .before .before .before .before .before .before .before .args .cache .now) _ _ _ _ _ _ _ (c .before .before .reply .ensures) (λ w. absurd (c .before .before .before .before .before .if1 .taken w)) (c .before .before .before .before .before .before .before .before .before .before .count .ensures) (c .before .before .before .before .before .before .lines .ensures)
+returns c =
+    let a = c .before .before .before .before .before .before .before .before .before .before .before .before .before .before .before .args in
+    prints-text (a .said) (a .cache .now) _ _ _ _ _ _ _ (c .before .before .reply .ensures) (λ w. absurd (c .before .before .before .before .before .if1 .taken w))
+    (c .before .before .before .before .before .before .before .before .before .before .count .ensures) (c .before .before .before .before .before .before .lines .ensures)
 
 add-end : tie.Need-add-end
 add-end c = let h = c .before .before .before .before .before .before .before .before .before .before .pre .1 .1 .inside (c .if1 .left) in search needs
@@ -50,7 +53,10 @@ same-length-4 : tie.Need-same-length-4
 same-length-4 c = search needs
 
 returns-2 : tie.Need-returns-2
-returns-2 c = prints (c .before .before .before .before .before .before .before .before .before .before .before .before .before .before .before .args .said) (c .before .before .before .before .before .before .before .before .before .before .before .before .before .before .before .args .cache .now) _ _ _ _ _ _ _ (c .before .before .reply2 .ensures) (λ w. part-win (c .before .before .before .before .before .before .before .before .before .before .before .before .before .before .before .args .cache .now) (c .before .before .before .before .before .before .before .before .before .before .before .before .before .before .before .args .said .at) (c .before .before .before .before .before .before .before .before .before .before .before .before .before .before .before .args .said .detail)) (c .before .before .before .before .before .before .before .before .before .before .count .ensures) (c .before .before .before .before .before .before .lines .ensures)
+returns-2 c =
+    let a = c .before .before .before .before .before .before .before .before .before .before .before .before .before .before .before .args in
+    prints-text (a .said) (a .cache .now) _ _ _ _ _ _ _ (c .before .before .reply2 .ensures) (λ w. part-win (a .cache .now) (a .said .at) (a .said .detail))
+    (c .before .before .before .before .before .before .before .before .before .before .count .ensures) (c .before .before .before .before .before .before .lines .ensures)
 
 pub say-spec : {M : Type 1} → statement M
 say-spec =

@@ -1,6 +1,6 @@
 -- An A line counts only before START has answered READY.
 use mathlib.Core.Path.{sym, _∙_}
-use Rattle.rehearsal.proofs.Turns.{here, not-taken, start-late, start-first}
+use Rattle.rehearsal.proofs.Turns.{says-here, not-taken, start-late, start-first}
 use borrow.Author.Needs.{needs}
 use Rattle.rehearsal.proofs.start.Statement.{statement}
 use Rattle.rehearsal.proofs.start.Tie as tie
@@ -27,7 +27,7 @@ same-length-3 : tie.Need-same-length-3
 same-length-3 c = search needs
 
 returns-2 : tie.Need-returns-2
-returns-2 c = rw (start-first (c .before .before .before .before .before .before .before .before .before .before .before .before .args .cache .now) (c .before .before .before .before .before .before .before .before .before .before .before .before .args .book .now) (c .before .before .before .before .before .before .before .before .before .before .before .before .args .read) (c .before .before .before .before .before .before .before .before .before .before .before .before .args .write) (sym (c .before .before .before .before .before .before .before .before .started .ensures) ∙ c .before .before .before .before .before .before .before .if1 .left)) (here (c .before .before .before .before .begin .ensures))
+returns-2 c = rw (start-first (c .before .before .before .before .before .before .before .before .before .before .before .before .args .cache .now) (c .before .before .before .before .before .before .before .before .before .before .before .before .args .book .now) (c .before .before .before .before .before .before .before .before .before .before .before .before .args .read) (c .before .before .before .before .before .before .before .before .before .before .before .before .args .write) (sym (c .before .before .before .before .before .before .before .before .started .ensures) ∙ c .before .before .before .before .before .before .before .if1 .left)) (says-here (c .before .before .before .before .begin .ensures))
 
 pub start-spec : {M : Type 1} → statement M
 start-spec =

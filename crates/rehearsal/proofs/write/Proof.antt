@@ -1,6 +1,6 @@
 -- A C line counts only after START has answered READY; then it is the write.
 use Rattle.lent.proofs.Choices.{test-failed, test-passed}
-use Rattle.rehearsal.proofs.Turns.{here, not-taken, write-early, write-started}
+use Rattle.rehearsal.proofs.Turns.{says-here, not-taken, write-early, write-started}
 use borrow.Author.Needs.{needs}
 use Rattle.rehearsal.proofs.write.Statement.{statement}
 use Rattle.rehearsal.proofs.write.Tie as tie
@@ -27,7 +27,7 @@ same-length-3 : tie.Need-same-length-3
 same-length-3 c = search needs
 
 returns-2 : tie.Need-returns-2
-returns-2 c = λ l. rw (write-started (c .before .before .before .before .before .before .before .before .before .before .before .args .cache .now) (c .before .before .before .before .before .before .before .before .before .before .before .args .book .now) (c .before .before .before .before .before .before .before .before .before .before .before .args .session) (c .before .before .before .before .before .before .before .before .before .before .before .args .key) l (c .before .before .before .before .before .before .before .before .before .before .before .args .value .now) (test-passed (c .before .before .before .before .before .before .started .ensures) (c .before .before .before .before .before .if1 .left))) (here (c .before .before .write .ensures))
+returns-2 c = λ l. rw (write-started (c .before .before .before .before .before .before .before .before .before .before .before .args .cache .now) (c .before .before .before .before .before .before .before .before .before .before .before .args .book .now) (c .before .before .before .before .before .before .before .before .before .before .before .args .session) (c .before .before .before .before .before .before .before .before .before .before .before .args .key) l (c .before .before .before .before .before .before .before .before .before .before .before .args .value .now) (test-passed (c .before .before .before .before .before .before .started .ensures) (c .before .before .before .before .before .if1 .left))) (says-here (c .before .before .write .ensures))
 
 pub write-spec : {M : Type 1} → statement M
 write-spec =

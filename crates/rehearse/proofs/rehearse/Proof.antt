@@ -61,9 +61,15 @@ same-length-5 : tie.Need-same-length-5 Inv-loop μ-loop
 same-length-5 c = search needs
 
 returns : tie.Need-returns Inv-loop μ-loop
-returns c = let t = turned-ended (opened (c .before .before .before .before .before .before .before .before .before .before .before .before .before .before .before .before .before .before .before .before .before .before .before .before .before .before .before .before .before .before .before .before .loop .cache) (c .before .before .before .before .before .before .before .before .before .before .before .before .before .before .before .before .before .before .before .before .before .before .before .before .before .before .before .before .before .before .before .before .loop .book) (c .before .before .before .before .before .before .before .before .before .before .before .before .before .before .before .before .before .before .before .before .before .before .before .before .before .before .before .before .before .before .before .before .loop .line) (c .before .before .before .before .before .before .before .before .before .before .before .before .before .before .before .before .before .before .before .before .before .before .before .before .before .before .before .before .before .before .before .before .loop .held)) (c .before .before .before .before .before .before .before .before .before .before .before .before .before .before .before .before .before .before .before .before .before .before .before .before .before .before .before .before .before .before .before .before .loop .held) (c .before .before .before .before .before .before .before .before .before .before .before .before .before .before .before .before .before .before .before .before .before .before .before .before .before .turn .last .1 .1 .1 .1 .0) (opened (c .before .before .before .before .before .before .before .before .before .before .before .before .before .before .before .before .before .before .before .before .before .before .before .before .before .turn .last .0) (c .before .before .before .before .before .before .before .before .before .before .before .before .before .before .before .before .before .before .before .before .before .before .before .before .before .turn .last .1 .0) (c .before .before .before .before .before .before .before .before .before .before .before .before .before .before .before .before .before .before .before .before .before .before .before .before .before .turn .last .1 .1 .0)) (c .before .before .before .before .before .before .before .before .before .before .before .before .before .before .before .before .before .before .before .before .before .before .before .before .before .turn .result) (c .before .before .before .before .before .before .before .before .before .before .before .before .before .enum-told .given .1) (c .before .before .before .before .before .before .before .before .before .before .before .before .before .before .before .before .before .before .before .before .before .before .before .before .before .turn .ensures) in
-    let q = c .before .before .before .before .before .before .before .before .before .before .before .before .before .before .before .before .before .before .before .before .before .before .before .before .before .before .before .before .before .before .before .before .loop .inv .1 .1 .1 .1 .1 in
-    read-ends (memoryOf (c .before .before .before .before .before .before .before .before .before .before .before .before .before .before .before .before .before .before .before .before .before .before .before .before .before .before .before .before .before .before .before .before .before .before .before .before .before .before .args .cache .now) (c .before .before .before .before .before .before .before .before .before .before .before .before .before .before .before .before .before .before .before .before .before .before .before .before .before .before .before .before .before .before .before .before .before .before .before .before .before .before .args .book .now)) (opened (c .before .before .before .before .before .before .before .before .before .before .before .before .before .before .before .before .before .before .before .before .before .before .before .before .before .turn .last .0) (c .before .before .before .before .before .before .before .before .before .before .before .before .before .before .before .before .before .before .before .before .before .before .before .before .before .turn .last .1 .0) (c .before .before .before .before .before .before .before .before .before .before .before .before .before .before .before .before .before .before .before .before .before .before .before .before .before .turn .last .1 .1 .0) (c .before .before .before .before .before .before .before .before .before .before .before .before .before .before .before .before .before .before .before .before .before .before .before .before .before .before .before .before .before .before .before .before .loop .held)) _ _ _ _ (c .write-all .result) (q .0, t ∙ q .1) (c .before .before .before .before .before .before .before .before .finish .ensures)
+returns c =
+    let a = c .before .before .before .before .before .before .before .before .before .before .before .before .before .before .before .before .before .before .before .before .before .before .before .before .before .before .before .before .before .before .before .before .before .before .before .before .before .before .args in
+    let loop = c .before .before .before .before .before .before .before .before .before .before .before .before .before .before .before .before .before .before .before .before .before .before .before .before .before .before .before .before .before .before .before .before .loop in
+    let turn = c .before .before .before .before .before .before .before .before .before .before .before .before .before .before .before .before .before .before .before .before .before .before .before .before .before .turn in
+    let now = opened (turn .last .0) (turn .last .1 .0) (turn .last .1 .1 .0) in
+    let q = loop .inv .1 .1 .1 .1 .1 in
+    let t = turned-ended (opened (loop .cache) (loop .book) (loop .line) (loop .held)) (loop .held) (turn .last .1 .1 .1 .1 .0) now (turn .result)
+    (c .before .before .before .before .before .before .before .before .before .before .before .before .before .enum-told .given .1) (turn .ensures) in
+    read-ends (memoryOf (a .cache .now) (a .book .now)) (now (loop .held)) _ _ _ _ (c .write-all .result) (q .0, t ∙ q .1) (c .before .before .before .before .before .before .before .before .finish .ensures)
 
 enum-told-2 : tie.Need-enum-told-2 Inv-loop μ-loop
 enum-told-2 c = search needs
@@ -93,22 +99,27 @@ loop-less : tie.Need-loop-less Inv-loop μ-loop
 loop-less c = search needs
 
 loop-again : tie.Need-loop-again Inv-loop μ-loop
-loop-again c = let t = turned-on (opened (c .before .before .before .before .before .before .before .before .before .before .before .before .before .before .before .before .before .before .before .before .loop .cache) (c .before .before .before .before .before .before .before .before .before .before .before .before .before .before .before .before .before .before .before .before .loop .book) (c .before .before .before .before .before .before .before .before .before .before .before .before .before .before .before .before .before .before .before .before .loop .line) (c .before .before .before .before .before .before .before .before .before .before .before .before .before .before .before .before .before .before .before .before .loop .held)) (c .before .before .before .before .before .before .before .before .before .before .before .before .before .before .before .before .before .before .before .before .loop .held) (c .before .went .given .0 .0) (c .before .before .before .before .before .before .before .before .before .before .before .before .before .turn .last .1 .1 .1 .1 .0) (opened (c .before .before .before .before .before .before .before .before .before .before .before .before .before .turn .last .0) (c .before .before .before .before .before .before .before .before .before .before .before .before .before .turn .last .1 .0) (c .before .before .before .before .before .before .before .before .before .before .before .before .before .turn .last .1 .1 .0)) (c .before .before .before .before .before .before .before .before .before .before .before .before .before .turn .result) (c .before .went .given .1) (c .before .before .before .before .before .before .before .before .before .before .before .before .before .turn .ensures) in (
-  search needs,
-  (
-    search needs,
-    (
+loop-again c =
+    let loop = c .before .before .before .before .before .before .before .before .before .before .before .before .before .before .before .before .before .before .before .before .loop in
+    let turn = c .before .before .before .before .before .before .before .before .before .before .before .before .before .turn in
+    let went = c .before .went .given in
+    let t = turned-on (opened (loop .cache) (loop .book) (loop .line) (loop .held)) (loop .held) (went .0 .0) (turn .last .1 .1 .1 .1 .0)
+    (opened (turn .last .0) (turn .last .1 .0) (turn .last .1 .1 .0)) (turn .result) (went .1) (turn .ensures) in (
       search needs,
       (
         search needs,
         (
-          record { size = search needs; most = omega (arith, t .1 .1) },
-          read-more _ _ _ (take (t .0) (c .before .before .before .before .before .before .before .before .before .before .before .before .before .turn .last .1 .1 .1 .1 .0)) (c .before .before .before .before .before .before .before .before .before .before .before .before .before .before .before .before .before .before .before .before .loop .inv .1 .1 .1 .1 .1) (t .1 .0),
+          search needs,
+          (
+            search needs,
+            (
+              record { size = search needs; most = omega (arith, t .1 .1) },
+              read-more _ _ _ (take (t .0) (turn .last .1 .1 .1 .1 .0)) (loop .inv .1 .1 .1 .1 .1) (t .1 .0),
+            ),
+          ),
         ),
       ),
-    ),
-  ),
-)
+    )
 
 same-length-11 : tie.Need-same-length-11 Inv-loop μ-loop
 same-length-11 c = c .before .loop .inv .0

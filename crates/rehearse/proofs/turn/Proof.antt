@@ -48,7 +48,13 @@ same-length-7 : tie.Need-same-length-7
 same-length-7 c = search needs
 
 returns-3 : tie.Need-returns-3
-returns-3 c = poured-turned (opened (c .before .before .before .before .before .before .before .before .before .before .before .before .before .before .before .before .before .before .before .before .before .before .before .before .before .before .before .args .cache .now) (c .before .before .before .before .before .before .before .before .before .before .before .before .before .before .before .before .before .before .before .before .before .before .before .before .before .before .before .args .book .now) (c .before .before .before .before .before .before .before .before .before .before .before .before .before .before .before .before .before .before .before .before .before .before .before .before .before .before .before .args .line .now) (c .before .before .before .before .before .before .before .before .before .before .before .before .before .before .before .before .before .before .before .before .before .before .before .before .before .before .before .args .held)) (c .before .before .before .before .before .before .before .before .before .before .before .before .before .before .before .before .before .before .before .before .before .before .before .before .before .before .before .args .held) (c .before .before .before .before .before .before .before .before .before .before .before .before .before .before .count .result) (c .before .before .before .before .before .before .before .before .before .before .before .before .before .before .before .before .before .before .before .before .read .last .1 .0) (opened (c .before .before .before .before .before .before .before .before .pour .last .0) (c .before .before .before .before .before .before .before .before .pour .last .1 .0) (c .before .before .before .before .before .before .before .before .pour .last .1 .1 .0)) (c .before .before .before .before .before .before .before .before .pour .result) (c .before .before .before .before .before .before .before .before .pour .ensures)
+returns-3 c =
+    let a = c .before .before .before .before .before .before .before .before .before .before .before .before .before .before .before .before .before .before .before .before .before .before .before .before .before .before .before .args in
+    let pour = c .before .before .before .before .before .before .before .before .pour in
+    poured-turned (opened (a .cache .now) (a .book .now) (a .line .now) (a .held)) (a .held)
+    (c .before .before .before .before .before .before .before .before .before .before .before .before .before .before .count .result)
+    (c .before .before .before .before .before .before .before .before .before .before .before .before .before .before .before .before .before .before .before .before .read .last .1 .0)
+    (opened (pour .last .0) (pour .last .1 .0) (pour .last .1 .1 .0)) (pour .result) (pour .ensures)
 
 pub turn-spec : {M : Type 1} → statement M
 turn-spec =

@@ -2,7 +2,7 @@
 use Rattle.replies.proofs.Lines.{end-put, number-most}
 use native.Mathlib.Omega.{arith}
 use borrow.Author.Needs.{needs}
-use Rattle.replies.specs.Text.{space}
+use Rattle.lent.specs.Text.{space}
 use Rattle.replies.proofs.end.Statement.{statement}
 use Rattle.replies.proofs.end.Tie as tie
 

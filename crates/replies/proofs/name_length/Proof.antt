@@ -1,5 +1,5 @@
--- `name_length` meets its contract: the code's table is `lengths`.
-use Rattle.replies.proofs.Names.{lengths, length-at}
+-- `name_length` meets its contract: the code's table is `wordLengths`.
+use Rattle.replies.proofs.Names.{wordLengths, length-at}
 use Rattle.replies.specs.Replies.{nameOf, words}
 use borrow.Author.Needs.{needs}
 use Rattle.replies.proofs.name_length.Statement.{statement}
@@ -12,7 +12,7 @@ array-read-result : tie.Need-array-read-result
 array-read-result c = search needs
 
 returns : tie.Need-returns
-unfolding lengths nameOf words
+unfolding wordLengths nameOf words
 returns c = length-at _ (c .pre)
 
 pub name-length-spec : {M : Type 1} → statement M

@@ -1,5 +1,5 @@
--- `padded` meets its contract: the code's table is `rows`, whose fronts are the words.
-use Rattle.replies.proofs.Names.{rows, front-at}
+-- `padded` meets its contract: the code's table is `paddedWords`, whose fronts are the words.
+use Rattle.replies.proofs.Names.{paddedWords, front-at}
 use Rattle.replies.specs.Replies.{nameOf, words}
 use borrow.Author.Needs.{needs}
 use Rattle.replies.proofs.padded.Statement.{statement}
@@ -12,7 +12,7 @@ array-copy-out-result : tie.Need-array-copy-out-result
 array-copy-out-result c = search needs
 
 returns : tie.Need-returns
-unfolding rows nameOf words
+unfolding paddedWords nameOf words
 returns c = front-at _ (c .before .pre)
 
 pub padded-spec : {M : Type 1} → statement M

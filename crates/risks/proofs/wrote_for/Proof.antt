@@ -1,8 +1,7 @@
 -- The session's place is searched, and its mark compared.
 use mathlib.Core.Path.{sym, _∙_}
 use native.Mathlib.Omega.{arith}
-use Prim.Native.Nat.{_<_}
-use Rattle.machine.specs.Sizes.{sessionCount}
+use Rattle.layout.proofs.Search.{found-below}
 use Rattle.risks.proofs.Wrote.{wrote-found, wrote-nothing}
 use borrow.Author.Needs.{needs}
 use Rattle.risks.proofs.wrote_for.Statement.{statement}
@@ -15,7 +14,7 @@ enum-known-place : tie.Need-enum-known-place
 enum-known-place c = search needs
 
 mark-requires : tie.Need-mark-requires
-mark-requires c κs = let l : c .before .place .given .0 .0 < sessionCount = rw (c .before .place .given .1) at (c .before .before .before .find .ensures .1) in omega arith
+mark-requires c κs = omega (arith, found-below _ _ _ (c .before .place .given .1) (c .before .before .before .find .ensures .1))
 
 cast-result : tie.Need-cast-result
 cast-result c = search needs

@@ -1,4 +1,4 @@
--- The words are compared.
+-- The risk counts exactly at the word that is watched.
 use mathlib.Core.Path.{sym, _∙_}
 use borrow.Author.Tests.{eq-eqb, ne-eqb}
 use borrow.Author.Needs.{needs}

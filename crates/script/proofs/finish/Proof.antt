@@ -18,7 +18,7 @@ same-length-2 : tie.Need-same-length-2
 same-length-2 c = search needs
 
 returns : tie.Need-returns
-returns c = finish-none _ _ _ _ _ (c .before .before .before .before .before .before .before .before .before .before .pre .1) _ _ (c .before .before .before .before .before .if1 .taken) (c .before .before .end .ensures)
+returns c = finish-none _ _ _ _ _ _ _ (c .before .before .before .before .before .if1 .taken) (c .before .before .end .ensures)
 
 slice-aggregate-answer : tie.Need-slice-aggregate-answer
 slice-aggregate-answer c = sym (length-take-le _ _ (omega (arith, c .before .before .before .before .before .before .before .before .pre .1 .size, c .before .before .before .before .before .before .before .before .pre .1 .most)))

@@ -1,7 +1,6 @@
 -- `step` meets its contract: by what `push` says of the byte, it is held or ends a line, and that line is answered.
 use mathlib.Core.Path.{sym, _∙_}
 use lib.Seq.{length-take-le}
-use mathlib.Core.List.{[]}
 use Rattle.script.proofs.Steps.{step-held, step-line, line-within}
 use borrow.Author.Needs.{needs}
 use Rattle.script.proofs.step.Statement.{statement}
@@ -17,10 +16,10 @@ enum-known-taken-2 : tie.Need-enum-known-taken-2
 enum-known-taken-2 c = search needs
 
 slice-reshare-prefix-answer : tie.Need-slice-reshare-prefix-answer
-slice-reshare-prefix-answer c = line-within [] [] _ [] _ _ 0 _ (c .before .before .before .before .before .before .before .before .before .before .before .before .before .pre .1) (c .before .before .before .before .before .before .before .push .ensures .1) _ (sym (c .before .before .before .before .before .before .before .push .ensures .0) ∙ c .before .before .before .taken2 .given .1)
+slice-reshare-prefix-answer c = line-within _ _ _ _ (c .before .before .before .before .before .before .before .before .before .before .before .before .before .pre .1) (c .before .before .before .before .before .before .before .push .ensures .1) _ (sym (c .before .before .before .before .before .before .before .push .ensures .0) ∙ c .before .before .before .taken2 .given .1)
 
 slice-aggregate-answer : tie.Need-slice-aggregate-answer
-slice-aggregate-answer c = sym (length-take-le _ _ (line-within [] [] _ [] _ _ 0 _ (c .before .before .before .before .before .before .before .before .before .before .before .before .before .before .pre .1) (c .before .before .before .before .before .before .before .before .push .ensures .1) _ (sym (c .before .before .before .before .before .before .before .before .push .ensures .0) ∙ c .before .before .before .before .taken2 .given .1)))
+slice-aggregate-answer c = sym (length-take-le _ _ (line-within _ _ _ _ (c .before .before .before .before .before .before .before .before .before .before .before .before .before .before .pre .1) (c .before .before .before .before .before .before .before .before .push .ensures .1) _ (sym (c .before .before .before .before .before .before .before .before .push .ensures .0) ∙ c .before .before .before .before .taken2 .given .1)))
 
 answer-requires : tie.Need-answer-requires
 answer-requires c κs = search needs

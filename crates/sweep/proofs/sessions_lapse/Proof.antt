@@ -7,10 +7,10 @@ use borrow.Author.Needs.{needs}
 use borrow.Author.Count.{below-more}
 use Rattle.machine.specs.Sizes.{sessionCount}
 use Rattle.machine.specs.State.{State, noSession, sessionAt}
-use Rattle.machine.proofs.Views.{any-at}
+use Rattle.machine.proofs.Views.{any-at, none-any}
 use Rattle.layout.specs.Holds.{Holds}
 use Rattle.deadlines.specs.Deadlines.{dueSlot}
-use Rattle.endings.proofs.Searches.{NoneBelow, none-any}
+use Rattle.endings.proofs.Searches.{NoneBelow}
 use Rattle.sweep.proofs.sessions_lapse.Statement.{statement}
 use Rattle.sweep.proofs.sessions_lapse.Tie as tie
 

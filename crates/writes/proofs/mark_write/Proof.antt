@@ -22,7 +22,8 @@ returns : tie.Need-returns
 returns c =
     let s = c .before .before .before .before .before .before .before .before .before in
     let l = c .before .before .before .before .before .before .load in
-    λ σ h ok n p. written-open σ ok (s .args .book .now) _ n (s .args .key) (s .args .i) p (s .pre .1 .1) (l .result) (l .ensures σ h) (c .before .before .before .before .set-mark .ensures) (test-failed (c .before .is-sealed .ensures) (c .if1 .taken))
+    λ σ h ok n p. written-open σ ok (s .args .book .now) _ n (s .args .key) (s .args .i) p (s .pre .1 .1) (l .result) (l .ensures σ h) (c .before .before .before .before .set-mark .ensures)
+    (test-failed (c .before .is-sealed .ensures) (c .if1 .taken))
 
 cast-find : tie.Need-cast-find
 cast-find c = search needs
@@ -40,13 +41,23 @@ same-length-2 : tie.Need-same-length-2
 same-length-2 c = search needs
 
 returns-2 : tie.Need-returns-2
-returns-2 c = λ σ h ok n p. written-held σ ok (c .before .before .before .before .before .before .before .before .before .before .before .before .args .book .now) _ n (c .before .before .before .before .before .before .before .before .before .before .before .before .args .key) (c .before .before .before .before .before .before .before .before .before .before .before .before .args .i) p (c .before .before .before .before .before .before .before .before .before .before .before .before .pre .1 .1) (c .before .before .before .before .before .before .before .before .before .load .result) (c .before .before .before .before .before .before .before .before .before .load .ensures σ h) (c .before .before .before .before .before .before .before .set-mark .ensures) (test-passed (c .before .before .before .before .is-sealed .ensures) (c .before .before .before .if1 .left)) _ (sym (c .before .before .find .ensures .0 σ h) ∙ c .enum-told .given .1)
+returns-2 c =
+    let s = c .before .before .before .before .before .before .before .before .before .before .before .before in
+    let l = c .before .before .before .before .before .before .before .before .before .load in
+    let sealed = test-passed (c .before .before .before .before .is-sealed .ensures) (c .before .before .before .if1 .left) in
+    λ σ h ok n p. written-held σ ok (s .args .book .now) _ n (s .args .key) (s .args .i) p (s .pre .1 .1) (l .result) (l .ensures σ h) (c .before .before .before .before .before .before .before .set-mark .ensures) sealed
+    _ (sym (c .before .before .find .ensures .0 σ h) ∙ c .enum-told .given .1)
 
 same-length-3 : tie.Need-same-length-3
 same-length-3 c = search needs
 
 returns-3 : tie.Need-returns-3
-returns-3 c = λ σ h ok n p. written-rowless σ ok (c .before .before .before .before .before .before .before .before .before .before .before .before .args .book .now) _ n (c .before .before .before .before .before .before .before .before .before .before .before .before .args .key) (c .before .before .before .before .before .before .before .before .before .before .before .before .args .i) p (c .before .before .before .before .before .before .before .before .before .before .before .before .pre .1 .1) (c .before .before .before .before .before .before .before .before .before .load .result) (c .before .before .before .before .before .before .before .before .before .load .ensures σ h) (c .before .before .before .before .before .before .before .set-mark .ensures) (test-passed (c .before .before .before .before .is-sealed .ensures) (c .before .before .before .if1 .left)) (sym (c .before .before .find .ensures .0 σ h) ∙ c .enum-told2 .given .1)
+returns-3 c =
+    let s = c .before .before .before .before .before .before .before .before .before .before .before .before in
+    let l = c .before .before .before .before .before .before .before .before .before .load in
+    let sealed = test-passed (c .before .before .before .before .is-sealed .ensures) (c .before .before .before .if1 .left) in
+    λ σ h ok n p. written-rowless σ ok (s .args .book .now) _ n (s .args .key) (s .args .i) p (s .pre .1 .1) (l .result) (l .ensures σ h) (c .before .before .before .before .before .before .before .set-mark .ensures) sealed
+    (sym (c .before .before .find .ensures .0 σ h) ∙ c .enum-told2 .given .1)
 
 pub mark-write-spec : {M : Type 1} → statement M
 mark-write-spec =

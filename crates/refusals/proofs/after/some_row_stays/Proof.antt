@@ -5,10 +5,11 @@ use mathlib.Core.Bool.{false}
 use mathlib.Core.Path.{_≡_, sym, _∙_}
 use native.Mathlib.Omega.{arith}
 use borrow.Author.Count.{below-more}
+use Rattle.machine.proofs.Views.{none-any}
 use Rattle.machine.specs.Sizes.{rowCount}
 use Rattle.machine.specs.State.{State, noRow, rowAt}
 use Rattle.layout.specs.Holds.{Holds}
-use Rattle.endings.proofs.Searches.{NoneBelow, any-hit, none-any}
+use Rattle.endings.proofs.Searches.{NoneBelow, any-hit}
 use Rattle.refusals.specs.Left.{staysOn}
 use Rattle.refusals.proofs.after.some_row_stays.Statement.{statement}
 use Rattle.refusals.proofs.after.some_row_stays.Tie as tie
