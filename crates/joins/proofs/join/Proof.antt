@@ -40,14 +40,16 @@ load-u32-requires-2 : tie.Need-load-u32-requires-2
 load-u32-requires-2 c κs = search needs
 
 returns-2 : tie.Need-returns-2
-returns-2 c = join-leased (c .before .before .before .before .before .before .before .pre .1 .1 .1) (c .before .before .before .before .before .load-u32 .ensures) (c .before .before .index .ensures .0) (c .before .before .before .before .if1 .left) (λ e. c .if2 .taken (c .before .load-u322 .ensures ∙ e))
+returns-2 c = let b = c .before .before in let e = b .before .before in
+    join-leased (e .before .before .before .pre .1 .1 .1) (e .before .load-u32 .ensures) (b .index .ensures .0) (e .if1 .left) (λ e. c .if2 .taken (c .before .load-u322 .ensures ∙ e))
 
 place-requires : tie.Need-place-requires
-place-requires c κs = let a = c .before .before .before .before .before .before .before in (once-alone (a .args .nums .now) (c .before .before .before .before .before .load-u32 .result) (a .pre .1 .1 .1 .sessions .once) (c .before .before .before .before .if1 .left), a .pre .1 .1 .0)
+place-requires c κs = let e = c .before .before .before .before in let a = e .before .before .before in
+    (once-alone (a .args .nums .now) (e .before .load-u32 .result) (a .pre .1 .1 .1 .sessions .once) (e .if1 .left), a .pre .1 .1 .0)
 
 returns-3 : tie.Need-returns-3
 returns-3 c = let a = c .before .before in let b = a .before .before in let e = b .before .before in
-    join-dead (c .before .before .before .before .before .before .before .before .before .pre .1 .1 .1) (e .before .load-u32 .ensures) (b .index .ensures .0) (e .if1 .left) (c .before .place .ensures .0) (sym (a .before .load-u322 .ensures) ∙ a .if2 .left) (c .if3 .taken)
+    join-dead (e .before .before .before .pre .1 .1 .1) (e .before .load-u32 .ensures) (b .index .ensures .0) (e .if1 .left) (c .before .place .ensures .0) (sym (a .before .load-u322 .ensures) ∙ a .if2 .left) (c .if3 .taken)
 
 add-stands-as : tie.Need-add-stands-as
 add-stands-as c = search needs
@@ -75,7 +77,7 @@ may-share-requires c κs = search needs
 
 returns-4 : tie.Need-returns-4
 returns-4 c = let d = c .before .before .before .before .before in let p = c .before .before .before .before .before .before .before .before in let a = p .before in let b = a .before .before in let e = b .before .before in
-    join-shared (c .before .before .before .before .before .before .before .before .before .before .before .before .before .before .before .before .pre .1 .1 .1) (e .before .load-u32 .ensures) (b .index .ensures .0) (e .if1 .left) (p .place .ensures .0) (sym (a .before .load-u322 .ensures) ∙ a .if2 .left) (c .before .before .before .before .before .before .before .if3 .left) (d .stands-as .ensures) (b .index .ensures .1) (c .before .note-pair .ensures) (c .may-share .ensures)
+    join-shared (e .before .before .before .pre .1 .1 .1) (e .before .load-u32 .ensures) (b .index .ensures .0) (e .if1 .left) (p .place .ensures .0) (sym (a .before .load-u322 .ensures) ∙ a .if2 .left) (d .before .before .if3 .left) (d .stands-as .ensures) (b .index .ensures .1) (c .before .note-pair .ensures) (c .may-share .ensures)
 
 pub join-spec : {M : Type 1} → statement M
 join-spec =

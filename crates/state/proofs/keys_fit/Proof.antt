@@ -58,7 +58,7 @@ key-formed-requires c κs = (search needs, c .before .before .before .before .be
 returns : tie.Need-returns Inv-loop μ-loop
 unfolding keysFit keysFormed decHead
 returns c = let l = c .before .before .before .before in let n = l .before in let u = n .before in
-    let f = records-failed (keyFormed (u .limit .result) (n .load-u32 .result)) (c .before .before .before .before .before .before .before .before .args .s .now) keysFrom keyWidth (l .loop .k) (c .before .key-formed .ensures) keyCount (search needs) (c .if1 .taken) in
+    let f = records-failed (keyFormed (u .limit .result) (n .load-u32 .result)) (u .before .before .args .s .now) keysFrom keyWidth (l .loop .k) (c .before .key-formed .ensures) keyCount (search needs) (c .if1 .taken) in
     rw (← u .limit .ensures, ← n .load-u32 .ensures, f)
 
 token-meets-requires : tie.Need-token-meets-requires Inv-loop μ-loop
@@ -72,7 +72,7 @@ loop-less c = search needs
 
 loop-again : tie.Need-loop-again Inv-loop μ-loop
 loop-again c = let l = c .before .before .before .before .before .before in let n = l .before in let m = c .token-meets .ensures in
-    (search needs, (records-passed (keyFormed (n .before .limit .result) (n .load-u32 .result)) (c .before .before .before .before .before .before .before .before .before .before .args .s .now) keysFrom keyWidth (l .loop .k) (c .before .before .before .key-formed .ensures) (c .before .before .if1 .left) (l .loop .inv .1 .0), (m .marked, met-more (l .loop .inv .1 .1 .1) m)))
+    (search needs, (records-passed (keyFormed (n .before .limit .result) (n .load-u32 .result)) (n .before .before .before .args .s .now) keysFrom keyWidth (l .loop .k) (c .before .before .before .key-formed .ensures) (c .before .before .if1 .left) (l .loop .inv .1 .0), (m .marked, met-more (l .loop .inv .1 .1 .1) m)))
 
 returns-2 : tie.Need-returns-2 Inv-loop μ-loop
 unfolding keysFit keysFormed decHead

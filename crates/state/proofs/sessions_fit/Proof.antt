@@ -59,7 +59,7 @@ session-formed-requires c κs = search needs
 returns : tie.Need-returns Inv-loop μ-loop
 unfolding sessionsFit sessionsFormed decHead
 returns c = let l = c .before .before .before .before in let n = l .before in let u = n .before in
-    let f = records-failed (sessionFormed (u .limit .result) (n .load-u32 .result)) (c .before .before .before .before .before .before .before .before .args .s .now) sessionsFrom sessionWidth (l .loop .j) (c .before .session-formed .ensures) sessionCount (search needs) (c .if1 .taken) in
+    let f = records-failed (sessionFormed (u .limit .result) (n .load-u32 .result)) (u .before .before .args .s .now) sessionsFrom sessionWidth (l .loop .j) (c .before .session-formed .ensures) sessionCount (search needs) (c .if1 .taken) in
     (rw (← u .limit .ensures, ← n .load-u32 .ensures, f), λ o. clash false o refl)
 
 session-sits-requires : tie.Need-session-sits-requires Inv-loop μ-loop
@@ -73,7 +73,7 @@ loop-less c = search needs
 
 loop-again : tie.Need-loop-again Inv-loop μ-loop
 loop-again c = let l = c .before .before .before .before .before .before .before in let n = l .before in let m = c .session-sits .ensures in
-    (search needs, (records-passed (sessionFormed (n .before .limit .result) (n .load-u32 .result)) (c .before .before .before .before .before .before .before .before .before .before .before .args .s .now) sessionsFrom sessionWidth (l .loop .j) (c .before .before .before .before .session-formed .ensures) (c .before .before .before .if1 .left) (l .loop .inv .1 .0), (m .entered, sat-more (l .loop .inv .1 .1 .1) m)))
+    (search needs, (records-passed (sessionFormed (n .before .limit .result) (n .load-u32 .result)) (n .before .before .before .args .s .now) sessionsFrom sessionWidth (l .loop .j) (c .before .before .before .before .session-formed .ensures) (c .before .before .before .if1 .left) (l .loop .inv .1 .0), (m .entered, sat-more (l .loop .inv .1 .1 .1) m)))
 
 returns-2 : tie.Need-returns-2 Inv-loop μ-loop
 unfolding sessionsFit sessionsFormed decHead
