@@ -1,3 +1,3 @@
 pub mod Numbers
 pub mod Standing
-pub mod Fallen
+pub mod Once

@@ -45,14 +45,15 @@ use Rattle.lines.specs.declared.Line.{Line}
 use Rattle.rehearsal.specs.Rehearsal.{saidOf}
 use Rattle.rehearsed.specs.Column.{Promised}
 use Rattle.rehearsed.specs.Text.{Text, textThrough, textColumn, eventOf, eventsIn, worldAfter, begunBy, runOf, RulesKept, PromisedIn}
-use Rattle.rehearsed.specs.Example.{readLife, writeLife, starting, between, hitting, example, secondValue, eventsBetween, exampleEvents, runFrom}
+use Rattle.machine.specs.Examples.{exampleReadLife, exampleWriteLife}
+use Rattle.rehearsed.specs.Example.{starting, between, hitting, example, secondValue, eventsBetween, exampleEvents, runFrom}
 use Rattle.rehearsed.specs.Witness.{begunWorld}
 use Rattle.rehearsed.proofs.Column.{new-zeros}
 use Rattle.rehearsed.proofs.Text.{saidBy, text-told, lines-zeros, rehearsal-begun, rehearsal-promised}
 
 -- What the lines tell: the first, those between, all behind the first, and the last
 
-lines-tell : (readLine starting .line ≡ Line.Start readLife writeLife)
+lines-tell : (readLine starting .line ≡ Line.Start exampleReadLife exampleWriteLife)
     × (eventsIn between ≡ eventsBetween)
     × (eventsIn (between ++ (hitting ∷ [])) ≡ exampleEvents)
     × (eventOf hitting ≡ some (command 15 (Get 0 7) []))

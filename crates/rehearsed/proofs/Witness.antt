@@ -27,7 +27,7 @@ use Rattle.book.specs.Book.{bookSize}
 use Rattle.promises.proofs.Witness.{witness-ready, byteTest, byte-test}
 use Rattle.rehearsed.specs.TwoValues.{verdictsTwo}
 use Rattle.rehearsed.specs.Column.{through, column, AllReadable, Promised}
-use Rattle.rehearsed.specs.Example.{readLife, writeLife}
+use Rattle.machine.specs.Examples.{exampleReadLife, exampleWriteLife}
 use Rattle.rehearsed.specs.Witness.{begunMemory, begunWorld, breaks, third}
 use Rattle.rehearsed.proofs.Column.{new-zeros, column-verdicts, zeros-promised}
 
@@ -50,14 +50,14 @@ tested-readable (write n k v ∷ es) e =
     let r = tested-readable es (x .1) in
     ((tt, r .0), ((ltb-true k keyCount (y .0), leb-true (length v) valueMax (y .1)), r .1))
 
-zeros-ready : startOf (zeros stateSize) readLife writeLife .answer ≡ Answer.Ready
+zeros-ready : startOf (zeros stateSize) exampleReadLife exampleWriteLife .answer ≡ Answer.Ready
 zeros-ready = witness-ready (zeros stateSize) (length-replicate {A = ℕ} stateSize 0)
 
 -- then its column is what is computed
 column-is : (es : List Event) (l : List ℕ) → readTest es ≡ true → verdictsTwo begunWorld es ≡ l → column begunMemory es ≡ l
 column-is es l e f =
     let r = tested-readable es e in
-    column-verdicts (zeros stateSize) (zeros bookSize) readLife writeLife zeros-ready new-zeros es (r .0) (r .1) ∙ f
+    column-verdicts (zeros stateSize) (zeros bookSize) exampleReadLife exampleWriteLife zeros-ready new-zeros es (r .0) (r .1) ∙ f
 
 -- The verdicts of a run that keeps the rules, of one that breaks each, and of one that breaks rule 2 between a grant and its FILL: the register held a third
 -- value there, so that rule 1 is kept and its two-value form is not
@@ -76,7 +76,7 @@ pub witness-promised : (i : ℕ) → Promised (through begunMemory (take i event
 witness-promised i =
     let whole : (take i events ++ drop i events) ≡ events = take-append-drop i events in
     let r = tested-readable events refl in
-    zeros-promised (zeros stateSize) (zeros bookSize) readLife writeLife zeros-ready new-zeros (take i events) (drop i events) (rw whole (r .0)) (rw whole (r .1)) (rw whole witness-zeros)
+    zeros-promised (zeros stateSize) (zeros bookSize) exampleReadLife exampleWriteLife zeros-ready new-zeros (take i events) (drop i events) (rw whole (r .0)) (rw whole (r .1)) (rw whole witness-zeros)
 
 pub witness-breaks : column begunMemory breaks ≡ (0 ∷ 1 ∷ 2 ∷ 0 ∷ 0 ∷ 0 ∷ 0 ∷ 0 ∷ 4 ∷ 0 ∷ 2 ∷ 3 ∷ [])
 witness-breaks = column-is breaks (0 ∷ 1 ∷ 2 ∷ 0 ∷ 0 ∷ 0 ∷ 0 ∷ 0 ∷ 4 ∷ 0 ∷ 2 ∷ 3 ∷ []) refl (verdicts-are .1)

@@ -1,18 +1,11 @@
 -- 01's worked example of the rehearsal: its twelve lines as text, and the events that they tell after START.
-use Prim.Native.Nat.{ℕ}
 use mathlib.Core.List.{List, [], _∷_, _++_}
 use Rattle.machine.specs.State.{Value}
+use Rattle.machine.specs.Examples.{exampleReadLife, exampleWriteLife}
 use Rattle.machine.specs.World.{Event, command, write}
 use Rattle.machine.specs.declared.Command.the-variants.{Begin, Get, Fill, Quar, Validate, Done}
 use Rattle.replies.specs.Text.{ascii}
 use Rattle.rehearsed.specs.Text.{Text, Run}
-
--- the lifetimes that START is given, in the first line
-abbrev pub readLife : ℕ
-readLife = 1000
-
-abbrev pub writeLife : ℕ
-writeLife = 5000
 
 -- The lines
 
@@ -67,4 +60,4 @@ exampleEvents = eventsBetween ++ (command 15 (Get 0 7) [] ∷ [])
 
 -- the run with these events behind the first line
 abbrev pub runFrom : List Event → Run
-runFrom es = record { readLife = readLife; writeLife = writeLife; events = es }
+runFrom es = record { readLife = exampleReadLife; writeLife = exampleWriteLife; events = es }

@@ -9,14 +9,14 @@ use Rattle.book.specs.Memory.{Memory}
 use Rattle.book.specs.Book.{bookSize}
 use Rattle.replies.specs.Text.{ascii}
 use Rattle.rehearsed.specs.Column.{startedMemory}
-use Rattle.rehearsed.specs.Example.{readLife, writeLife}
+use Rattle.machine.specs.Examples.{exampleReadLife, exampleWriteLife}
 
 -- after START, both buffers and the world of the machine
 abbrev pub begunMemory : Memory
-begunMemory = startedMemory (zeros stateSize) (zeros bookSize) readLife writeLife
+begunMemory = startedMemory (zeros stateSize) (zeros bookSize) exampleReadLife exampleWriteLife
 
 abbrev pub begunWorld : World
-begunWorld = freshWorld readLife writeLife
+begunWorld = freshWorld exampleReadLife exampleWriteLife
 
 abbrev pub old : Value
 old = ascii "old"

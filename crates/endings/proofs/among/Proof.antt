@@ -8,7 +8,8 @@ use lib.ListN.{length, getD}
 use borrow.Author.Needs.{needs}
 use borrow.Author.Count.{below-more}
 use borrow.Author.Tests.{eq-eqb, ne-eqb}
-use Rattle.endings.proofs.Searches.{NoneBelow, any-hit, none-any}
+use Rattle.machine.proofs.Views.{none-any}
+use Rattle.endings.proofs.Searches.{NoneBelow, any-hit}
 use Rattle.endings.proofs.among.Statement.{statement}
 use Rattle.endings.proofs.among.Tie as tie
 
