@@ -1,7 +1,7 @@
 -- Views of the tables after a change: each law says what stands at a place of a table, in terms of what stood there before.
 -- A fact about a table is always an equation on the entry at a place, so that constructors tell entries apart by themselves.
 use mathlib.Core.Path.{_≡_, refl, sym, ap, ap₂, _∙_, subst}
-use mathlib.Core.Bool.{Bool, true, false, or-true}
+use mathlib.Core.Bool.{Bool, true, false, _||_, or-true}
 use mathlib.Core.Logic.{_⊎_, inl, inr}
 use mathlib.Core.List.{List, [], _∷_, map}
 use mathlib.Core.Option.{Option, none, some}
