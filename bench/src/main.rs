@@ -16,7 +16,8 @@ const USAGE: &str = "usage:
   bench times                         ns of the check
   bench commands                      commands a second
   bench call WHO STATE TIMES          the check alone; WHO is plain, proved or second, STATE fresh, light, full, random, climbing,
-                                      falling, mixed, pair, idle, leases, or any-N, the Nth of many made by chance
+                                      falling, mixed, pair, idle, leases, squared, squared-leases, or any-N, the Nth of
+                                      many made by chance
   bench work PART STATE WORK TIMES    PART is proved, second, proved-check, second-check or nothing, STATE light or full,
                                       WORK get-hit, get-miss, session or sweep";
 
@@ -57,7 +58,7 @@ fn times() {
         }
         let [plain, proved, second] = best;
         println!(
-            "{:<10} plain {plain:6.0} ns   proved {proved:6.0} ns, {:5.2} of it   second {second:6.0} ns, {:5.2} of it   proved / second {:.2}",
+            "{:<14} plain {plain:6.0} ns   proved {proved:6.0} ns, {:5.2} of it   second {second:6.0} ns, {:5.2} of it   proved / second {:.2}",
             plan.name, proved / plain, second / plain, proved / second,
         );
     }

@@ -35,6 +35,8 @@ enum Numbers {
     Random,
     /// Alike in their low bits, and in this order of size.
     Alike(Order),
+    /// Few low parts and few high parts, each with each: every number is like others in its low bits and like others in those above.
+    Squared,
     /// One after the other, but for the last two, which are alike in their low bits, the greater first.
     Pair,
 }
@@ -46,7 +48,7 @@ enum Order {
     Mixed,
 }
 
-use Numbers::{Alike, Near, Pair, Random};
+use Numbers::{Alike, Near, Pair, Random, Squared};
 use Order::{Climbing, Falling, Mixed};
 use Rows::{Alone, Shared};
 
@@ -65,7 +67,7 @@ const fn alike(name: &'static str, order: Order) -> Plan {
     Plan { name, session_numbers: Alike(order), tokens: Alike(order), ..FULL }
 }
 
-pub const PLANS: [Plan; 10] = [
+pub const PLANS: [Plan; 12] = [
     Plan { name: "fresh", sessions: 0, session_numbers: Near, rows: Alone(0), values: 0, leases: 0, tokens: Near },
     Plan { name: "light", sessions: 10, session_numbers: Near, rows: Alone(20), values: 100, leases: 10, tokens: Near },
     FULL,
@@ -76,6 +78,8 @@ pub const PLANS: [Plan; 10] = [
     Plan { name: "pair", session_numbers: Pair, tokens: Pair, rows: Shared(384, 2), ..FULL },
     Plan { name: "idle", rows: Shared(0, 1), ..alike("idle", Mixed) },
     Plan { name: "leases", sessions: 0, rows: Shared(0, 1), ..alike("leases", Mixed) },
+    Plan { name: "squared", tokens: Squared, ..alike("squared", Mixed) },
+    Plan { name: "squared-leases", sessions: 0, rows: Shared(0, 1), tokens: Squared, ..alike("squared-leases", Mixed) },
 ];
 
 /// The plan of a name; "any-N" is the Nth of many made by chance.
@@ -106,7 +110,7 @@ impl Chance {
     }
 
     fn numbers(&mut self) -> Numbers {
-        [Near, Random, Alike(Climbing), Alike(Falling), Alike(Mixed), Pair][self.below(6) as usize]
+        [Near, Random, Alike(Climbing), Alike(Falling), Alike(Mixed), Squared, Pair][self.below(7) as usize]
     }
 }
 
@@ -152,6 +156,7 @@ fn numbers(kind: Numbers, count: usize) -> Vec<u64> {
             }
             high.into_iter().map(|n| (n << LOW_BITS) + 7).collect()
         }
+        Squared => (0..count as u64).map(|n| ((n * 37 % 256) << 24) + ((n / 16 * 5 % 16) << 12) + 1 + n * 7 % 16).collect(),
         Pair => {
             let mut found: Vec<u64> = (3..count as u64 + 1).chain([(1 << LOW_BITS) + 2, 2]).collect();
             found.drain(..found.len() - count);

@@ -2,7 +2,7 @@
 ghost use mathlib.Core.Path.{_≡_};
 ghost use Prim.Native.Nat.{_<_};
 ghost use Rattle.machine.specs.Words.{isKind, isOperation};
-ghost use Rattle.machine.specs.Decision.{decision};
+ghost use Rattle.machine.specs.Decision.{heldCount, askedCount, decision};
 use machine::Verdict;
 
 // Held none, I, Q1, Q2, Q3 against asked I, Q1, Q2, Q3: 0 grant, 1 grant and void I, 2 back off, 3 abort the asker.
@@ -15,7 +15,7 @@ const DECISIONS: [[u8; 4]; 5] = [
 ];
 
 pub fn decide(held: usize, asked: usize) -> Verdict
-    requires { ⌜ (held < 5) × (asked < 4) ⌝ }
+    requires { ⌜ (held < heldCount) × (asked < askedCount) ⌝ }
     ensures { λ r. ⌜ r ≡ decision held asked ⌝ }
 {
     let entry = DECISIONS[held][asked];

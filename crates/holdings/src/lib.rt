@@ -7,7 +7,7 @@ ghost use Rattle.machine.specs.Sizes.{stateSize, keyCount};
 ghost use Rattle.machine.specs.Words.{INVALIDATE, INCREMENTAL};
 ghost use Rattle.machine.specs.State.{State};
 ghost use Rattle.machine.specs.Sound.{sound};
-ghost use Rattle.machine.specs.Decision.{grants};
+ghost use Rattle.machine.specs.Decision.{heldCount, grants};
 ghost use Rattle.machine.specs.Refusals.{heldOn, blocked};
 ghost use Rattle.layout.specs.Holds.{Holds};
 use layout::Found;
@@ -15,7 +15,7 @@ use machine::Verdict;
 
 // The decision table's line for a row of a kind.
 fn line_of(kind: u8) -> usize
-    ensures { λ r. ⌜ (r < 5) × (INVALIDATE ≤ kind → kind ≤ INCREMENTAL → r ≡ suc kind) ⌝ }
+    ensures { λ r. ⌜ (r < heldCount) × (INVALIDATE ≤ kind → kind ≤ INCREMENTAL → r ≡ suc kind) ⌝ }
 {
     match kind {
         1 => 2,
@@ -27,7 +27,7 @@ fn line_of(kind: u8) -> usize
 // The decision table's line for what is held on key k.
 pub fn held(s: &[u8], k: usize) -> usize
     requires { ⌜ (length (now s) ≡ stateSize) × (k < keyCount) ⌝ }
-    ensures { λ r. ⌜ ((σ : State) → Holds (now (s .entry)) σ → sound σ ≡ true → r ≡ heldOn σ k) × (r < 5) ⌝ }
+    ensures { λ r. ⌜ ((σ : State) → Holds (now (s .entry)) σ → sound σ ≡ true → r ≡ heldOn σ k) × (r < heldCount) ⌝ }
 {
     let row = lookups::first_on(s, k);
     if let Found::At(i) = row {

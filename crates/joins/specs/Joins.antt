@@ -83,6 +83,9 @@ hasMark marks n = hasBit (item marks (n / wordBits % markWords)) (n % wordBits)
 abbrev pub setBit : List ℕ → ℕ → ℕ → List ℕ
 setBit marks k b = set marks k (withBit (item marks k) b)
 
+abbrev pub withMark : List ℕ → ℕ → List ℕ
+withMark marks n = setBit marks (n / wordBits % markWords) (n % wordBits)
+
 -- each of the first k of the numbers f that is not 0 has its mark
 pub record Marked (f : ℕ → ℕ) (k : ℕ) (marks : List ℕ) : Type 0 where
   pub long : length marks ≡ markWords
@@ -92,6 +95,15 @@ pub record Marked (f : ℕ → ℕ) (k : ℕ) (marks : List ℕ) : Type 0 where
 pub record Met (f : ℕ → ℕ) (k : ℕ) (r : Bool) (marks : List ℕ) : Type 0 where
   pub marked : Marked f (k + 1) marks
   pub new : r ≡ false → newAt f k ≡ true
+
+-- what n has above its low twelve bits, plus 1; 0 for 0
+abbrev pub upper : ℕ → ℕ
+upper n = if eqb n 0 then 0 else n / (markWords * wordBits) + 1
+
+-- each of the first k numbers has a mark by its low bits and one by those above
+pub record TwiceMarked (nums : List ℕ) (k : ℕ) (low high : List ℕ) : Type 0 where
+  pub lows : Marked (item nums) k low
+  pub highs : Marked (λ j. upper (item nums j)) k high
 
 -- Seats: each has a place, plus 1, or 0 if it is free
 

@@ -21,9 +21,9 @@ use Rattle.lookups.specs.Test.{testOf, rowTest}
 
 -- ---- tests
 
-pub session-free : (r : Row) → RowFits r → eqb (rowSession r) 0 ≡ freeRow r
-session-free noRow f = refl
-session-free (row n k d u) f = ne-eqb n 0 (λ q. omega (arith, q, f .given))
+pub owner-free : (r : Row) → RowFits r → eqb (rowSession r) 0 ≡ freeRow r
+owner-free noRow f = refl
+owner-free (row n k d u) f = ne-eqb n 0 (λ q. omega (arith, q, f .given))
 
 -- of session n, which is not 0
 of-on : (n k : ℕ) (r : Row) → RowFits r → (n ≡ 0 → ⊥) → testOf n k (rowSession r) (rowKey r) ≡ ofOn n k r
@@ -63,7 +63,7 @@ module _ {b : List ℕ} {s : State} (h : Holds b s) where
   pub free-search : first (startsWith b rowsFrom rowWidth 0) Found.At Found.Nothing 0 rowCount ≡ found rowCount (place freeRow (s .rows))
   free-search =
       first-held freeRow noRow (startsWith b rowsFrom rowWidth 0) (s .rows) rowCount (h .fits .rows) (λ i l.
-      rw (owner-held h i l) (session-free (rowAt s i) (row-fits h i l)))
+      rw (owner-held h i l) (owner-free (rowAt s i) (row-fits h i l)))
 
   pub none-zero : (k : ℕ) → found rowCount (rowPlace s 0 k) ≡ Found.Nothing
   none-zero k = found-none (ofOn 0 k) noRow (s .rows) rowCount (h .fits .rows) (λ i l. none-of k (rowAt s i) (row-fits h i l))

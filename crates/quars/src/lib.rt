@@ -6,6 +6,8 @@ ghost use Prim.Native.Nat.{_≤_, _<_};
 ghost use lib.Dec.{eqb};
 ghost use lib.ListN.{length};
 ghost use Rattle.machine.specs.Sizes.{stateSize, sessionCount};
+ghost use Rattle.machine.specs.Words.{INVALIDATE};
+ghost use Rattle.machine.specs.Decision.{askedCount};
 ghost use Rattle.machine.specs.State.{State, kindOf, rowOf, numbered, sessionAt};
 ghost use Rattle.machine.specs.Refusals.{wouldGrant};
 ghost use Rattle.machine.specs.Sound.{sound};
@@ -31,7 +33,7 @@ fn holds(s: &[u8], n: u32, k: u8, kind: u8) -> bool
 
 // Whether a QUAR by session n would be answered GRANTED, if there is room.
 pub fn would_grant(s: &[u8], n: u32, k: u8, kind: u8) -> bool
-    requires { ⌜ (length (now s) ≡ stateSize) × ((1 ≤ kind) × (kind < 4)) ⌝ }
+    requires { ⌜ (length (now s) ≡ stateSize) × ((INVALIDATE ≤ kind) × (kind < askedCount)) ⌝ }
     ensures { λ r. ⌜ ((σ : State) → Holds (now (s .entry)) σ → sound σ ≡ true → r ≡ wouldGrant σ n k kind) ⌝ }
 {
     if holds(s, n, k, kind) {
@@ -69,7 +71,7 @@ fn abort(s: &mut [u8], n: u32, place: usize) -> Answer
 
 // The decision table answers session n, which stands at this place.
 fn ask(s: &mut [u8], n: u32, place: usize, k: u8, kind: u8) -> Answer
-    requires { ⌜ (length (now s) ≡ stateSize) × ((place < sessionCount) × (kind < 4)) ⌝ }
+    requires { ⌜ (length (now s) ≡ stateSize) × ((place < sessionCount) × (kind < askedCount)) ⌝ }
     ensures { λ r. ⌜ ((σ : State) → Holds (now (s .entry)) σ → sound σ ≡ true → numbered n (sessionAt σ place) ≡ true → Gives (ask σ n k kind) r (now (s .exit))) ⌝ }
 {
     let held = holdings::held(s, k as usize);
@@ -83,7 +85,7 @@ fn ask(s: &mut [u8], n: u32, place: usize, k: u8, kind: u8) -> Answer
 
 // HELD if session n has such a row already.
 fn hold(s: &mut [u8], n: u32, place: usize, k: u8, kind: u8) -> Answer
-    requires { ⌜ (length (now s) ≡ stateSize) × ((place < sessionCount) × ((1 ≤ kind) × (kind < 4))) ⌝ }
+    requires { ⌜ (length (now s) ≡ stateSize) × ((place < sessionCount) × ((INVALIDATE ≤ kind) × (kind < askedCount))) ⌝ }
     ensures { λ r. ⌜ ((σ : State) → Holds (now (s .entry)) σ → sound σ ≡ true → numbered n (sessionAt σ place) ≡ true → Gives (hold σ n k kind) r (now (s .exit))) ⌝ }
 {
     if holds(s, n, k, kind) {

@@ -105,8 +105,8 @@ module _ (s : State) (n : ℕ) where
 
 module _ {s : State} {n i : ℕ} (w : Located s n i) where
   -- its number
-  pub number-is : {m : ℕ} → m ≡ numberIn (sessionAt s i) → m ≡ n
-  number-is e = e ∙ ap numberIn (w .is) ∙ w .number
+  pub number-same : {m : ℕ} → m ≡ numberIn (sessionAt s i) → m ≡ n
+  number-same e = e ∙ ap numberIn (w .is) ∙ w .number
 
   pub number-here : {m : ℕ} → m ≡ n → numbered m (sessionAt s i) ≡ true
   number-here {m} e = rw (w .is) (eq-eqb (w .live .number) m (w .number ∙ sym e))

@@ -16,14 +16,11 @@ load-u32-requires c κs = search needs
 returns : tie.Need-returns
 returns c = met-none (c .before .before .before .pre .1 .1) (c .before .load-u32 .ensures) (c .if1 .taken)
 
-cast-note-bit : tie.Need-cast-note-bit
-cast-note-bit c = search needs
-
-note-bit-requires : tie.Need-note-bit-requires
-note-bit-requires c κs = search needs
+meets-requires : tie.Need-meets-requires
+meets-requires c κs = c .before .before .before .before .pre .1 .1 .long
 
 returns-2 : tie.Need-returns-2
-returns-2 c = met-marked (c .before .before .before .before .before .pre .1 .1) (c .before .before .before .load-u32 .ensures) (c .before .before .if1 .left) (c .note-bit .ensures .0) (c .note-bit .ensures .1)
+returns-2 c = met-marked (c .before .before .before .before .before .pre .1 .1) (c .before .before .before .load-u32 .ensures) (c .before .before .if1 .left) (c .meets .ensures .0) (c .meets .ensures .1)
 
 pub token-meets-spec : {M : Type 1} → statement M
 token-meets-spec =
@@ -33,6 +30,5 @@ token-meets-spec =
     add-load-u32
     load-u32-requires
     returns
-    cast-note-bit
-    note-bit-requires
+    meets-requires
     returns-2)

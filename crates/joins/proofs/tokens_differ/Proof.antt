@@ -1,6 +1,6 @@
--- After k turns the first k tokens stand side by side; distinct there is distinct in the table.
+-- After k turns the first k tokens stand side by side; distinct there, by marks or by an order, is distinct in the table.
 use Prim.Native.Nat.{_-_, _≤_}
-use mathlib.Core.Path.{_≡_, _∙_}
+use mathlib.Core.Path.{_≡_, sym, _∙_}
 use native.Mathlib.Omega.{arith}
 use Rattle.machine.specs.Sizes.{keyCount}
 use Rattle.joins.specs.Joins.{tokens, Gathered}
@@ -42,11 +42,23 @@ loop-less c = search needs
 loop-again : tie.Need-loop-again Inv-loop μ-loop
 loop-again c = (search needs, gathered-more _ _ _ _ (omega arith) (c .before .before .loop .inv .1) (c .load-u32 .ensures))
 
+told-apart-requires : tie.Need-told-apart-requires Inv-loop μ-loop
+told-apart-requires c κs = search needs
+
+returns : tie.Need-returns Inv-loop μ-loop
+returns c =
+    let l = c .before .before .before .before .loop in
+    let e : l .k ≡ keyCount = omega arith in
+    sym (sym (distinct-gathered _ _ _ (rw e at (l .inv .1))) ∙ c .before .told-apart .ensures (c .if1 .taken))
+
 differ-requires : tie.Need-differ-requires Inv-loop μ-loop
 differ-requires c κs = search needs
 
-returns : tie.Need-returns Inv-loop μ-loop
-returns c = let e : c .before .before .before .before .loop .k ≡ keyCount = omega arith in c .differ .ensures ∙ distinct-gathered _ _ _ (rw e at (c .before .before .before .before .loop .inv .1))
+returns-2 : tie.Need-returns-2 Inv-loop μ-loop
+returns-2 c =
+    let l = c .before .before .before .before .before .before .before .loop in
+    let e : l .k ≡ keyCount = omega arith in
+    c .differ .ensures ∙ distinct-gathered _ _ _ (rw e at (l .inv .1))
 
 pub tokens-differ-spec : {M : Type 1} → statement M
 tokens-differ-spec =
@@ -63,5 +75,7 @@ tokens-differ-spec =
     add-k
     loop-less
     loop-again
+    told-apart-requires
+    returns
     differ-requires
-    returns)
+    returns-2)

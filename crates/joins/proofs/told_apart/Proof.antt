@@ -1,0 +1,57 @@
+-- After k turns the first k tokens have their marks and are distinct, and something is left, or the loop has stopped.
+use mathlib.Core.Path.{_≡_, refl}
+use mathlib.Core.Bool.{true, false}
+use Prim.Native.Nat.{_-_, _≤_}
+use native.Mathlib.Omega.{arith}
+use Rattle.lent.proofs.Choices.{clash}
+use Rattle.machine.specs.Sizes.{keyCount}
+use Rattle.machine.specs.Sound.{distinct}
+use Rattle.order.specs.Order.{item}
+use Rattle.order.proofs.Numbers.{distinct-none, distinct-more}
+use Rattle.joins.specs.Joins.{TwiceMarked}
+use Rattle.joins.proofs.Marks.{twice-none}
+use borrow.Author.Needs.{needs}
+use Rattle.joins.proofs.told_apart.Statement.{statement}
+use Rattle.joins.proofs.told_apart.Tie as tie
+
+abbrev Inv-loop : tie.InvT-loop
+Inv-loop nums low₀ high₀ left₀ k₀ low high left k = ((k ≤ keyCount) × (1 ≤ left)) × (TwiceMarked nums k low high × (distinct (item nums) k ≡ true))
+
+abbrev μ-loop : tie.MeasureT-loop
+μ-loop nums low₀ high₀ left₀ k₀ low high left k = keyCount - k
+
+loop-holds : tie.Need-loop-holds Inv-loop μ-loop
+loop-holds c = (search needs, (twice-none _, distinct-none _))
+
+told-requires : tie.Need-told-requires Inv-loop μ-loop
+told-requires c κs = (search needs, c .before .before .before .loop .inv .1 .0)
+
+returns : tie.Need-returns Inv-loop μ-loop
+returns c = λ r. clash false r refl
+
+add-k : tie.Need-add-k Inv-loop μ-loop
+add-k c = search needs
+
+loop-less : tie.Need-loop-less Inv-loop μ-loop
+loop-less c = search needs
+
+loop-again : tie.Need-loop-again Inv-loop μ-loop
+loop-again c = let l = c .before .before .before .before .before .loop in
+    ((omega arith, omega (arith, c .if1 .left)), (c .before .told .ensures .0, distinct-more _ _ (l .inv .1 .1) (c .before .told .ensures .1 (c .if1 .left))))
+
+returns-2 : tie.Need-returns-2 Inv-loop μ-loop
+returns-2 c = λ r. let e : c .before .loop .k ≡ keyCount = omega arith in rw e at (c .before .loop .inv .1 .1)
+
+pub told-apart-spec : {M : Type 1} → statement M
+told-apart-spec =
+    tie.close
+    (tie.spec
+    Inv-loop
+    μ-loop
+    loop-holds
+    told-requires
+    returns
+    add-k
+    loop-less
+    loop-again
+    returns-2)
