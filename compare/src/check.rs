@@ -1,7 +1,7 @@
 //! The well-formed check: the same buffers to both.
 
 use second::generate::Random;
-use crate::states::{at_last_step, at_last_time, at_the_end, crowded, fresh, full, used};
+use crate::states::{at_last_step, at_last_time, at_the_end, crowded, fresh, full, renumbered, used, HARD};
 use compare::proved;
 use second::lent::well_formed;
 use second::numbers::STATE_BYTES;
@@ -82,6 +82,8 @@ pub fn compare(seed: u64, more: u64) -> Tally {
     let mut states = vec![fresh(), full(), at_the_end(full(), 0), at_the_end(full(), 1), crowded()];
     states.extend([at_last_time(&full(), 0), at_last_step(&at_last_time(&crowded(), 1))]);
     states.extend((1..20).map(|n| used(&mut random, n * 60, 4 + n)));
+    let easy = [full(), crowded(), used(&mut random, 1_200, 24)];
+    states.extend(easy.iter().flat_map(|state| HARD.map(|number| renumbered(state, number))));
     for state in &states {
         tally.look(state);
     }

@@ -126,6 +126,34 @@ pub fn crowded() -> Vec<u8> {
     })
 }
 
+/// How numbers are made hard to tell apart: each is put in the place of one of a state's, no two the same.
+pub const HARD: [fn(u64) -> u64; 5] = [
+    // alike in their fourteen low bits: climbing, falling, mixed
+    |n| (n << 14) + 7,
+    |n| (((1 << 18) - n) << 14) + 7,
+    |n| ((n * 100_003 % (1 << 18)) << 14) + 7,
+    // every second one like its neighbour in the twelve low bits
+    |n| if n % 2 == 0 { n - 1 + (n << 12) } else { n },
+    // as if by chance
+    |n| n * 2_654_435_769 % (1 << 32),
+];
+
+/// The same state with other session numbers and tokens.
+pub fn renumbered(state: &[u8], number: fn(u64) -> u64) -> Vec<u8> {
+    changed(state, |tables| {
+        (tables.next_session, tables.next_token) = (u64::from(u32::MAX), u64::from(u32::MAX));
+        for lease in tables.keys.iter_mut().filter_map(|key| key.lease.as_mut()) {
+            lease.token = number(lease.token);
+        }
+        for session in tables.sessions.iter_mut().flatten() {
+            session.number = number(session.number);
+        }
+        for row in tables.rows.iter_mut().flatten() {
+            row.session = number(row.session);
+        }
+    })
+}
+
 /// The ends that commands are to be run at.
 pub const ENDS: [&str; 8] = [
     "clock 2^48-1", "next session 2^32-2", "next session 2^32-1", "next token 2^32-2", "next token 2^32-1", "count 1,000", "384 rows",
