@@ -29,6 +29,9 @@ fn plain(state: &[u8]) -> bool {
 const JUDGES: [(&str, fn(&[u8]) -> bool); 3] =
     [("plain", plain), ("proved", proved::well_formed), ("second", second::lent::well_formed)];
 
+/// Many, since the machine may have other work in some of them.
+const ROUNDS: usize = 1_000;
+
 /// The quickest of many rounds, in ns for each of its calls.
 fn nanoseconds(rounds: u64, calls: u64, mut round: impl FnMut(u64)) -> f64 {
     let mut best = f64::MAX;
@@ -51,7 +54,7 @@ fn times() {
     for plan in &PLANS {
         let state = state(plan);
         let mut best = [f64::MAX; JUDGES.len()];
-        for _ in 0..400 {
+        for _ in 0..ROUNDS {
             for (best, (_, judge)) in best.iter_mut().zip(JUDGES) {
                 *best = best.min(nanoseconds(1, 50, |calls| judged(&state, judge, calls)));
             }
@@ -71,7 +74,7 @@ fn commands() {
         for work in &WORKS {
             let mut trial = Trial::new(&named(plan).expect("a plan"), work);
             let mut best = [f64::MAX; PARTS.len()];
-            for _ in 0..60 {
+            for _ in 0..ROUNDS {
                 for (best, (_, part)) in best.iter_mut().zip(PARTS) {
                     *best = best.min(nanoseconds(1, 100, |calls| trial.repeat(part, calls)));
                 }
