@@ -17,7 +17,7 @@ use Rattle.lent.proofs.Choices.{and-yes, or-yes, if-ind, if-same, clash}
 use Rattle.lent.proofs.Walks.{all-every, every-all, every-fails}
 use Rattle.machine.proofs.Views.{getD-same}
 use Rattle.machine.specs.Words.{INVALIDATE}
-use Rattle.machine.specs.Sizes.{keyCount, keysFrom, keyWidth, sessionCount}
+use Rattle.machine.specs.Sizes.{keyCount, keysFrom, keyWidth}
 use Rattle.order.specs.Order.{item}
 use Rattle.joins.specs.Joins.{rowSession, rowKey, rowKind, isLive, pairOk, joinOk, firstPlace, pairBit, Noted, SHARED, ALONE, standing, mayShare, On, Seen, Sessions, Ready, Joined}
 use Rattle.joins.proofs.Lookup.{Stands, place-dead, place-live}
@@ -139,9 +139,6 @@ module _ {s nums seen near far : List ℕ} {i : ℕ} (y : Ready s i nums seen ne
       module _ (live : p ≡ 0 → ⊥) where
         stands : Stands s nums n p
         stands = rw isp (place-live s nums (y .sessions .gathered) n (λ e. live (isp ∙ e)))
-
-        pub place-low : p - 1 < sessionCount
-        place-low = stands .low
 
         -- that stands as d
         module _ {d : ℕ} (isd : d ≡ standing (rowKind s i)) where

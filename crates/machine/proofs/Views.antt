@@ -151,10 +151,6 @@ mem-one m n e = go (case-of (eqb n m))
 
 -- Rows and sessions
 
-pub free-row-is : (r : Row) → freeRow r ≡ true → r ≡ noRow
-free-row-is noRow e = refl
-free-row-is (row n k d v) e = clash false e refl
-
 pub free-slot-is : (e : Slot) → free e ≡ true → e ≡ noSession
 free-slot-is noSession e = refl
 free-slot-is (session l) e = clash false e refl

@@ -20,7 +20,7 @@ use Rattle.machine.specs.Expiry.{leave, finish, expire}
 use Rattle.machine.specs.Refusals.{decide, blocked, sight, wouldLease, wouldGrant, refusals, refusal}
 use Rattle.machine.specs.Effects.{begins, wait, leased, missed, looked, fills, asks, operate, changed, stages, effect}
 use Rattle.machine.specs.Step.{settled, step}
-use Rattle.machine.specs.Examples.{Told, says}
+use Rattle.machine.specs.Examples.{Told, says, exampleReadLife, exampleWriteLife}
 use Rattle.machine.specs.World.{Event, command, commanded, written, run, AllKept}
 use Rattle.machine.specs.Witness.{heard}
 use Rattle.machine.specs.declared.Answer.{Answer}
@@ -45,7 +45,6 @@ use Rattle.lines.specs.declared.Line.{Line}
 use Rattle.rehearsal.specs.Rehearsal.{saidOf}
 use Rattle.rehearsed.specs.Column.{Promised}
 use Rattle.rehearsed.specs.Text.{Text, textThrough, textColumn, eventOf, eventsIn, worldAfter, begunBy, runOf, RulesKept, PromisedIn}
-use Rattle.machine.specs.Examples.{exampleReadLife, exampleWriteLife}
 use Rattle.rehearsed.specs.Example.{starting, between, hitting, example, secondValue, eventsBetween, exampleEvents, runFrom}
 use Rattle.rehearsed.specs.Witness.{begunWorld}
 use Rattle.rehearsed.proofs.Column.{new-zeros}
