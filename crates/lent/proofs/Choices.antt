@@ -43,6 +43,10 @@ pub or-no : (t u : Bool) → t || u ≡ false → (t ≡ false) × (u ≡ false)
 or-no true u e = clash true refl e
 or-no false u e = (refl, e)
 
+pub not-or : (t u : Bool) → not (t || u) ≡ not t && not u
+not-or true u = refl
+not-or false u = refl
+
 pub and-swap : (a b c d : Bool) → (a && b) && (c && d) ≡ (a && c) && (b && d)
 and-swap true b true d = refl
 and-swap true b false d = and-false b

@@ -1,14 +1,15 @@
 -- Tests of each index, of some index, the search for the first, and a step for each index: what a loop over the indices needs at a
 -- turn, and what its result says of the indices. All by induction on the number of indices.
-use mathlib.Core.Path.{_≡_, refl, sym, _∙_}
+use mathlib.Core.Path.{_≡_, refl, sym, ap, _∙_}
 use mathlib.Core.Logic.{⊎-elim}
-use mathlib.Core.Bool.{Bool, true, false, _&&_, _||_, and-true, and-assoc, or-true}
+use mathlib.Core.Bool.{Bool, true, false, not, _&&_, _||_, and-true, and-assoc, or-true}
 use Prim.Native.Nat.{ℕ, zero, suc, _+_, _-_, _≤_, _<_}
 use native.Mathlib.Nat.{eq-or-lt-of-le, le-of-suc-le-suc, not-suc-le-zero}
 use native.Mathlib.Omega.{arith}
 use native.Mathlib.Numerals.{add-one}
+use borrow.Author.Tests.{not-true}
 use Rattle.lent.specs.Tables.{if_then_else_, every, some, first}
-use Rattle.lent.proofs.Choices.{and-swap, and-yes, or-no, clash}
+use Rattle.lent.proofs.Choices.{and-swap, and-yes, not-or, clash}
 
 -- ---- each index
 
@@ -74,17 +75,17 @@ module _ (p : ℕ → Bool) where
       go true r f = let w = f refl in (w .0, omega arith, w .2)
       go false r f = (n, omega arith, r)
 
+  -- p holds at none if it fails at each
+  not-some : (n : ℕ) → not (some p n) ≡ every (λ i. not (p i)) n
+  unfolding some every
+  not-some zero = refl
+  not-some (suc n) = not-or (some p n) (p n) ∙ rw (not-some n)
+
   pub some-none : (n i : ℕ) → some p n ≡ false → i < n → p i ≡ false
-  unfolding some
-  some-none zero i e h = absurd (not-suc-le-zero h)
-  some-none (suc n) i e h =
-      let b = or-no (some p n) (p n) e in
-      ⊎-elim (λ q. rw q (b .1)) (λ l. some-none n i (b .0) l) (eq-or-lt-of-le (le-of-suc-le-suc h))
+  some-none n i e h = not-true (p i) (every-all (λ i. not (p i)) n i (sym (not-some n) ∙ ap not e) h)
 
   pub none-some : (n : ℕ) → ((i : ℕ) → i < n → p i ≡ false) → some p n ≡ false
-  unfolding some
-  none-some zero f = refl
-  none-some (suc n) f = rw (none-some n (λ i h. f i (omega arith)), f n (omega arith))
+  none-some n f = not-true (some p n) (not-some n ∙ all-every (λ i. not (p i)) n (λ i h. ap not (f i h)))
 
   -- a turn of a loop that has found none
   pub some-more : (i : ℕ) → some p i ≡ false → p i ≡ false → some p (i + 1) ≡ false

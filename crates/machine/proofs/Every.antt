@@ -54,6 +54,12 @@ module _ (f : ℕ → ℕ) where
       at i (inl e) = rw e
       at i (inr e) = rw e (all-every (λ j. not (eqb (f j) (f i))) i (λ j l. rw (ne-eqb (f j) (f i) (λ q. let z = eqb-false (f i) 0 e in let w = g j i (omega arith) q in omega arith))))
 
+-- the numbers of a table's records, none of them 0: two records of one number stand at one place
+pub distinct-alone : {A B : Type 0} (at : ℕ → A) (number : A → ℕ) (a : B → A) (n : ℕ) → distinct (λ i. number (at i)) n ≡ true → ((i : ℕ) (x : B) → at i ≡ a x → (i < n) × (1 ≤ number (a x)))
+    → (i j : ℕ) (x y : B) → at i ≡ a x → at j ≡ a y → number (a x) ≡ number (a y) → i ≡ j
+distinct-alone at number a n d f i j x y p q t =
+    distinct-same (λ i. number (at i)) n i j d (f i x p .0) (f j y q .0) (rw p (f i x p .1)) (cc)
+
 -- a place that is not free is inside the table
 module _ {A : Type 0} (l : List A) (d : A) where
   pub place-inside : (i : ℕ) → (getD l i d ≡ d → ⊥) → i < length l

@@ -22,7 +22,7 @@ use Rattle.machine.specs.declared.Life.{Life}
 use Rattle.machine.specs.declared.Session.{Session}
 use Rattle.machine.proofs.Views.{no-some, no-row, no-session}
 use Rattle.machine.proofs.Ranges.{within-means, means-within}
-use Rattle.machine.proofs.Every.{pairs-all, all-pairs, distinct-same, same-distinct, place-inside, every-place, order}
+use Rattle.machine.proofs.Every.{pairs-all, all-pairs, distinct-alone, same-distinct, place-inside, every-place, order}
 
 -- a conjunction of many, and each of its parts by its place
 abbrev all : List Bool → Bool
@@ -271,28 +271,14 @@ module _ (s : State) (e : sound s ≡ true) where
     pairs-all (λ j i. shares (rowAt s j) (rowAt s i)) rowCount i j (join-parts 4) (row-inside s i n k d u rows-length p) l,
   )
 
-  tokens-differ : (k j : ℕ) (l m : Lease) → leaseOn s k ≡ some l → leaseOn s j ≡ some m → l .token ≡ m .token → k ≡ j
-  unfolding tokensDistinct LeaseOf
-  tokens-differ k j l m a b t =
-      let x : tokenAt s k ≡ l .token = ap tokenIn a in
-      let y : tokenAt s j ≡ m .token = ap tokenIn b in
-      distinct-same (tokenAt s) keyCount k j (join-parts 1) (key-inside s k l keys-length a) (key-inside s j m keys-length b) (rw x (lease-at k l a .1 .positive)) (x ∙ t ∙ sym y)
-
-  numbers-differ : (i j : ℕ) (x y : Session) → sessionAt s i ≡ session x → sessionAt s j ≡ session y → x .number ≡ y .number → i ≡ j
-  unfolding numbersDistinct SessionOf
-  numbers-differ i j x y a b t =
-      let v : numberAt s i ≡ x .number = ap numberIn a in
-      let w : numberAt s j ≡ y .number = ap numberIn b in
-      distinct-same (numberAt s) sessionCount i j (join-parts 0) (session-inside s i x sessions-length a) (session-inside s j y sessions-length b) (rw v (session-at i x a .1 .positive)) (v ∙ t ∙ sym w)
-
   -- what is sound is well formed at its own clock
   pub sound-means : WellFormed s (s .head .clock)
-  unfolding LeaseOf SessionOf
+  unfolding LeaseOf SessionOf tokensDistinct numbersDistinct
   sound-means = record {
     orderly = record {
       leases = λ k l p. (lease-at k l p .0, λ i n d v q. let a = lease-at k l p .1 .positive in let b = row-joined i n k d v q .1 in let c : tokenAt s k ≡ l .token = ap tokenIn p in omega arith);
       numbers = λ i x p. session-at i x p .0;
-      unique = numbers-differ;
+      unique = distinct-alone (sessionAt s) numberIn session sessionCount (join-parts 0) (λ i x p. (session-inside s i x sessions-length p, session-at i x p .1 .positive));
       kinds = λ i n k d v p. row-at i n k d v p .1;
       alone = λ i j n m k d c u v p q. elim (order i j) [
         | inl a ↦ inr a
@@ -310,7 +296,7 @@ module _ (s : State) (e : sound s ≡ true) where
       nextSession = within-means 1 numberMax (s .head .nextSession) (head-parts 3);
       nextToken = within-means 1 numberMax (s .head .nextToken) (head-parts 4);
     };
-    keys = record { length = keys-length; values = λ k {v} p. value-means v (rw p at (key-at k .0)); leases = λ k {l} p. lease-at k l p .1; distinct = λ k j {l} {m} a b t. tokens-differ k j l m a b t };
+    keys = record { length = keys-length; values = λ k {v} p. value-means v (rw p at (key-at k .0)); leases = λ k {l} p. lease-at k l p .1; distinct = λ k j {l} {m}. distinct-alone (leaseOn s) tokenIn some keyCount (join-parts 1) (λ k l p. (key-inside s k l keys-length p, lease-at k l p .1 .positive)) k j l m };
     sessions = record { length = sessions-length; each = λ i {x} p. session-at i x p .1 };
     rows = record {
       length = rows-length;

@@ -69,6 +69,10 @@ module _ {A : Type 0} where
       up (here p e) = here (ap suc p) e
       up (out p e f) = out (ap suc p) e f
 
+  -- a part of the entry that the new one has as it was
+  pub part-kept : {B : Type 0} (part : A → B) (l : List A) (i : ℕ) (a : A) (j : ℕ) (d : A) → part a ≡ part (getD l i d) → part (getD (set l i a) j d) ≡ part (getD l j d)
+  part-kept part l i a j d q = elim (after-set l i a j d) [ other p e ↦ ap part e | here p e ↦ cc | out p e f ↦ cc ]
+
   -- the entry at the place of the first that passes passes; where none does, it is the default
   pub find-test : (p : A → Bool) (d : A) (l : List A) → (find p d l ≡ d) ⊎ (p (find p d l) ≡ true)
   find-test p d [] = inl refl
@@ -246,20 +250,10 @@ value-after l j o k = go (after-set l j (record { value = o; lease = getD l j bl
     go (out p e f) = inl (ap (λ (x : Key). x .value) (e ∙ sym f))
 
 pub value-lease : (l : List Key) (j : ℕ) (o : Option Value) (k : ℕ) → getD (setValue l j o) k blank .lease ≡ getD l k blank .lease
-value-lease l j o k = go (after-set l j (record { value = o; lease = getD l j blank .lease }) k blank)
-  where
-    go : AfterSet l j (record { value = o; lease = getD l j blank .lease }) k blank → getD (setValue l j o) k blank .lease ≡ getD l k blank .lease
-    go (other p e) = ap (λ (x : Key). x .lease) e
-    go (here p e) = ap (λ (x : Key). x .lease) e ∙ ap (λ (x : ℕ). getD l x blank .lease) p
-    go (out p e f) = ap (λ (x : Key). x .lease) (e ∙ sym f)
+value-lease l j o k = part-kept (λ (x : Key). x .lease) l j _ k blank refl
 
 pub lease-value : (l : List Key) (j : ℕ) (o : Option Lease) (k : ℕ) → getD (setLease l j o) k blank .value ≡ getD l k blank .value
-lease-value l j o k = go (after-set l j (record { value = getD l j blank .value; lease = o }) k blank)
-  where
-    go : AfterSet l j (record { value = getD l j blank .value; lease = o }) k blank → getD (setLease l j o) k blank .value ≡ getD l k blank .value
-    go (other p e) = ap (λ (x : Key). x .value) e
-    go (here p e) = ap (λ (x : Key). x .value) e ∙ ap (λ (x : ℕ). getD l x blank .value) p
-    go (out p e f) = ap (λ (x : Key). x .value) (e ∙ sym f)
+lease-value l j o k = part-kept (λ (x : Key). x .value) l j _ k blank refl
 
 -- the lease of a key after one was set: untouched elsewhere; here the new one, or none
 pub lease-after : (l : List Key) (j : ℕ) (o : Option Lease) (k : ℕ)
