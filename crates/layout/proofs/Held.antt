@@ -10,48 +10,22 @@ use native.Mathlib.Omega.{arith}
 use lib.Dec.{eqb}
 use lib.ListN.{length, getD, set, length-set}
 use borrow.Author.Tests.{eqb-true}
-use Rattle.lent.specs.Bytes.{le16, le32, le64, splice, win}
-use Rattle.lent.proofs.Numbers.{le16-win, le32-win, le64-win}
+use Rattle.lent.specs.Bytes.{le32, le64, splice, win}
+use Rattle.lent.proofs.Numbers.{le32-win, le64-win}
 use Rattle.lent.proofs.Splice.{getD-win, length-splice, splice-over, splice-self, splice-win, win-splice, win-win}
 use Rattle.lent.proofs.Tables.{each-at, each-set}
 use Rattle.lent.proofs.Choices.{clash, zero-one}
 use Rattle.machine.specs.Sizes.{keyCount, sessionCount, rowCount, headSize, keysFrom, keyWidth, rowsFrom, rowWidth, sessionsFrom, sessionWidth, valueMax, valueAt, stagedAt}
 use Rattle.machine.specs.Sizes.{readLifeField, writeLifeField, nextSessionField, nextTokenField, keyLengthField, keyTokenField, keyUntilField, keyValueField, rowKeyField, rowKindField, rowStagedField, rowLengthField, rowValueField}
 use Rattle.machine.specs.Tables.{isNone}
-use Rattle.machine.specs.State.{Value, Head, Key, Slot, noSession, session, staged, Row, noRow, row, State, blank, keyOf, cached, leaseOn, numbered, sessionAt, rowAt, kindOf, stagedIn}
-use Rattle.machine.specs.Expiry.{withHead, withKeys, withSessions, withRows}
+use Rattle.machine.specs.State.{Value, Head, Slot, noSession, session, staged, Row, noRow, row, State, keyOf, cached, leaseOn, numbered, sessionAt, rowAt, kindOf, stagedIn}
+use Rattle.machine.specs.Expiry.{withHead}
 use Rattle.machine.specs.Sound.{tokenIn, numberIn}
-use Rattle.layout.specs.Layout.{encHead, decHead, encKey, encRow, encSession, sessionFrom}
+use Rattle.layout.specs.Layout.{encHead, decHead, sessionFrom}
 use Rattle.layout.specs.Fields.{valueLength, leaseUntil, rowSession, rowKey, stagedMark, stagedLength, sessionIn}
 use Rattle.layout.specs.Holds.{HeadFits, KeyFits, SlotFits, RowFits, Holds}
 use Rattle.layout.proofs.Records.{key-there, key-length, key-value, key-token, key-until, row-session, row-key, row-kind-byte, row-mark, row-length, row-value, session-number-bytes, session-from}
-use Rattle.layout.proofs.Places.{head-at, head-decoded, key-at, row-at, session-at, put-head, put-key, put-row, put-session}
-
--- ---- a field of a record that stands at a place
-
-module _ (b : List ℕ) (a w : ℕ) (x : List ℕ) (e : win b a w ≡ x) (i : ℕ) where
-  pub byte-at : i < w → getD b (a + i) 0 ≡ getD x i 0
-  byte-at h = sym (getD-win b a w i h) ∙ ap (λ (y : List ℕ). getD y i 0) e
-
-  pub le16-at : i + 2 ≤ w → le16 b (a + i) ≡ le16 x i
-  le16-at h = sym (le16-win b a w i h) ∙ ap (λ (y : List ℕ). le16 y i) e
-
-  pub le32-at : i + 4 ≤ w → le32 b (a + i) ≡ le32 x i
-  le32-at h = sym (le32-win b a w i h) ∙ ap (λ (y : List ℕ). le32 y i) e
-
-  pub le64-at : i + 8 ≤ w → le64 b (a + i) ≡ le64 x i
-  le64-at h = sym (le64-win b a w i h) ∙ ap (λ (y : List ℕ). le64 y i) e
-
-  pub win-at : (n : ℕ) → i + n ≤ w → win b (a + i) n ≡ win x i n
-  win-at n h = sym (win-win b a w i n h) ∙ ap (λ (y : List ℕ). win y i n) e
-
--- its first field
-module _ (b : List ℕ) (a w : ℕ) (x : List ℕ) (e : win b a w ≡ x) where
-  pub byte-first : 1 ≤ w → getD b a 0 ≡ getD x 0 0
-  byte-first h = rw add-zero at (byte-at b a w x e 0 h)
-
-  pub le32-first : 4 ≤ w → le32 b a ≡ le32 x 0
-  le32-first h = rw add-zero at (le32-at b a w x e 0 h)
+use Rattle.layout.proofs.Places.{Table, record-at, record-put, keys-table, rows-table, sessions-table, head-at, put-head, head-decoded}
 
 staged-short : (r : Row) (v : Value) → RowFits r → stagedIn r ≡ staged v → length v ≤ valueMax
 staged-short noRow v f e = zero-one cc
@@ -75,6 +49,48 @@ module _ (b : List ℕ) (a w : ℕ) (l : a + w ≤ length b) where
       ∙ sym (splice-win d a w i y (omega arith) h)
       ∙ ap (λ (r : List ℕ). splice d a (splice r i y)) wd
       ∙ splice-over b x (splice x i y) a w m ly l
+
+-- ---- a record of a table
+
+-- record i of a table stands in the bytes b at its place, it fits, and one that fits, written there, makes the bytes of the state with it
+pub record Stands {A : Type 0} {P : A → Type 0} {enc : A → List ℕ} {free : A} {w from n : ℕ} {xs : List A} {to : List A → State} (t : Table P enc free w from n xs to) (b : List ℕ) (i : ℕ) : Type 0 where
+  pub held : win b (from + i * w) w ≡ enc (getD xs i free)
+  pub fits : P (getD xs i free)
+  pub store : (x : A) → P x → Holds (splice b (from + i * w) (enc x)) (to (set xs i x))
+
+-- the first number of w bytes
+pub le32-front : (b : List ℕ) (a w : ℕ) → 4 ≤ w → le32 (win b a w) 0 ≡ le32 b a
+le32-front b a w h = rw add-zero at (le32-win b a w 0 h)
+
+module _ {A : Type 0} {P : A → Type 0} {enc : A → List ℕ} {free : A} {w from n : ℕ} {xs : List A} {to : List A → State} {t : Table P enc free w from n xs to} {b : List ℕ} {i : ℕ} where
+  record-stands : Holds b (to xs) → i < n → Stands t b i
+  record-stands h l = record {
+    held = rw (h .bytes) (record-at t i l);
+    fits = each-at P xs free i (rw (t .long) l) (t .each);
+    store = λ x g. record { bytes = rw (h .bytes) (record-put t i x g l); fits = t .fits (set xs i x) (length-set xs i x ∙ t .long) (each-set P xs i x g (t .each)) };
+  }
+
+  module _ (r : Stands t b i) where
+    -- bytes of the record
+    pub win-at : (j m : ℕ) → j + m ≤ w → win b (from + i * w + j) m ≡ win (enc (getD xs i free)) j m
+    win-at j m h = sym (win-win b (from + i * w) w j m h) ∙ ap (λ (y : List ℕ). win y j m) (r .held)
+
+    -- a field that each record has, z as it is read in the whole
+    field-at : {f : A → ℕ} {z : ℕ} (read : List ℕ → ℕ) → read (win b (from + i * w) w) ≡ z → ((x : A) → P x → read (enc x) ≡ f x) → z ≡ f (getD xs i free)
+    field-at read q e = sym q ∙ ap read (r .held) ∙ e (getD xs i free) (r .fits)
+
+    byte-at : {f : A → ℕ} (j : ℕ) → j < w → ((x : A) → getD (enc x) j 0 ≡ f x) → getD b (from + i * w + j) 0 ≡ f (getD xs i free)
+    byte-at j h e = field-at (λ y. getD y j 0) (getD-win b (from + i * w) w j h) (λ x p. e x)
+
+    le32-at : {f : A → ℕ} (j : ℕ) → j + 4 ≤ w → ((x : A) → P x → le32 (enc x) j ≡ f x) → le32 b (from + i * w + j) ≡ f (getD xs i free)
+    le32-at j h = field-at (λ y. le32 y j) (le32-win b (from + i * w) w j h)
+
+    -- its first field
+    byte-first : 1 ≤ w → getD b (from + i * w) 0 ≡ getD (enc (getD xs i free)) 0 0
+    byte-first h = rw add-zero at (byte-at 0 h (λ x. refl))
+
+    le32-first : {f : A → ℕ} → 4 ≤ w → ((x : A) → P x → le32 (enc x) 0 ≡ f x) → le32 b (from + i * w) ≡ f (getD xs i free)
+    le32-first h e = rw add-zero at (le32-at 0 h e)
 
 -- ---- the state that is held
 
@@ -114,88 +130,70 @@ module _ {b : List ℕ} {s : State} (h : Holds b s) where
 
   -- a key
   module _ (k : ℕ) (l : k < keyCount) where
-    pub key-held : win b (keysFrom + k * keyWidth) keyWidth ≡ encKey (keyOf s k)
-    key-held = rw (h .bytes) (key-at s (h .fits) k l)
+    pub key-stands : Stands (keys-table s (h .fits)) b k
+    key-stands = record-stands h l
 
     pub key-fits : KeyFits (keyOf s k)
-    key-fits = each-at KeyFits (s .keys) blank k (rw (h .fits .keys) l) (h .fits .eachKey)
-
-    pub store-key : (x : Key) → KeyFits x → Holds (splice b (keysFrom + k * keyWidth) (encKey x)) (withKeys s (set (s .keys) k x))
-    store-key x g = record {
-      bytes = rw (h .bytes) (put-key s (h .fits) k x g l);
-      fits = record { head = h .fits .head; keys = length-set (s .keys) k x ∙ h .fits .keys; sessions = h .fits .sessions; rows = h .fits .rows; eachKey = each-set KeyFits (s .keys) k x g (h .fits .eachKey); eachSession = h .fits .eachSession; eachRow = h .fits .eachRow };
-    }
+    key-fits = key-stands .fits
 
     pub value-there : eqb (getD b (keysFrom + k * keyWidth) 0) 1 ≡ not (isNone (cached s k))
-    value-there = rw (byte-first b (keysFrom + k * keyWidth) keyWidth (encKey (keyOf s k)) key-held (omega arith)) (key-there (keyOf s k))
+    value-there = rw (byte-first key-stands (omega arith)) (key-there (keyOf s k))
 
     pub value-long : getD b (keysFrom + k * keyWidth + keyLengthField) 0 ≡ valueLength (cached s k)
-    value-long = byte-at b (keysFrom + k * keyWidth) keyWidth (encKey (keyOf s k)) key-held keyLengthField (omega arith) ∙ key-length (keyOf s k)
+    value-long = byte-at key-stands keyLengthField (omega arith) key-length
 
     pub value-stands : (v : Value) → cached s k ≡ some v → win b (valueAt k) (length v) ≡ v
     value-stands v e =
         let f : length v ≤ valueMax = rw e at (key-fits .value) in
-        win-at b (keysFrom + k * keyWidth) keyWidth (encKey (keyOf s k)) key-held keyValueField (length v) (omega arith) ∙ key-value (keyOf s k) v e
+        win-at key-stands keyValueField (length v) (omega arith) ∙ key-value (keyOf s k) v e
 
     pub token-held : le32 b (keysFrom + k * keyWidth + keyTokenField) ≡ tokenIn (leaseOn s k)
-    token-held = le32-at b (keysFrom + k * keyWidth) keyWidth (encKey (keyOf s k)) key-held keyTokenField (omega arith) ∙ key-token (keyOf s k) key-fits
+    token-held = le32-at key-stands keyTokenField (omega arith) key-token
 
     pub until-held : le64 b (keysFrom + k * keyWidth + keyUntilField) ≡ leaseUntil (leaseOn s k)
-    until-held = le64-at b (keysFrom + k * keyWidth) keyWidth (encKey (keyOf s k)) key-held keyUntilField (omega arith) ∙ key-until (keyOf s k) key-fits
+    until-held = field-at key-stands (λ y. le64 y keyUntilField) (le64-win b _ keyWidth keyUntilField (omega arith)) key-until
 
   -- a row
   module _ (i : ℕ) (l : i < rowCount) where
-    pub row-held : win b (rowsFrom + i * rowWidth) rowWidth ≡ encRow (rowAt s i)
-    row-held = rw (h .bytes) (row-at s (h .fits) i l)
+    pub row-stands : Stands (rows-table s (h .fits)) b i
+    row-stands = record-stands h l
 
     pub row-fits : RowFits (rowAt s i)
-    row-fits = each-at RowFits (s .rows) noRow i (rw (h .fits .rows) l) (h .fits .eachRow)
-
-    pub store-row : (x : Row) → RowFits x → Holds (splice b (rowsFrom + i * rowWidth) (encRow x)) (withRows s (set (s .rows) i x))
-    store-row x g = record {
-      bytes = rw (h .bytes) (put-row s (h .fits) i x g l);
-      fits = record { head = h .fits .head; keys = h .fits .keys; sessions = h .fits .sessions; rows = length-set (s .rows) i x ∙ h .fits .rows; eachKey = h .fits .eachKey; eachSession = h .fits .eachSession; eachRow = each-set RowFits (s .rows) i x g (h .fits .eachRow) };
-    }
+    row-fits = row-stands .fits
 
     pub owner-held : le32 b (rowsFrom + i * rowWidth) ≡ rowSession (rowAt s i)
-    owner-held = le32-first b (rowsFrom + i * rowWidth) rowWidth (encRow (rowAt s i)) row-held (omega arith) ∙ row-session (rowAt s i) row-fits
+    owner-held = le32-first row-stands (omega arith) row-session
 
     pub target-held : getD b (rowsFrom + i * rowWidth + rowKeyField) 0 ≡ rowKey (rowAt s i)
-    target-held = byte-at b (rowsFrom + i * rowWidth) rowWidth (encRow (rowAt s i)) row-held rowKeyField (omega arith) ∙ row-key (rowAt s i)
+    target-held = byte-at row-stands rowKeyField (omega arith) row-key
 
     pub kind-held : getD b (rowsFrom + i * rowWidth + rowKindField) 0 ≡ kindOf (rowAt s i)
-    kind-held = byte-at b (rowsFrom + i * rowWidth) rowWidth (encRow (rowAt s i)) row-held rowKindField (omega arith) ∙ row-kind-byte (rowAt s i)
+    kind-held = byte-at row-stands rowKindField (omega arith) row-kind-byte
 
     pub mark-held : getD b (rowsFrom + i * rowWidth + rowStagedField) 0 ≡ stagedMark (stagedIn (rowAt s i))
-    mark-held = byte-at b (rowsFrom + i * rowWidth) rowWidth (encRow (rowAt s i)) row-held rowStagedField (omega arith) ∙ row-mark (rowAt s i)
+    mark-held = byte-at row-stands rowStagedField (omega arith) row-mark
 
     pub staged-long : getD b (rowsFrom + i * rowWidth + rowLengthField) 0 ≡ stagedLength (stagedIn (rowAt s i))
-    staged-long = byte-at b (rowsFrom + i * rowWidth) rowWidth (encRow (rowAt s i)) row-held rowLengthField (omega arith) ∙ row-length (rowAt s i)
+    staged-long = byte-at row-stands rowLengthField (omega arith) row-length
 
     pub staged-stands : (v : Value) → stagedIn (rowAt s i) ≡ staged v → win b (stagedAt i) (length v) ≡ v
     staged-stands v e =
         let f : length v ≤ valueMax = staged-short (rowAt s i) v row-fits e in
-        win-at b (rowsFrom + i * rowWidth) rowWidth (encRow (rowAt s i)) row-held rowValueField (length v) (omega arith) ∙ row-value (rowAt s i) v e
+        win-at row-stands rowValueField (length v) (omega arith) ∙ row-value (rowAt s i) v e
 
   -- a session
   module _ (i : ℕ) (l : i < sessionCount) where
-    pub session-held : win b (sessionsFrom + i * sessionWidth) sessionWidth ≡ encSession (sessionAt s i)
-    session-held = rw (h .bytes) (session-at s (h .fits) i l)
+    pub session-stands : Stands (sessions-table s (h .fits)) b i
+    session-stands = record-stands h l
 
     pub session-fits : SlotFits (sessionAt s i)
-    session-fits = each-at SlotFits (s .sessions) noSession i (rw (h .fits .sessions) l) (h .fits .eachSession)
-
-    pub store-session : (x : Slot) → SlotFits x → Holds (splice b (sessionsFrom + i * sessionWidth) (encSession x)) (withSessions s (set (s .sessions) i x))
-    store-session x g = record {
-      bytes = rw (h .bytes) (put-session s (h .fits) i x l);
-      fits = record { head = h .fits .head; keys = h .fits .keys; sessions = length-set (s .sessions) i x ∙ h .fits .sessions; rows = h .fits .rows; eachKey = h .fits .eachKey; eachSession = each-set SlotFits (s .sessions) i x g (h .fits .eachSession); eachRow = h .fits .eachRow };
-    }
+    session-fits = session-stands .fits
 
     pub number-held : le32 b (sessionsFrom + i * sessionWidth) ≡ numberIn (sessionAt s i)
-    number-held = le32-first b (sessionsFrom + i * sessionWidth) sessionWidth (encSession (sessionAt s i)) session-held (omega arith) ∙ session-number-bytes (sessionAt s i) session-fits
+    number-held = le32-first session-stands (omega arith) session-number-bytes
 
     pub session-is : sessionFrom (win b (sessionsFrom + i * sessionWidth) sessionWidth) ≡ sessionIn (sessionAt s i)
-    session-is = ap sessionFrom session-held ∙ session-from (sessionAt s i) session-fits
+    session-is = ap sessionFrom (session-stands .held) ∙ session-from (sessionAt s i) session-fits
 
     -- 0 is the number of no session
     pub number-given : (n : ℕ) → numbered n (sessionAt s i) ≡ true → 1 ≤ n

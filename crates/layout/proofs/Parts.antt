@@ -20,7 +20,7 @@ use Rattle.layout.specs.Fields.{valueLength}
 use Rattle.layout.specs.Holds.{HeadFits, ValueFits, LeaseFits, KeyFits, StagedFits, RowFits, Holds}
 use Rattle.layout.proofs.Widths.{length-mark, length-lease, length-value, length-staged}
 use Rattle.layout.proofs.Formed.{holds-size}
-use Rattle.layout.proofs.Held.{part-none, part-more, head-held, store-head, key-held, key-fits, store-key, row-held, row-fits, store-row}
+use Rattle.layout.proofs.Held.{part-none, part-more, head-held, store-head, key-stands, key-fits, row-stands, row-fits}
 
 -- ---- parts of any record
 
@@ -88,14 +88,14 @@ module _ {b : List ℕ} {s : State} (h : Holds b s) (k : ℕ) (l : k < keyCount)
   pub value-put : (o : Option Value) → ValueFits o → Holds (splice (splice b (keysFrom + k * keyWidth) (valueTag o ∷ valueLength o ∷ [])) (valueAt k) (valueBytes o)) (withKeys s (setValue (s .keys) k o))
   value-put o g =
       let n : keyValueField + length (valueBytes o) ≤ keyWidth = rw (length-value o g) (omega arith) in
-      rw (parts-put b (keysFrom + k * keyWidth) keyWidth (encKey (keyOf s k)) (key-held h k l) (omega (arith, holds-size h)) (valueTag o ∷ valueLength o ∷ []) keyValueField (valueBytes o) (encKey (record { value = o; lease = keyOf s k .lease })) (omega arith) n (key-valued (keyOf s k) (key-fits h k l) o g))
-      (store-key h k l (record { value = o; lease = keyOf s k .lease }) (record { value = g; lease = key-fits h k l .lease }))
+      rw (parts-put b (keysFrom + k * keyWidth) keyWidth (encKey (keyOf s k)) (key-stands h k l .held) (omega (arith, holds-size h)) (valueTag o ∷ valueLength o ∷ []) keyValueField (valueBytes o) (encKey (record { value = o; lease = keyOf s k .lease })) (omega arith) n (key-valued (keyOf s k) (key-fits h k l) o g))
+      (key-stands h k l .store (record { value = o; lease = keyOf s k .lease }) (record { value = g; lease = key-fits h k l .lease }))
 
   pub lease-put : (o : Option Lease) → LeaseFits o → Holds (splice b (keysFrom + k * keyWidth + keyTokenField) (leaseBytes o)) (withKeys s (setLease (s .keys) k o))
   lease-put o g =
       let n : keyTokenField + length (leaseBytes o) ≤ keyWidth = rw (length-lease o) (omega arith) in
-      rw (part-put b (keysFrom + k * keyWidth) keyWidth (encKey (keyOf s k)) (key-held h k l) (omega (arith, holds-size h)) keyTokenField (leaseBytes o) (encKey (record { value = keyOf s k .value; lease = o })) n (key-leased (keyOf s k) (key-fits h k l) o))
-      (store-key h k l (record { value = keyOf s k .value; lease = o }) (record { value = key-fits h k l .value; lease = g }))
+      rw (part-put b (keysFrom + k * keyWidth) keyWidth (encKey (keyOf s k)) (key-stands h k l .held) (omega (arith, holds-size h)) keyTokenField (leaseBytes o) (encKey (record { value = keyOf s k .value; lease = o })) n (key-leased (keyOf s k) (key-fits h k l) o))
+      (key-stands h k l .store (record { value = keyOf s k .value; lease = o }) (record { value = key-fits h k l .value; lease = g }))
 
 -- ---- a row
 
@@ -110,8 +110,8 @@ module _ {b : List ℕ} {s : State} (h : Holds b s) (i : ℕ) (l : i < rowCount)
   staged-put u g e =
       let n : rowStagedField + length (stagedBytes u) ≤ rowWidth = rw (length-staged u g) (omega arith) in
       let r = go (rowAt s i) (row-fits h i l) e in
-      rw (part-put b (rowsFrom + i * rowWidth) rowWidth (encRow (rowAt s i)) (row-held h i l) (omega (arith, holds-size h)) rowStagedField (stagedBytes u) (encRow (restaged u (rowAt s i))) n (r .0))
-      (store-row h i l (restaged u (rowAt s i)) (r .1))
+      rw (part-put b (rowsFrom + i * rowWidth) rowWidth (encRow (rowAt s i)) (row-stands h i l .held) (omega (arith, holds-size h)) rowStagedField (stagedBytes u) (encRow (restaged u (rowAt s i))) n (r .0))
+      (row-stands h i l .store (restaged u (rowAt s i)) (r .1))
     where
       go : (r : Row) → RowFits r → freeRow r ≡ false → (splice (encRow r) rowStagedField (stagedBytes u) ≡ encRow (restaged u r)) × RowFits (restaged u r)
       go noRow f p = clash true refl p

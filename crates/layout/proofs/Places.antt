@@ -4,19 +4,19 @@ use mathlib.Core.Path.{_≡_, refl, sym, ap, _∙_}
 use mathlib.Core.List.{List, _++_, append-assoc}
 use Prim.Native.Nat.{ℕ, _+_, _*_, _<_}
 use native.Mathlib.Omega.{arith}
-use lib.ListN.{length, set, drop, length-append}
+use lib.ListN.{length, getD, set, drop, length-append}
 use lib.Seq.{drop-at}
 use Rattle.lent.specs.Bytes.{splice, win, zeros}
-use Rattle.lent.specs.Tables.{readTab, tabOf}
+use Rattle.lent.specs.Tables.{Each, readTab, tabOf}
 use Rattle.lent.proofs.Numbers.{le32-win, le64-win}
 use Rattle.lent.proofs.Splice.{splice-front, splice-whole, win-front, win-whole}
-use Rattle.lent.proofs.Tables.{each-map, put-tab-at, read-tab, win-tab-at}
+use Rattle.lent.proofs.Tables.{Wide, each-map, put-tab-at, read-tab, win-tab-at}
 use Rattle.machine.specs.Sizes.{keyCount, sessionCount, rowCount, headSize, keysFrom, keyWidth, rowsFrom, rowWidth, sessionsFrom, sessionWidth, restSize, readLifeField, writeLifeField, nextSessionField, nextTokenField}
-use Rattle.machine.specs.State.{Head, Key, Slot, noSession, Row, noRow, State, blank, keyOf, sessionAt, rowAt}
+use Rattle.machine.specs.State.{Head, noSession, noRow, State, blank}
 use Rattle.machine.specs.Expiry.{withHead, withKeys, withSessions, withRows}
 use Rattle.layout.specs.Layout.{encHead, decHead, encKey, decKey, encRow, decRow, encSession, decSession, encode, decode}
 use Rattle.layout.specs.Holds.{KeyFits, SlotFits, RowFits, Fits}
-use Rattle.layout.proofs.Widths.{length-head, length-key, length-row, length-session, keys-wide, rows-wide, sessions-wide, length-keys, length-rows}
+use Rattle.layout.proofs.Widths.{length-head, length-key, length-row, length-session, length-keys, length-rows}
 use Rattle.layout.proofs.Records.{head-read, key-read, row-read, session-read}
 
 -- the header is read from its own bytes
@@ -26,30 +26,58 @@ head-win b = rw (le64-win b 0 headSize 0 (omega arith), le32-win b 0 headSize re
 
 -- ---- a table, what comes before it and what comes behind it
 
-abbrev behindSessions : List ℕ
-behindSessions = zeros restSize
+-- xs is a table of the state `to xs`, n records of w bytes from a place on, and ys in its place makes the state `to ys`; P is what makes a record fit
+pub record Table {A : Type 0} (P : A → Type 0) (enc : A → List ℕ) (free : A) (w from n : ℕ) (xs : List A) (to : List A → State) : Type 0 where
+  pub before : List ℕ
+  pub behind : List ℕ
+  pub place : length before ≡ from
+  pub bytes : (ys : List A) → encode (to ys) ≡ before ++ (tabOf enc ys ++ behind)
+  pub wide : (x : A) → P x → length (enc x) ≡ w
+  pub long : length xs ≡ n
+  pub each : Each P xs
+  pub fits : (ys : List A) → length ys ≡ n → Each P ys → Fits (to ys)
 
-abbrev behindRows : State → List ℕ
-behindRows s = tabOf encSession (s .sessions) ++ behindSessions
+module _ {A : Type 0} {P : A → Type 0} {enc : A → List ℕ} {free : A} {w from n : ℕ} {xs : List A} {to : List A → State} (t : Table P enc free w from n xs to) where
+  all-wide : Wide enc w xs
+  all-wide = each-map P (λ x. length (enc x) ≡ w) xs (t .wide) (t .each)
 
-abbrev behindKeys : State → List ℕ
-behindKeys s = tabOf encRow (s .rows) ++ behindRows s
+  -- a record is read at its place, and written there
+  pub record-at : (i : ℕ) → i < n → win (encode (to xs)) (from + i * w) w ≡ enc (getD xs i free)
+  record-at i h = rw (t .bytes xs) (win-tab-at enc w (t .before) from (t .place) xs (t .behind) all-wide free i (rw (t .long) h))
 
-abbrev beforeRows : State → List ℕ
-beforeRows s = encHead (s .head) ++ tabOf encKey (s .keys)
+  pub record-put : (i : ℕ) (x : A) → P x → i < n → splice (encode (to xs)) (from + i * w) (enc x) ≡ encode (to (set xs i x))
+  record-put i x g h =
+      rw (t .bytes xs) (put-tab-at enc w (t .before) from (t .place) xs (t .behind) all-wide x i (t .wide x g) (rw (t .long) h))
+      ∙ sym (t .bytes (set xs i x))
 
-abbrev beforeSessions : State → List ℕ
-beforeSessions s = beforeRows s ++ tabOf encRow (s .rows)
+  -- all are read back as they were written
+  table-read : (dec : List ℕ → A) → ((x : A) → P x → dec (enc x) ≡ x) → readTab dec w n (drop from (encode (to xs))) ≡ xs
+  table-read dec r =
+      rw (t .bytes xs, drop-at (t .before) (tabOf enc xs ++ t .behind) from (t .place))
+      (read-tab enc dec w xs (t .behind) n (t .long) all-wide (each-map P (λ x. dec (enc x) ≡ x) xs r (t .each)))
 
-keys-in : (s : State) → encode s ≡ encHead (s .head) ++ (tabOf encKey (s .keys) ++ behindKeys s)
-unfolding encode
-keys-in s = refl
+module _ (s : State) where
+  abbrev behindRows : List ℕ
+  behindRows = tabOf encSession (s .sessions) ++ zeros restSize
 
-rows-in : (s : State) → encode s ≡ beforeRows s ++ (tabOf encRow (s .rows) ++ behindRows s)
-rows-in s = keys-in s ∙ sym (append-assoc (encHead (s .head)) (tabOf encKey (s .keys)) (behindKeys s))
+  abbrev behindKeys : List ℕ
+  behindKeys = tabOf encRow (s .rows) ++ behindRows
 
-sessions-in : (s : State) → encode s ≡ beforeSessions s ++ (tabOf encSession (s .sessions) ++ behindSessions)
-sessions-in s = rows-in s ∙ sym (append-assoc (beforeRows s) (tabOf encRow (s .rows)) (behindRows s))
+  abbrev beforeRows : List ℕ
+  beforeRows = encHead (s .head) ++ tabOf encKey (s .keys)
+
+  abbrev beforeSessions : List ℕ
+  beforeSessions = beforeRows ++ tabOf encRow (s .rows)
+
+  keys-in : encode s ≡ encHead (s .head) ++ (tabOf encKey (s .keys) ++ behindKeys)
+  unfolding encode
+  keys-in = refl
+
+  rows-in : encode s ≡ beforeRows ++ (tabOf encRow (s .rows) ++ behindRows)
+  rows-in = keys-in ∙ sym (append-assoc (encHead (s .head)) (tabOf encKey (s .keys)) behindKeys)
+
+  sessions-in : encode s ≡ beforeSessions ++ (tabOf encSession (s .sessions) ++ zeros restSize)
+  sessions-in = rows-in ∙ sym (append-assoc beforeRows (tabOf encRow (s .rows)) behindRows)
 
 module _ (s : State) (f : Fits s) where
   rows-from : length (beforeRows s) ≡ rowsFrom
@@ -58,62 +86,57 @@ module _ (s : State) (f : Fits s) where
   sessions-from : length (beforeSessions s) ≡ sessionsFrom
   sessions-from = length-append (beforeRows s) (tabOf encRow (s .rows)) ∙ rw (rows-from, length-rows s f)
 
-  -- ---- reading a record at its place
+  pub keys-table : Table KeyFits encKey blank keyWidth keysFrom keyCount (s .keys) (withKeys s)
+  keys-table = record {
+    before = encHead (s .head);
+    behind = behindKeys s;
+    place = length-head (s .head);
+    bytes = λ l. keys-in (withKeys s l);
+    wide = length-key;
+    long = f .keys;
+    each = f .eachKey;
+    fits = λ l n e. record { head = f .head; keys = n; sessions = f .sessions; rows = f .rows; eachKey = e; eachSession = f .eachSession; eachRow = f .eachRow };
+  }
+
+  pub rows-table : Table RowFits encRow noRow rowWidth rowsFrom rowCount (s .rows) (withRows s)
+  rows-table = record {
+    before = beforeRows s;
+    behind = behindRows s;
+    place = rows-from;
+    bytes = λ l. rows-in (withRows s l);
+    wide = length-row;
+    long = f .rows;
+    each = f .eachRow;
+    fits = λ l n e. record { head = f .head; keys = f .keys; sessions = f .sessions; rows = n; eachKey = f .eachKey; eachSession = f .eachSession; eachRow = e };
+  }
+
+  pub sessions-table : Table SlotFits encSession noSession sessionWidth sessionsFrom sessionCount (s .sessions) (withSessions s)
+  sessions-table = record {
+    before = beforeSessions s;
+    behind = zeros restSize;
+    place = sessions-from;
+    bytes = λ l. sessions-in (withSessions s l);
+    wide = λ x g. length-session x;
+    long = f .sessions;
+    each = f .eachSession;
+    fits = λ l n e. record { head = f .head; keys = f .keys; sessions = n; rows = f .rows; eachKey = f .eachKey; eachSession = e; eachRow = f .eachRow };
+  }
+
+  -- ---- the header at its place
 
   pub head-at : win (encode s) 0 headSize ≡ encHead (s .head)
   head-at = rw (keys-in s, win-front (encHead (s .head)) (tabOf encKey (s .keys) ++ behindKeys s) 0 headSize (rw (length-head (s .head)) (omega arith))) (win-whole (encHead (s .head)) headSize (length-head (s .head)))
-
-  pub key-at : (k : ℕ) → k < keyCount → win (encode s) (keysFrom + k * keyWidth) keyWidth ≡ encKey (keyOf s k)
-  key-at k h = rw (keys-in s) (win-tab-at encKey keyWidth (encHead (s .head)) keysFrom (length-head (s .head)) (s .keys) (behindKeys s) (keys-wide s f) blank k (rw (f .keys) h))
-
-  pub row-at : (i : ℕ) → i < rowCount → win (encode s) (rowsFrom + i * rowWidth) rowWidth ≡ encRow (rowAt s i)
-  row-at i h = rw (rows-in s) (win-tab-at encRow rowWidth (beforeRows s) rowsFrom rows-from (s .rows) (behindRows s) (rows-wide s f) noRow i (rw (f .rows) h))
-
-  pub session-at : (i : ℕ) → i < sessionCount → win (encode s) (sessionsFrom + i * sessionWidth) sessionWidth ≡ encSession (sessionAt s i)
-  session-at i h = rw (sessions-in s) (win-tab-at encSession sessionWidth (beforeSessions s) sessionsFrom sessions-from (s .sessions) behindSessions (sessions-wide s f) noSession i (rw (f .sessions) h))
-
-  -- ---- writing one
 
   pub put-head : (x : Head) → splice (encode s) 0 (encHead x) ≡ encode (withHead s x)
   put-head x =
       rw (keys-in s, splice-front (encHead (s .head)) (tabOf encKey (s .keys) ++ behindKeys s) (encHead x) 0 (rw (length-head (s .head), length-head x) (omega arith)), splice-whole (encHead (s .head)) (encHead x) (length-head (s .head) ∙ sym (length-head x)))
       (sym (keys-in (withHead s x)))
 
-  pub put-key : (k : ℕ) (x : Key) → KeyFits x → k < keyCount → splice (encode s) (keysFrom + k * keyWidth) (encKey x) ≡ encode (withKeys s (set (s .keys) k x))
-  put-key k x g h =
-      rw (keys-in s) (put-tab-at encKey keyWidth (encHead (s .head)) keysFrom (length-head (s .head)) (s .keys) (behindKeys s) (keys-wide s f) x k (length-key x g) (rw (f .keys) h))
-      ∙ sym (keys-in (withKeys s (set (s .keys) k x)))
-
-  pub put-row : (i : ℕ) (x : Row) → RowFits x → i < rowCount → splice (encode s) (rowsFrom + i * rowWidth) (encRow x) ≡ encode (withRows s (set (s .rows) i x))
-  put-row i x g h =
-      rw (rows-in s) (put-tab-at encRow rowWidth (beforeRows s) rowsFrom rows-from (s .rows) (behindRows s) (rows-wide s f) x i (length-row x g) (rw (f .rows) h))
-      ∙ sym (rows-in (withRows s (set (s .rows) i x)))
-
-  pub put-session : (i : ℕ) (x : Slot) → i < sessionCount → splice (encode s) (sessionsFrom + i * sessionWidth) (encSession x) ≡ encode (withSessions s (set (s .sessions) i x))
-  put-session i x h =
-      rw (sessions-in s) (put-tab-at encSession sessionWidth (beforeSessions s) sessionsFrom sessions-from (s .sessions) behindSessions (sessions-wide s f) x i (length-session x) (rw (f .sessions) h))
-      ∙ sym (sessions-in (withSessions s (set (s .sessions) i x)))
-
   -- ---- reading all
 
   pub head-decoded : decHead (encode s) ≡ s .head
   head-decoded = sym (head-win (encode s)) ∙ ap decHead head-at ∙ head-read (s .head) (f .head)
 
-  keys-decoded : readTab decKey keyWidth keyCount (drop keysFrom (encode s)) ≡ s .keys
-  keys-decoded =
-      rw (keys-in s, drop-at (encHead (s .head)) (tabOf encKey (s .keys) ++ behindKeys s) keysFrom (length-head (s .head)))
-      (read-tab encKey decKey keyWidth (s .keys) (behindKeys s) keyCount (f .keys) (keys-wide s f) (each-map KeyFits (λ x. decKey (encKey x) ≡ x) (s .keys) key-read (f .eachKey)))
-
-  rows-decoded : readTab decRow rowWidth rowCount (drop rowsFrom (encode s)) ≡ s .rows
-  rows-decoded =
-      rw (rows-in s, drop-at (beforeRows s) (tabOf encRow (s .rows) ++ behindRows s) rowsFrom rows-from)
-      (read-tab encRow decRow rowWidth (s .rows) (behindRows s) rowCount (f .rows) (rows-wide s f) (each-map RowFits (λ x. decRow (encRow x) ≡ x) (s .rows) row-read (f .eachRow)))
-
-  sessions-decoded : readTab decSession sessionWidth sessionCount (drop sessionsFrom (encode s)) ≡ s .sessions
-  sessions-decoded =
-      rw (sessions-in s, drop-at (beforeSessions s) (tabOf encSession (s .sessions) ++ behindSessions) sessionsFrom sessions-from)
-      (read-tab encSession decSession sessionWidth (s .sessions) behindSessions sessionCount (f .sessions) (sessions-wide s f) (each-map SlotFits (λ x. decSession (encSession x) ≡ x) (s .sessions) session-read (f .eachSession)))
-
   pub decode-encode : decode (encode s) ≡ s
   unfolding decode
-  decode-encode = rw (head-decoded, keys-decoded, rows-decoded, sessions-decoded)
+  decode-encode = rw (head-decoded, table-read keys-table decKey key-read, table-read rows-table decRow row-read, table-read sessions-table decSession session-read)

@@ -1,5 +1,6 @@
 -- How many bytes each record takes, and all of them: a value is padded to its 64, and every other part has a fixed width.
-use mathlib.Core.Path.{_≡_, refl, ap, _∙_}
+use mathlib.Core.Path.{_≡_, refl, _∙_}
+use mathlib.Core.List.{List}
 use mathlib.Core.Option.{Option, none, some}
 use Prim.Native.Nat.{ℕ, _+_, _*_, _≤_}
 use native.Mathlib.Omega.{arith}
@@ -52,24 +53,20 @@ length-session (session x) = refl
 
 -- ---- the tables, and the state
 
+-- n records of w bytes each
+module _ {A : Type 0} (P : A → Type 0) (enc : A → List ℕ) (w : ℕ) (wide : (x : A) → P x → length (enc x) ≡ w) where
+  length-table : (xs : List A) (n : ℕ) → Each P xs → length xs ≡ n → length (tabOf enc xs) ≡ n * w
+  length-table xs n e l = length-tab enc w xs (each-map P (λ x. length (enc x) ≡ w) xs wide e) ∙ rw l
+
 module _ (s : State) (f : Fits s) where
-  pub keys-wide : Each (λ k. length (encKey k) ≡ keyWidth) (s .keys)
-  keys-wide = each-map KeyFits (λ k. length (encKey k) ≡ keyWidth) (s .keys) length-key (f .eachKey)
-
-  pub rows-wide : Each (λ r. length (encRow r) ≡ rowWidth) (s .rows)
-  rows-wide = each-map RowFits (λ r. length (encRow r) ≡ rowWidth) (s .rows) length-row (f .eachRow)
-
-  pub sessions-wide : Each (λ e. length (encSession e) ≡ sessionWidth) (s .sessions)
-  sessions-wide = each-map SlotFits (λ e. length (encSession e) ≡ sessionWidth) (s .sessions) (λ e p. length-session e) (f .eachSession)
-
   pub length-keys : length (tabOf encKey (s .keys)) ≡ keyCount * keyWidth
-  length-keys = length-tab encKey keyWidth (s .keys) keys-wide ∙ ap (λ (n : ℕ). n * keyWidth) (f .keys)
+  length-keys = length-table KeyFits encKey keyWidth length-key (s .keys) keyCount (f .eachKey) (f .keys)
 
   pub length-rows : length (tabOf encRow (s .rows)) ≡ rowCount * rowWidth
-  length-rows = length-tab encRow rowWidth (s .rows) rows-wide ∙ ap (λ (n : ℕ). n * rowWidth) (f .rows)
+  length-rows = length-table RowFits encRow rowWidth length-row (s .rows) rowCount (f .eachRow) (f .rows)
 
-  pub length-sessions : length (tabOf encSession (s .sessions)) ≡ sessionCount * sessionWidth
-  length-sessions = length-tab encSession sessionWidth (s .sessions) sessions-wide ∙ ap (λ (n : ℕ). n * sessionWidth) (f .sessions)
+  length-sessions : length (tabOf encSession (s .sessions)) ≡ sessionCount * sessionWidth
+  length-sessions = length-table SlotFits encSession sessionWidth (λ e p. length-session e) (s .sessions) sessionCount (f .eachSession) (f .sessions)
 
   pub length-encode : length (encode s) ≡ stateSize
   unfolding encode

@@ -10,7 +10,8 @@ use lib.ListN.{length, getD, set}
 use borrow.Author.Tests.{ne-eqb}
 use Rattle.lent.specs.Bytes.{le16, bytes16, le32, bytes32, le64, bytes64, splice, win}
 use Rattle.lent.specs.Tables.{first}
-use Rattle.lent.proofs.Splice.{splice-next}
+use Rattle.lent.proofs.Numbers.{le16-win, le64-win}
+use Rattle.lent.proofs.Splice.{getD-win, splice-next}
 use Rattle.machine.specs.Sizes.{sessionCount, sessionsFrom, sessionWidth}
 use Rattle.machine.specs.Tables.{place}
 use Rattle.machine.specs.State.{Slot, noSession, session, State, free, numbered, sessionAt, sessionPlace}
@@ -22,7 +23,7 @@ use Rattle.layout.specs.Layout.{encSession, lifeMark, lifeTime, decLife, sessio
 use Rattle.layout.specs.Holds.{Live, SlotFits, Holds}
 use Rattle.layout.specs.Search.{found, startsWith}
 use Rattle.layout.specs.declared.Found.{Found}
-use Rattle.layout.proofs.Held.{byte-at, le16-at, le32-first, le64-at, number-held, session-fits, store-session}
+use Rattle.layout.proofs.Held.{le32-front, number-held, session-stands, session-fits}
 use Rattle.layout.proofs.Formed.{holds-size}
 use Rattle.layout.proofs.Search.{first-held, found-none}
 
@@ -30,15 +31,14 @@ use Rattle.layout.proofs.Search.{first-held, found-none}
 
 module _ (b : List ℕ) (a : ℕ) where
   pub life-sealed : getD b (a + 4) 0 ≡ 2 → decLife (win b a sessionWidth) ≡ Life.Sealed
-  life-sealed e = rw (sym (byte-at b a sessionWidth (win b a sessionWidth) refl 4 (omega arith)) ∙ e)
+  life-sealed e = rw (getD-win b a sessionWidth 4 (omega arith) ∙ e)
 
   pub life-open : (getD b (a + 4) 0 ≡ 2 → ⊥) → decLife (win b a sessionWidth) ≡ Life.Open (le64 b (a + 8))
   life-open n =
-      let e = byte-at b a sessionWidth (win b a sessionWidth) refl 4 (omega arith) in
-      rw (ne-eqb (getD (win b a sessionWidth) 4 0) 2 (λ q. n (e ∙ q)), ← le64-at b a sessionWidth (win b a sessionWidth) refl 8 (omega arith))
+      rw (getD-win b a sessionWidth 4 (omega arith), ne-eqb (getD b (a + 4) 0) 2 n, le64-win b a sessionWidth 8 (omega arith))
 
   pub session-loaded : sessionFrom (win b a sessionWidth) ≡ record { number = le32 b a; life = decLife (win b a sessionWidth); count = le16 b (a + 6) }
-  session-loaded = rw (← le32-first b a sessionWidth (win b a sessionWidth) refl (omega arith), ← le16-at b a sessionWidth (win b a sessionWidth) refl 6 (omega arith))
+  session-loaded = rw (le32-front b a sessionWidth (omega arith), le16-win b a sessionWidth 6 (omega arith))
 
 -- the four stores of a session, one behind the other
 session-written : (b : List ℕ) (a n m c t : ℕ) → a + sessionWidth ≤ length b
@@ -56,7 +56,7 @@ pub session-stored : {b : List ℕ} {s : State} → Holds b s → (i : ℕ) → 
 unfolding encSession
 session-stored {b} h i l x g m t c d e f em et ec ed ee ef =
     rw (ef, ee, ed, ec, em, et, session-written b (sessionsFrom + i * sessionWidth) (x .number) (lifeMark (x .life)) (x .count) (lifeTime (x .life)) (omega (arith, holds-size h)))
-    (store-session h i l (session x) g)
+    (session-stands h i l .store (session x) g)
 
 -- ---- numbers
 

@@ -16,7 +16,7 @@ use Rattle.layout.specs.Fields.{VALUED, DROPPED}
 use Rattle.layout.specs.Holds.{Holds}
 use Rattle.layout.proofs.Widths.{length-padded}
 use Rattle.layout.proofs.Formed.{holds-size}
-use Rattle.layout.proofs.Held.{store-row}
+use Rattle.layout.proofs.Held.{row-stands}
 use Rattle.layout.proofs.Parts.{staged-put}
 
 -- what is staged, in two pieces
@@ -35,7 +35,7 @@ module _ {b : List ℕ} {s : State} (h : Holds b s) (i : ℕ) (l : i < rowCount)
       let a : ℕ = rowsFrom + i * rowWidth in
       let m : a + rowWidth ≤ length b = omega (arith, holds-size h) in
       rw (splice-next b (bytes32 n) (k ∷ d ∷ []) a 4 refl (omega arith), splice-next b (bytes32 n ++ (k ∷ d ∷ [])) (zeros 66) a 6 refl (omega arith))
-      (store-row h i l (row n k d nothing) (record { given = g; session = f; staged = tt }))
+      (row-stands h i l .store (row n k d nothing) (record { given = g; session = f; staged = tt }))
 
   pub value-staged : (v : Value) → length v ≤ valueMax → freeRow (rowAt s i) ≡ false
       → Holds (splice (splice b (rowsFrom + i * rowWidth + 6) (VALUED ∷ length v ∷ [])) (stagedAt i) (padded v)) (withRows s (set (s .rows) i (restaged (staged v) (rowAt s i))))

@@ -16,7 +16,7 @@ use Rattle.lent.proofs.Tables.{read-tab-at}
 use Rattle.machine.specs.Sizes.{keyCount, keysFrom, keyWidth, rowCount, rowsFrom, rowWidth, sessionCount, sessionsFrom, sessionWidth}
 use Rattle.machine.specs.State.{Key, Row, noRow, row, noSession, session, blank, keyOf, rowAt, sessionAt}
 use Rattle.machine.specs.Sound.{tokenIn, numberIn, numberAt, tokenAt}
-use Rattle.layout.proofs.Held.{le32-first}
+use Rattle.layout.proofs.Held.{le32-front}
 use Rattle.layout.specs.Layout.{decKey, decRow, decStaged, sessionFrom, decSession, decode}
 use Rattle.joins.specs.Joins.{sessionNumbers, rowSession, rowKey, rowKind}
 
@@ -60,7 +60,7 @@ module _ (s : List ℕ) where
   session-at j h = read-tab-at decSession sessionWidth sessionCount s sessionsFrom noSession j h
 
   pub number-at : (j : ℕ) → j < sessionCount → numberAt (decode s) j ≡ sessionNumbers s j
-  number-at j h = ap numberIn (session-at j h) ∙ number-decoded (sessionBytes j) ∙ sym (le32-first s (sessionsFrom + j * sessionWidth) sessionWidth _ refl (omega arith))
+  number-at j h = ap numberIn (session-at j h) ∙ number-decoded (sessionBytes j) ∙ le32-front s (sessionsFrom + j * sessionWidth) sessionWidth (omega arith)
 
   pub token-at : (k : ℕ) → k < keyCount → tokenAt (decode s) k ≡ le32 s (keysFrom + k * keyWidth + 4)
   token-at k h = ap (λ (y : Key). tokenIn (y .lease)) (key-at k h) ∙ token-decoded (keyBytes k) ∙ le32-win s (keysFrom + k * keyWidth) keyWidth 4 (omega arith)
@@ -73,4 +73,4 @@ module _ (s : List ℕ) where
   unfolding decRow
   row-is i h =
       row-at i h
-      ∙ rw (← le32-first s (rowsFrom + i * rowWidth) rowWidth _ refl (omega arith), getD-win s (rowsFrom + i * rowWidth) rowWidth 4 (omega arith), getD-win s (rowsFrom + i * rowWidth) rowWidth 5 (omega arith))
+      ∙ rw (le32-front s (rowsFrom + i * rowWidth) rowWidth (omega arith), getD-win s (rowsFrom + i * rowWidth) rowWidth 4 (omega arith), getD-win s (rowsFrom + i * rowWidth) rowWidth 5 (omega arith))
