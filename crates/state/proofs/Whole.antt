@@ -1,6 +1,6 @@
 -- The tests of the bytes, all together, are the definition of well formed: the encoding is compared table by table and record by record, `sound`
 -- goes by the same records, and each record's two conditions are its form.
-use Prim.Native.Nat.{ℕ, _+_, _*_}
+use Prim.Native.Nat.{ℕ, _+_, _*_, _≤_}
 use mathlib.Core.Path.{_≡_, refl, sym, ap, _∙_}
 use mathlib.Core.Bool.{Bool, true, false, _&&_, and-assoc}
 use mathlib.Core.List.{List, _++_}
@@ -13,7 +13,7 @@ use Rattle.lent.specs.Tables.{every, allZero, same, tabOf, readTab}
 use Rattle.lent.proofs.Choices.{and-swap, and-ahead}
 use Rattle.lent.proofs.Equal.{same-split, same-zeros}
 use Rattle.lent.proofs.Splice.{bytes-win, length-win}
-use Rattle.lent.proofs.Tables.{length-read, same-tab-at}
+use Rattle.lent.proofs.Tables.{length-read, place-fits, same-tab-at}
 use Rattle.lent.proofs.Walks.{every-both, every-cong}
 use Rattle.machine.specs.Sizes.{stateSize, headSize, keyCount, keysFrom, keyWidth, rowCount, rowsFrom, rowWidth, sessionCount, sessionsFrom, sessionWidth, restFrom, restSize}
 use Rattle.machine.specs.State.{Head, State, keyOf, rowAt, sessionAt}
@@ -21,7 +21,7 @@ use Rattle.machine.specs.Sound.{headSound, keySound, rowSound, sessionSound, di
 use Rattle.layout.specs.Layout.{encHead, decHead, encKey, decKey, encRow, decRow, encSession, decSession, encode, decode}
 use Rattle.layout.specs.WellFormed.{wellFormed}
 use Rattle.joins.specs.Joins.{tokens, sessionNumbers, joinOk}
-use Rattle.state.specs.Forms.{headFormed, keysFormed, rowsFormed, sessionsFormed, keysFit, sessionsFit, rowsFit, tablesFit, stateFormed}
+use Rattle.state.specs.Forms.{headFormed, keyFormed, rowFormed, sessionFormed, readLimit, writeLimit, keysFormed, rowsFormed, sessionsFormed, keysFit, sessionsFit, rowsFit, tablesFit, stateFormed}
 use Rattle.state.proofs.Widths.{key-wide, row-wide, session-wide}
 use Rattle.state.proofs.Records.{head-is-formed, key-is-formed, row-is-formed, session-is-formed}
 use Rattle.state.proofs.Fields.{keyBytes, rowBytes, sessionBytes, key-at, row-at, session-at}
@@ -86,24 +86,13 @@ module _ (s : List ℕ) (h : length s ≡ stateSize) (f : Bytes s) where
       let j : every (λ i. sessionSound hd (sessionAt σ i)) sessionCount ≡ every (λ i. sessionSound hd (decSession (sessionBytes s i))) sessionCount = every-cong _ _ sessionCount (λ i l. ap (sessionSound hd) (session-at s i l)) in
       rw (sized-yes, k, r, j)
 
-  -- ---- the two together, table by table
-  keys-are-formed : every (λ k. same (keyBytes s k) (encKey (decKey (keyBytes s k)))) keyCount && every (λ k. keySound hd (decKey (keyBytes s k))) keyCount ≡ keysFormed s
-  unfolding keysFormed
-  keys-are-formed =
-      every-both _ _ keyCount
-      ∙ every-cong _ _ keyCount (λ k l. key-is-formed (keyBytes s k) (bytes-win s (keysFrom + k * keyWidth) keyWidth (omega arith) f) (length-win s (keysFrom + k * keyWidth) keyWidth (omega arith)) hd)
-
-  rows-are-formed : every (λ i. same (rowBytes s i) (encRow (decRow (rowBytes s i)))) rowCount && every (λ i. rowSound (decRow (rowBytes s i))) rowCount ≡ rowsFormed s
-  unfolding rowsFormed
-  rows-are-formed =
-      every-both _ _ rowCount
-      ∙ every-cong _ _ rowCount (λ i l. row-is-formed (rowBytes s i) (bytes-win s (rowsFrom + i * rowWidth) rowWidth (omega arith) f) (length-win s (rowsFrom + i * rowWidth) rowWidth (omega arith)))
-
-  sessions-are-formed : every (λ j. same (sessionBytes s j) (encSession (decSession (sessionBytes s j)))) sessionCount && every (λ j. sessionSound hd (decSession (sessionBytes s j))) sessionCount ≡ sessionsFormed s
-  unfolding sessionsFormed
-  sessions-are-formed =
-      every-both _ _ sessionCount
-      ∙ every-cong _ _ sessionCount (λ j l. session-is-formed (sessionBytes s j) (bytes-win s (sessionsFrom + j * sessionWidth) sessionWidth (omega arith) f) (length-win s (sessionsFrom + j * sessionWidth) sessionWidth (omega arith)) hd)
+  -- ---- the two together, for a table of n records of w bytes
+  table-formed : {A : Type 0} (enc : A → List ℕ) (dec : List ℕ → A) (fine : A → Bool) (formed : List ℕ → Bool) (from w n : ℕ) → from + n * w ≤ stateSize
+      → ((x : List ℕ) → Bytes x → length x ≡ w → same x (enc (dec x)) && fine (dec x) ≡ formed x)
+      → every (λ i. same (win s (from + i * w) w) (enc (dec (win s (from + i * w) w)))) n && every (λ i. fine (dec (win s (from + i * w) w))) n ≡ every (λ i. formed (win s (from + i * w) w)) n
+  table-formed enc dec fine formed from w n e g =
+      every-both _ _ n
+      ∙ every-cong _ _ n (λ i l. let p = place-fits i n w l in g (win s (from + i * w) w) (bytes-win s (from + i * w) w (omega arith) f) (length-win s (from + i * w) w (omega arith)))
 
   -- each table's records with what joins them
   line : (h k r q z n t j : Bool) → h && (k && (r && (q && (z && (n && (t && j)))))) ≡ h && (z && ((k && t) && ((q && n) && (r && j))))
@@ -111,8 +100,11 @@ module _ (s : List ℕ) (h : length s ≡ stateSize) (f : Bytes s) where
       rw (and-ahead q z (n && (t && j)), and-ahead r z (q && (n && (t && j))), and-ahead k z (r && (q && (n && (t && j)))), and-ahead n t j, and-ahead q t (n && j), and-ahead r t (q && (n && j)), and-ahead r q (n && j), and-ahead r n j, and-assoc k t ((q && n) && (r && j)), and-assoc q n (r && j))
 
   pub formed-is-well-formed : stateFormed s ≡ wellFormed s
-  unfolding stateFormed tablesFit keysFit sessionsFit rowsFit wellFormed
+  unfolding stateFormed tablesFit keysFit keysFormed sessionsFit sessionsFormed rowsFit rowsFormed wellFormed
   formed-is-well-formed =
+      let k = table-formed encKey decKey (keySound hd) (keyFormed (readLimit hd) (hd .nextToken)) keysFrom keyWidth keyCount (omega arith) (λ x b l. key-is-formed x b l hd) in
+      let r = table-formed encRow decRow rowSound rowFormed rowsFrom rowWidth rowCount (omega arith) row-is-formed in
+      let j = table-formed encSession decSession (sessionSound hd) (sessionFormed (writeLimit hd) (hd .nextSession)) sessionsFrom sessionWidth sessionCount (omega arith) (λ x b l. session-is-formed x b l hd) in
       sym
-      (rw (eq-eqb (length s) stateSize h, same-by-records, sound-by-records, and-swap, head-is-formed s f h, and-swap, keys-are-formed, and-swap, rows-are-formed, and-swap, sessions-are-formed, joined-by-bytes s f)
+      (rw (eq-eqb (length s) stateSize h, same-by-records, sound-by-records, and-swap, head-is-formed s f h, and-swap, k, and-swap, r, and-swap, j, joined-by-bytes s f)
       (line (headFormed s) (keysFormed s) (rowsFormed s) (sessionsFormed s) (allZero (win s restFrom restSize)) (distinct (sessionNumbers s) sessionCount) (distinct (tokens s) keyCount) (every (joinOk s) rowCount)))
