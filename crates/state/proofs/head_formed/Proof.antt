@@ -1,10 +1,13 @@
 -- Each test is the next of the header's conditions; a next number of 32 bits is at most 2^32 - 1.
+use mathlib.Core.Path.{_≡_}
+use mathlib.Core.Bool.{_&&_}
 use native.Mathlib.Omega.{arith}
 use borrow.Author.Tests.{le-leb, lt-leb}
 use borrow.Author.Needs.{needs}
-use Rattle.lent.specs.Bytes.{le32, le64}
+use Rattle.lent.specs.Bytes.{le32, le64, win}
+use Rattle.lent.specs.Tables.{allZero}
 use Rattle.machine.specs.Sizes.{timeMax, numberMax}
-use Rattle.machine.specs.Sound.{headSound}
+use Rattle.machine.specs.Sound.{nextSound, headSound}
 use Rattle.layout.specs.Layout.{decHead}
 use Rattle.state.specs.Forms.{headFormed}
 use Rattle.lent.proofs.Choices.{test-failed, test-passed}
@@ -35,23 +38,25 @@ returns-3 c = let s = c .before .before .before .before .before .before .before 
 load-u32-requires : tie.Need-load-u32-requires
 load-u32-requires c κs = search needs
 
-returns-4 : tie.Need-returns-4
+-- what is left to test behind the clock and both lifetimes
+lives-passed : (c : tie.Else3) → let s = c .before .before .before .before .before .before .before .args .s .now in headFormed s ≡ (nextSound (le32 s 16) && nextSound (le32 s 20)) && allZero (win s 24 40)
 unfolding headFormed headSound decHead
-returns-4 c = let s = c .before .before .before .before .before .before .before .before .before .args .s .now in rw (le-leb (le64 s 0) timeMax (omega arith), test-passed (c .before .before .before .before .before .lifetime-at .ensures) (c .before .before .before .before .if2 .left), test-passed (c .before .before .before .lifetime-at2 .ensures) (c .before .before .if3 .left), lt-leb 1 (le32 s 16) (omega arith))
+lives-passed c = let s = c .before .before .before .before .before .before .before .args .s .now in rw (le-leb (le64 s 0) timeMax (omega arith), test-passed (c .before .before .before .lifetime-at .ensures) (c .before .before .if2 .left), test-passed (c .before .lifetime-at2 .ensures) (c .if3 .left))
+
+returns-4 : tie.Need-returns-4
+returns-4 c = let s = c .before .before .before .before .before .before .before .before .before .args .s .now in rw (lives-passed (c .before .before), lt-leb 1 (le32 s 16) (omega arith))
 
 load-u32-requires-2 : tie.Need-load-u32-requires-2
 load-u32-requires-2 c κs = search needs
 
 returns-5 : tie.Need-returns-5
-unfolding headFormed headSound decHead
-returns-5 c = let s = c .before .before .before .before .before .before .before .before .before .before .before .args .s .now in rw (le-leb (le64 s 0) timeMax (omega arith), test-passed (c .before .before .before .before .before .before .before .lifetime-at .ensures) (c .before .before .before .before .before .before .if2 .left), test-passed (c .before .before .before .before .before .lifetime-at2 .ensures) (c .before .before .before .before .if3 .left), le-leb 1 (le32 s 16) (omega arith), le-leb (le32 s 16) numberMax (omega arith), lt-leb 1 (le32 s 20) (omega arith))
+returns-5 c = let s = c .before .before .before .before .before .before .before .before .before .before .before .args .s .now in rw (lives-passed (c .before .before .before .before), le-leb 1 (le32 s 16) (omega arith), le-leb (le32 s 16) numberMax (omega arith), lt-leb 1 (le32 s 20) (omega arith))
 
 is-zero-requires : tie.Need-is-zero-requires
 is-zero-requires c κs = search needs
 
 returns-6 : tie.Need-returns-6
-unfolding headFormed headSound decHead
-returns-6 c = let s = c .before .before .before .before .before .before .before .before .before .before .before .before .args .s .now in rw (le-leb (le64 s 0) timeMax (omega arith), test-passed (c .before .before .before .before .before .before .before .before .lifetime-at .ensures) (c .before .before .before .before .before .before .before .if2 .left), test-passed (c .before .before .before .before .before .before .lifetime-at2 .ensures) (c .before .before .before .before .before .if3 .left), le-leb 1 (le32 s 16) (omega arith), le-leb (le32 s 16) numberMax (omega arith), le-leb 1 (le32 s 20) (omega arith), le-leb (le32 s 20) numberMax (omega arith)) (c .is-zero .ensures)
+returns-6 c = let s = c .before .before .before .before .before .before .before .before .before .before .before .before .args .s .now in rw (lives-passed (c .before .before .before .before .before), le-leb 1 (le32 s 16) (omega arith), le-leb (le32 s 16) numberMax (omega arith), le-leb 1 (le32 s 20) (omega arith), le-leb (le32 s 20) numberMax (omega arith)) (c .is-zero .ensures)
 
 pub head-formed-spec : {M : Type 1} → statement M
 head-formed-spec =
