@@ -1,5 +1,5 @@
 pub mod Zeros
-pub mod Tests
+pub mod Walked
 pub mod Widths
 pub mod Records
 pub mod Fields

@@ -1,26 +1,29 @@
 -- After k turns each of the first k keys is formed, their tokens have their marks, and unless one met the mark of another they are distinct.
-use mathlib.Core.Bool.{true, false}
-use Prim.Native.Nat.{_+_, _-_, _*_, _≤_}
-use mathlib.Core.Path.{_≡_}
-use native.Mathlib.Omega.{arith}
+use mathlib.Core.Bool.{Bool, false}
+use mathlib.Core.List.{List}
+use Prim.Native.Nat.{ℕ, _+_, _-_, _*_}
+use mathlib.Core.Path.{_≡_, _∙_}
 use borrow.Author.Tests.{not-true}
 use Rattle.lent.specs.Bytes.{win}
-use Rattle.lent.specs.Tables.{every}
-use Rattle.lent.proofs.Walks.{every-none}
+use Rattle.lent.proofs.Choices.{test-failed}
+use Rattle.lent.proofs.Splice.{part-win}
+use Rattle.lent.proofs.Walks.{every-fails}
 use Rattle.machine.specs.Sizes.{keyCount, keysFrom, keyWidth}
-use Rattle.machine.specs.Sound.{distinct}
 use Rattle.layout.specs.Layout.{decHead}
 use Rattle.joins.specs.Joins.{tokens, Marked}
-use Rattle.order.proofs.Numbers.{distinct-none}
 use Rattle.joins.proofs.Marks.{marked-none, met-more}
-use Rattle.state.specs.Forms.{keyFormed, keysFormed, keysFit}
-use Rattle.state.proofs.Tests.{records-failed, records-passed}
+use Rattle.state.specs.Forms.{keyFormed, readLimit, keysFormed, keysFit}
+use Rattle.state.proofs.Walked.{Walked, walked-none, walked-more, walked-all}
 use borrow.Author.Needs.{needs}
 use Rattle.state.proofs.keys_fit.Statement.{statement}
 use Rattle.state.proofs.keys_fit.Tie as tie
 
+-- key k is formed
+abbrev Formed : List ℕ → ℕ → Bool
+Formed s k = keyFormed (readLimit (decHead s)) (decHead s .nextToken) (win s (keysFrom + k * keyWidth) keyWidth)
+
 abbrev Inv-loop : tie.InvT-loop
-Inv-loop s masks until next marks₀ met₀ k₀ marks met k = (k ≤ keyCount) × ((every (λ j. keyFormed until next (win s (keysFrom + j * keyWidth) keyWidth)) k ≡ true) × (Marked (tokens s) k marks × (met ≡ false → distinct (tokens s) k ≡ true)))
+Inv-loop s masks until next marks₀ met₀ k₀ marks met k = Walked keyCount (Formed s) (tokens s) (λ j. Marked (tokens s) j marks) (met ≡ false) k
 
 abbrev μ-loop : tie.MeasureT-loop
 μ-loop s masks until next marks₀ met₀ k₀ marks met k = keyCount - k
@@ -32,7 +35,7 @@ load-u32-requires : tie.Need-load-u32-requires Inv-loop μ-loop
 load-u32-requires c κs = search needs
 
 loop-holds : tie.Need-loop-holds Inv-loop μ-loop
-loop-holds c = (search needs, (every-none _, (marked-none _, λ e. distinct-none _)))
+loop-holds c = walked-none (marked-none _)
 
 mul-at : tie.Need-mul-at Inv-loop μ-loop
 mul-at c = search needs
@@ -55,14 +58,16 @@ part-key-formed-end c = search needs
 key-formed-requires : tie.Need-key-formed-requires Inv-loop μ-loop
 key-formed-requires c κs = (search needs, c .before .before .before .before .before .before .pre .1 .1)
 
+key-told : (c : tie.After-key-formed Inv-loop μ-loop) → c .key-formed .result ≡ Formed (c .before .before .before .before .before .before .before .args .s .now) (c .before .before .before .loop .k)
+unfolding decHead
+key-told c = let n = c .before .before .before .before in c .key-formed .ensures ∙ rw (part-win, n .before .limit .ensures, n .load-u32 .ensures)
+
 returns : tie.Need-returns Inv-loop μ-loop
-unfolding keysFit keysFormed decHead
-returns c = let l = c .before .before .before .before in let n = l .before in let u = n .before in
-    let f = records-failed (keyFormed (u .limit .result) (n .load-u32 .result)) (u .before .before .args .s .now) keysFrom keyWidth (l .loop .k) (c .before .key-formed .ensures) keyCount (search needs) (c .if1 .taken) in
-    rw (← u .limit .ensures, ← n .load-u32 .ensures, f)
+unfolding keysFit keysFormed
+returns c = let l = c .before .before .before .before in rw (every-fails (Formed (l .before .before .before .before .args .s .now)) keyCount (l .loop .k) (search needs) (test-failed (key-told (c .before)) (c .if1 .taken)))
 
 token-meets-requires : tie.Need-token-meets-requires Inv-loop μ-loop
-token-meets-requires c κs = (search needs, (search needs, c .before .before .before .before .before .loop .inv .1 .1 .0))
+token-meets-requires c κs = (search needs, (search needs, c .before .before .before .before .before .loop .inv .noted))
 
 add-k : tie.Need-add-k Inv-loop μ-loop
 add-k c = search needs
@@ -71,23 +76,19 @@ loop-less : tie.Need-loop-less Inv-loop μ-loop
 loop-less c = search needs
 
 loop-again : tie.Need-loop-again Inv-loop μ-loop
-loop-again c = let l = c .before .before .before .before .before .before in let n = l .before in let m = c .token-meets .ensures in
-    (search needs, (records-passed (keyFormed (n .before .limit .result) (n .load-u32 .result)) (n .before .before .before .args .s .now) keysFrom keyWidth (l .loop .k) (c .before .before .before .key-formed .ensures) (c .before .before .if1 .left) (l .loop .inv .1 .0), (m .marked, met-more (l .loop .inv .1 .1 .1) m)))
+loop-again c = let m = c .token-meets .ensures in
+    walked-more (c .before .before .before .before .before .before .loop .inv) (search needs) (key-told (c .before .before .before)) (c .before .before .if1 .left) (m .marked) (λ d. met-more d m)
 
 returns-2 : tie.Need-returns-2 Inv-loop μ-loop
-unfolding keysFit keysFormed decHead
-returns-2 c = let l = c .before .before in let n = l .before in let u = n .before in
-    let e : l .loop .k ≡ keyCount = omega arith in
-    rw (← u .limit .ensures, ← n .load-u32 .ensures, rw e at (l .loop .inv .1 .0), rw e at (l .loop .inv .1 .1 .1 (not-true _ (c .if2 .taken))))
+unfolding keysFit keysFormed
+returns-2 c = let w = walked-all (c .before .before .loop .inv) (search needs) in rw (w .each, w .apart (not-true _ (c .if2 .taken)))
 
 tokens-differ-requires : tie.Need-tokens-differ-requires Inv-loop μ-loop
 tokens-differ-requires c κs = search needs
 
 returns-3 : tie.Need-returns-3 Inv-loop μ-loop
-unfolding keysFit keysFormed decHead
-returns-3 c = let l = c .before .before .before in let n = l .before in let u = n .before in
-    let e : l .loop .k ≡ keyCount = omega arith in
-    rw (← u .limit .ensures, ← n .load-u32 .ensures, rw e at (l .loop .inv .1 .0)) (c .tokens-differ .ensures)
+unfolding keysFit keysFormed
+returns-3 c = let w = walked-all (c .before .before .before .loop .inv) (search needs) in rw (w .each) (c .tokens-differ .ensures)
 
 pub keys-fit-spec : {M : Type 1} → statement M
 keys-fit-spec =

@@ -1,24 +1,29 @@
 -- After i turns each of the first i rows is formed and joins, and all is known at row i that `join` asks.
-use Prim.Native.Nat.{_+_, _-_, _*_, _≤_}
-use mathlib.Core.Path.{_≡_}
-use mathlib.Core.Bool.{true, and-false}
+use Prim.Native.Nat.{ℕ, _+_, _-_, _*_, _≤_}
+use mathlib.Core.Path.{_≡_, _∙_}
+use mathlib.Core.Bool.{Bool, true, and-false}
+use mathlib.Core.List.{List}
 use native.Mathlib.Omega.{arith}
 use borrow.Author.Tests.{not-false}
 use Rattle.lent.specs.Bytes.{win}
 use Rattle.lent.specs.Tables.{every}
 use Rattle.lent.proofs.Walks.{every-none, every-more, every-fails}
 use Rattle.lent.proofs.Choices.{test-failed, test-passed}
+use Rattle.lent.proofs.Splice.{part-win}
 use Rattle.machine.specs.Sizes.{rowCount, rowsFrom, rowWidth}
 use Rattle.joins.specs.Joins.{joinOk, Ready}
 use Rattle.joins.proofs.Joins.{ready-none}
 use Rattle.state.specs.Forms.{rowFormed, rowsFormed, rowsFit}
-use Rattle.state.proofs.Tests.{records-failed, records-passed}
 use borrow.Author.Needs.{needs}
 use Rattle.state.proofs.rows_fit.Statement.{statement}
 use Rattle.state.proofs.rows_fit.Tie as tie
 
+-- row i is formed
+abbrev Formed : List ℕ → ℕ → Bool
+Formed s i = rowFormed (win s (rowsFrom + i * rowWidth) rowWidth)
+
 abbrev Inv-loop : tie.InvT-loop
-Inv-loop s masks nums seats order seen₀ near₀ far₀ i₀ seen near far i = (i ≤ rowCount) × ((every (λ j. rowFormed (win s (rowsFrom + j * rowWidth) rowWidth)) i ≡ true) × ((every (joinOk s) i ≡ true) × Ready s i nums seen near far))
+Inv-loop s masks nums seats order seen₀ near₀ far₀ i₀ seen near far i = (i ≤ rowCount) × ((every (Formed s) i ≡ true) × ((every (joinOk s) i ≡ true) × Ready s i nums seen near far))
 
 abbrev μ-loop : tie.MeasureT-loop
 μ-loop s masks nums seats order seen₀ near₀ far₀ i₀ seen near far i = rowCount - i
@@ -47,9 +52,12 @@ part-row-formed-end c = search needs
 row-formed-requires : tie.Need-row-formed-requires Inv-loop μ-loop
 row-formed-requires c κs = (search needs, c .before .before .before .before .pre .1 .0)
 
+row-told : (c : tie.After-row-formed Inv-loop μ-loop) → c .row-formed .result ≡ Formed (c .before .before .before .before .before .args .s .now) (c .before .before .before .loop .i)
+row-told c = c .row-formed .ensures ∙ rw part-win
+
 returns : tie.Need-returns Inv-loop μ-loop
 unfolding rowsFit rowsFormed
-returns c = let f = records-failed rowFormed (c .before .before .before .before .before .before .args .s .now) rowsFrom rowWidth (c .before .before .before .before .loop .i) (c .before .row-formed .ensures) rowCount (search needs) (c .if1 .taken) in rw f
+returns c = let l = c .before .before .before .before in rw (every-fails (Formed (l .before .before .args .s .now)) rowCount (l .loop .i) (search needs) (test-failed (row-told (c .before)) (c .if1 .taken)))
 
 join-requires : tie.Need-join-requires Inv-loop μ-loop
 join-requires c κs = (search needs, (search needs, (c .before .before .before .before .before .before .before .before .before .pre .1 .1 .1, c .before .before .before .before .before .before .before .loop .inv .1 .1 .1)))
@@ -66,7 +74,7 @@ loop-less c = search needs
 
 loop-again : tie.Need-loop-again Inv-loop μ-loop
 loop-again c = let l = c .before .before .before .before .before .before .before .before .before in let j = c .before .join .ensures in
-    (search needs, (records-passed rowFormed (c .before .before .before .before .before .before .before .before .before .before .before .args .s .now) rowsFrom rowWidth (l .loop .i) (c .before .before .before .before .before .before .row-formed .ensures) (c .before .before .before .before .before .if1 .left) (l .loop .inv .1 .0), (every-more _ _ (l .loop .inv .1 .1 .0) (test-passed (j .is) (c .if2 .left)), j .next (not-false _ (c .if2 .left)))))
+    (search needs, (every-more _ _ (l .loop .inv .1 .0) (test-passed (row-told (c .before .before .before .before .before .before)) (c .before .before .before .before .before .if1 .left)), (every-more _ _ (l .loop .inv .1 .1 .0) (test-passed (j .is) (c .if2 .left)), j .next (not-false _ (c .if2 .left)))))
 
 returns-3 : tie.Need-returns-3 Inv-loop μ-loop
 unfolding rowsFit rowsFormed

@@ -1,27 +1,29 @@
 -- After j turns each of the first j sessions is formed, their seats are taken, and if each found its own free they are distinct.
-use mathlib.Core.Bool.{true, false}
-use Prim.Native.Nat.{_+_, _-_, _*_, _≤_}
+use mathlib.Core.Bool.{Bool, true, false}
+use mathlib.Core.List.{List}
+use Prim.Native.Nat.{ℕ, _+_, _-_, _*_}
 use mathlib.Core.Path.{_≡_, refl, sym, _∙_}
-use native.Mathlib.Omega.{arith}
 use Rattle.lent.specs.Bytes.{win}
-use Rattle.lent.specs.Tables.{every}
-use Rattle.lent.proofs.Choices.{clash}
-use Rattle.lent.proofs.Walks.{every-none}
+use Rattle.lent.proofs.Choices.{clash, test-failed}
+use Rattle.lent.proofs.Splice.{part-win}
+use Rattle.lent.proofs.Walks.{every-fails}
 use Rattle.machine.specs.Sizes.{sessionCount, sessionsFrom, sessionWidth}
-use Rattle.machine.specs.Sound.{distinct}
 use Rattle.layout.specs.Layout.{decHead}
 use Rattle.joins.specs.Joins.{sessionNumbers, Entered}
-use Rattle.order.proofs.Numbers.{distinct-none}
 use Rattle.joins.proofs.Gathered.{distinct-gathered}
 use Rattle.joins.proofs.Seats.{sat-more}
-use Rattle.state.specs.Forms.{sessionFormed, sessionsFormed, sessionsFit}
-use Rattle.state.proofs.Tests.{records-failed, records-passed}
+use Rattle.state.specs.Forms.{sessionFormed, writeLimit, sessionsFormed, sessionsFit}
+use Rattle.state.proofs.Walked.{Walked, walked-none, walked-more, walked-all}
 use borrow.Author.Needs.{needs}
 use Rattle.state.proofs.sessions_fit.Statement.{statement}
 use Rattle.state.proofs.sessions_fit.Tie as tie
 
+-- session j is formed
+abbrev Formed : List ℕ → ℕ → Bool
+Formed s j = sessionFormed (writeLimit (decHead s)) (decHead s .nextSession) (win s (sessionsFrom + j * sessionWidth) sessionWidth)
+
 abbrev Inv-loop : tie.InvT-loop
-Inv-loop s nums₀ seats₀ order until next all₀ j₀ nums seats all j = (j ≤ sessionCount) × ((every (λ i. sessionFormed until next (win s (sessionsFrom + i * sessionWidth) sessionWidth)) j ≡ true) × (Entered (sessionNumbers s) j nums seats × (all ≡ true → distinct (sessionNumbers s) j ≡ true)))
+Inv-loop s nums₀ seats₀ order until next all₀ j₀ nums seats all j = Walked sessionCount (Formed s) (sessionNumbers s) (λ i. Entered (sessionNumbers s) i nums seats) (all ≡ true) j
 
 abbrev μ-loop : tie.MeasureT-loop
 μ-loop s nums₀ seats₀ order until next all₀ j₀ nums seats all j = sessionCount - j
@@ -33,7 +35,7 @@ load-u32-requires : tie.Need-load-u32-requires Inv-loop μ-loop
 load-u32-requires c κs = search needs
 
 loop-holds : tie.Need-loop-holds Inv-loop μ-loop
-loop-holds c = (search needs, (every-none _, (c .before .before .before .pre .1 .1, λ e. distinct-none _)))
+loop-holds c = walked-none (c .before .before .before .pre .1 .1)
 
 mul-at : tie.Need-mul-at Inv-loop μ-loop
 mul-at c = search needs
@@ -56,14 +58,16 @@ part-session-formed-end c = search needs
 session-formed-requires : tie.Need-session-formed-requires Inv-loop μ-loop
 session-formed-requires c κs = search needs
 
+session-told : (c : tie.After-session-formed Inv-loop μ-loop) → c .session-formed .result ≡ Formed (c .before .before .before .before .before .before .before .args .s .now) (c .before .before .before .loop .j)
+unfolding decHead
+session-told c = let n = c .before .before .before .before in c .session-formed .ensures ∙ rw (part-win, n .before .limit .ensures, n .load-u32 .ensures)
+
 returns : tie.Need-returns Inv-loop μ-loop
-unfolding sessionsFit sessionsFormed decHead
-returns c = let l = c .before .before .before .before in let n = l .before in let u = n .before in
-    let f = records-failed (sessionFormed (u .limit .result) (n .load-u32 .result)) (u .before .before .args .s .now) sessionsFrom sessionWidth (l .loop .j) (c .before .session-formed .ensures) sessionCount (search needs) (c .if1 .taken) in
-    (rw (← u .limit .ensures, ← n .load-u32 .ensures, f), λ o. clash false o refl)
+unfolding sessionsFit sessionsFormed
+returns c = let l = c .before .before .before .before in (rw (every-fails (Formed (l .before .before .before .before .args .s .now)) sessionCount (l .loop .j) (search needs) (test-failed (session-told (c .before)) (c .if1 .taken))), λ o. clash false o refl)
 
 session-sits-requires : tie.Need-session-sits-requires Inv-loop μ-loop
-session-sits-requires c κs = (search needs, (search needs, c .before .before .before .before .before .before .loop .inv .1 .1 .0))
+session-sits-requires c κs = (search needs, (search needs, c .before .before .before .before .before .before .loop .inv .noted))
 
 add-j : tie.Need-add-j Inv-loop μ-loop
 add-j c = search needs
@@ -72,27 +76,21 @@ loop-less : tie.Need-loop-less Inv-loop μ-loop
 loop-less c = search needs
 
 loop-again : tie.Need-loop-again Inv-loop μ-loop
-loop-again c = let l = c .before .before .before .before .before .before .before in let n = l .before in let m = c .session-sits .ensures in
-    (search needs, (records-passed (sessionFormed (n .before .limit .result) (n .load-u32 .result)) (n .before .before .before .args .s .now) sessionsFrom sessionWidth (l .loop .j) (c .before .before .before .before .session-formed .ensures) (c .before .before .before .if1 .left) (l .loop .inv .1 .0), (m .entered, sat-more (l .loop .inv .1 .1 .1) m)))
+loop-again c = let m = c .session-sits .ensures in
+    walked-more (c .before .before .before .before .before .before .before .loop .inv) (search needs) (session-told (c .before .before .before .before)) (c .before .before .before .if1 .left) (m .entered) (λ d. sat-more d m)
 
 returns-2 : tie.Need-returns-2 Inv-loop μ-loop
-unfolding sessionsFit sessionsFormed decHead
-returns-2 c = let l = c .before .before in let n = l .before in let u = n .before in
-    let e : l .loop .j ≡ sessionCount = omega arith in
-    let y = rw e at (l .loop .inv .1 .1 .0) in
-    let d = rw e at (l .loop .inv .1 .1 .1 (c .if2 .taken)) in
-    (rw (← u .limit .ensures, ← n .load-u32 .ensures, rw e at (l .loop .inv .1 .0), d), λ o. (record { gathered = y .gathered; once = distinct-gathered _ _ _ (y .gathered) ∙ d }, y .seated .small))
+unfolding sessionsFit sessionsFormed
+returns-2 c = let w = walked-all (c .before .before .loop .inv) (search needs) in let d = w .apart (c .if2 .taken) in
+    (rw (w .each, d), λ o. (record { gathered = w .noted .gathered; once = distinct-gathered _ _ _ (w .noted .gathered) ∙ d }, w .noted .seated .small))
 
 sessions-differ-requires : tie.Need-sessions-differ-requires Inv-loop μ-loop
-sessions-differ-requires c κs = let l = c .before .before .before .before .before in let e : l .loop .j ≡ sessionCount = omega arith in rw e at (l .loop .inv .1 .1 .0 .seated)
+sessions-differ-requires c κs = walked-all (c .before .before .before .before .before .loop .inv) (search needs) .noted .seated
 
 returns-3 : tie.Need-returns-3 Inv-loop μ-loop
-unfolding sessionsFit sessionsFormed decHead
-returns-3 c = let l = c .before .before .before .before .before .before in let n = l .before in let u = n .before in
-    let e : l .loop .j ≡ sessionCount = omega arith in
-    let y = rw e at (l .loop .inv .1 .1 .0) in
-    let d = c .sessions-differ .ensures in
-    (rw (← u .limit .ensures, ← n .load-u32 .ensures, rw e at (l .loop .inv .1 .0)) (d ∙ distinct-gathered _ _ _ (y .gathered)), λ o. (record { gathered = y .gathered; once = sym d ∙ o }, y .seated .small))
+unfolding sessionsFit sessionsFormed
+returns-3 c = let w = walked-all (c .before .before .before .before .before .before .loop .inv) (search needs) in let d = c .sessions-differ .ensures in
+    (rw (w .each) (d ∙ distinct-gathered _ _ _ (w .noted .gathered)), λ o. (record { gathered = w .noted .gathered; once = sym d ∙ o }, w .noted .seated .small))
 
 pub sessions-fit-spec : {M : Type 1} → statement M
 sessions-fit-spec =
