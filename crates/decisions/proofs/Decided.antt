@@ -25,8 +25,9 @@ verdictOf n = if eqb n 0 then Grant else if eqb n 1 then Void else if eqb n 2 th
 row-long : (held : ℕ) → held < heldCount → length (getD numbers held []) ≡ askedCount
 row-long held h = sym (List·getD-map (λ (l : List ℕ). length l) numbers held []) ∙ getD-replicate heldCount held askedCount 0 h
 
-pub entry-decides : (held asked : ℕ) → held < heldCount → asked < askedCount → verdictOf (getD (getD numbers held []) asked 0) ≡ decision held asked
+pub entry-decides : (held asked : ℕ) → (held < heldCount) × (asked < askedCount) → {n : ℕ} → getD (getD numbers held []) asked 0 ≡ n → verdictOf n ≡ decision held asked
 unfolding decision
-entry-decides held asked h a =
-    sym (at-map verdictOf (getD numbers held []) asked 0 Abort (rw (row-long held h) a))
+entry-decides held asked h e =
+    sym (ap verdictOf e)
+    ∙ sym (at-map verdictOf (getD numbers held []) asked 0 Abort (rw (row-long held (h .0)) (h .1)))
     ∙ ap (λ (l : List Verdict). getD l asked Abort) (sym (List·getD-map (map verdictOf) numbers held []))
