@@ -199,19 +199,23 @@ module _ (w : World) (g : Steady w) (e : Event) where
   steady-kept-two : Kept w e → KeptTwo w e
   steady-kept-two h = kept-of (twoValues w) e (steady-two w g e ∙ kept-unbroken w e (g .orderly) h)
 
-module _ (readLife writeLife : ℕ) where
-  steady-run : (es : List Event) → WritesKept (freshWorld readLife writeLife) es → Steady (run (freshWorld readLife writeLife) es)
-  steady-run es = run-steady (freshWorld readLife writeLife) es (begun-steady readLife writeLife)
+-- after a run from START in which rule 2 was kept
+module _ (readLife writeLife : ℕ) (es : List Event) (rules : WritesKept (freshWorld readLife writeLife) es) where
+  abbrev reached : World
+  reached = run (freshWorld readLife writeLife) es
 
-  -- the theorem: after a run from START in which rule 2 was kept, the two-value form is rule 1
-  pub two-values-rule-1 : (es : List Event) → WritesKept (freshWorld readLife writeLife) es → (e : Event) → brokenTwo (run (freshWorld readLife writeLife) es) e ≡ broken (run (freshWorld readLife writeLife) es) e
-  two-values-rule-1 es rules = steady-two _ (steady-run es rules)
+  steady-run : Steady reached
+  steady-run = run-steady (freshWorld readLife writeLife) es (begun-steady readLife writeLife) rules
 
-  pub two-kept : (es : List Event) → WritesKept (freshWorld readLife writeLife) es → (e : Event) → KeptTwo (run (freshWorld readLife writeLife) es) e → Kept (run (freshWorld readLife writeLife) es) e
-  two-kept es rules = steady-kept _ (steady-run es rules)
+  -- the theorem: the two-value form is rule 1
+  pub two-values-rule-1 : (e : Event) → brokenTwo reached e ≡ broken reached e
+  two-values-rule-1 = steady-two reached steady-run
 
-  pub kept-two : (es : List Event) → WritesKept (freshWorld readLife writeLife) es → (e : Event) → Kept (run (freshWorld readLife writeLife) es) e → KeptTwo (run (freshWorld readLife writeLife) es) e
-  kept-two es rules = steady-kept-two _ (steady-run es rules)
+  pub two-kept : (e : Event) → KeptTwo reached e → Kept reached e
+  two-kept = steady-kept reached steady-run
+
+  pub kept-two : (e : Event) → Kept reached e → KeptTwo reached e
+  kept-two = steady-kept-two reached steady-run
 
 -- So a whole run that keeps the two-value form keeps the rules, and the other way round
 
