@@ -67,7 +67,7 @@ unfolding keysFit keysFormed
 returns c = let l = c .before .before .before .before in rw (every-fails (Formed (l .before .before .before .before .args .s .now)) keyCount (l .loop .k) (search needs) (test-failed (key-told (c .before)) (c .if1 .taken)))
 
 token-meets-requires : tie.Need-token-meets-requires Inv-loop μ-loop
-token-meets-requires c κs = (search needs, (search needs, c .before .before .before .before .before .loop .inv .noted))
+token-meets-requires c κs = search needs
 
 add-k : tie.Need-add-k Inv-loop μ-loop
 add-k c = search needs

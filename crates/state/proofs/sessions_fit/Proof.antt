@@ -67,7 +67,7 @@ unfolding sessionsFit sessionsFormed
 returns c = let l = c .before .before .before .before in (rw (every-fails (Formed (l .before .before .before .before .args .s .now)) sessionCount (l .loop .j) (search needs) (test-failed (session-told (c .before)) (c .if1 .taken))), λ o. clash false o refl)
 
 session-sits-requires : tie.Need-session-sits-requires Inv-loop μ-loop
-session-sits-requires c κs = (search needs, (search needs, c .before .before .before .before .before .before .loop .inv .noted))
+session-sits-requires c κs = search needs
 
 add-j : tie.Need-add-j Inv-loop μ-loop
 add-j c = search needs
