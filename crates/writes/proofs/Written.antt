@@ -37,7 +37,7 @@ abbrev pub ruleBy : Found → ℕ
 ruleBy (Found.At j) = 0
 ruleBy Found.Nothing = 2
 
-module _ {s : State} {n i : ℕ} {x : Session} (w : Located s n i x) (k : ℕ) {b b′ : List ℕ} (f : b′ ≡ withMark b i (x .number)) where
+module _ {s : State} {n i : ℕ} {x : Session} (w : Located s n i x) (k : ℕ) (b : List ℕ) {b′ : List ℕ} (f : b′ ≡ withMark b i (x .number)) where
   sealed-loaded : sealedIn s n ≡ isSealed x
   sealed-loaded = rw (w .of)
 

@@ -29,7 +29,7 @@ same-length : tie.Need-same-length
 same-length c = search needs
 
 returns : tie.Need-returns
-returns c = λ σ h ok n p. written-open (here (c .before .before .before .before .before .before) σ h ok n p) _ (c .before .before .before .before .set-mark .ensures) (test-failed (c .before .is-sealed .ensures) (c .if1 .taken))
+returns c = λ σ h ok n p. written-open (here (c .before .before .before .before .before .before) σ h ok n p) _ _ (c .before .before .before .before .set-mark .ensures) (test-failed (c .before .is-sealed .ensures) (c .if1 .taken))
 
 cast-find : tie.Need-cast-find
 cast-find c = search needs
@@ -47,14 +47,14 @@ same-length-2 : tie.Need-same-length-2
 same-length-2 c = search needs
 
 returns-2 : tie.Need-returns-2
-returns-2 c = λ σ h ok n p. written-by (here (c .before .before .before .before .before .before .before .before .before) σ h ok n p) _ (c .before .before .before .before .before .before .before .set-mark .ensures) (h .fits .rows)
+returns-2 c = λ σ h ok n p. written-by (here (c .before .before .before .before .before .before .before .before .before) σ h ok n p) _ _ (c .before .before .before .before .before .before .before .set-mark .ensures) (h .fits .rows)
     (test-passed (c .before .before .before .before .is-sealed .ensures) (c .before .before .before .if1 .left)) (sym (c .before .before .find .ensures .0 σ h) ∙ c .enum-told .given .1)
 
 same-length-3 : tie.Need-same-length-3
 same-length-3 c = search needs
 
 returns-3 : tie.Need-returns-3
-returns-3 c = λ σ h ok n p. written-by (here (c .before .before .before .before .before .before .before .before .before) σ h ok n p) _ (c .before .before .before .before .before .before .before .set-mark .ensures) (h .fits .rows)
+returns-3 c = λ σ h ok n p. written-by (here (c .before .before .before .before .before .before .before .before .before) σ h ok n p) _ _ (c .before .before .before .before .before .before .before .set-mark .ensures) (h .fits .rows)
     (test-passed (c .before .before .before .before .is-sealed .ensures) (c .before .before .before .if1 .left)) (sym (c .before .before .find .ensures .0 σ h) ∙ c .enum-told2 .given .1)
 
 pub mark-write-spec : {M : Type 1} → statement M
