@@ -36,11 +36,12 @@ module _ (s : State) (l : length (s .sessions) ≡ sessionCount) (n : ℕ) where
   unfolding askerOf
   asker-none e = rw (nothing-entry (numbered n) noSession (s .sessions) sessionCount l e)
 
-  pub asker-at : (i : ℕ) → found sessionCount (sessionPlace s n) ≡ Found.At i → askerOf s n ≡ askerAt i (session (sessionIn (sessionAt s i)))
+  -- the session x at place i, by whether it is sealed
+  pub asker-at : {i : ℕ} {x : Session} {t : Bool} → found sessionCount (sessionPlace s n) ≡ Found.At i → x ≡ sessionIn (sessionAt s i) → isSealed x ≡ t
+      → askerOf s n ≡ (if t then Asker.Refused SEALED else Asker.Open i x)
   unfolding askerOf
-  asker-at i e =
-      rw (found-at sessionCount (sessionPlace s n) i e .0)
-      (ap (askerAt i) (numbered-slot n (sessionAt s i) (found-passes (numbered n) noSession (s .sessions) sessionCount i l e)))
+  asker-at {i} f e q =
+      rw (found-at sessionCount (sessionPlace s n) i f .0, numbered-slot n (sessionAt s i) (found-passes (numbered n) noSession (s .sessions) sessionCount i l f), ← e, q)
 
 -- ---- what the asker tells
 

@@ -21,6 +21,13 @@ use Rattle.stages.specs.declared.Staging.{Staging}
 use Rattle.stages.proofs.Staged.{stagedBy, staged-by}
 use Rattle.deltas.specs.Changes.{changedIn, changes}
 
+-- DELTA's arguments are right
+pub record Right (m k o : ℕ) (x : Value) : Type 0 where
+  pub key : k < keyCount
+  pub operation : isOperation o ≡ true
+  pub step : m < stepMax
+  pub short : length x ≤ valueMax
+
 -- 0 stands for the time, which DELTA does not look at
 module _ (s : State) (n step k operation : ℕ) (x : Value) where
   pub delta-key : keyCount ≤ k → tried s 0 (Delta n step k operation) x ≡ told (Answer.Refused ARG) s
@@ -35,20 +42,22 @@ module _ (s : State) (n step k operation : ℕ) (x : Value) where
   unfolding tried
   delta-step h = rw (FirstRefusal.delta-step s n step k operation x h)
 
-  module _ (a : k < keyCount) (o : isOperation operation ≡ true) (b : step < stepMax) where
-    pub delta-long : valueMax < length x → tried s 0 (Delta n step k operation) x ≡ told (Answer.Refused LONG) s
-    unfolding tried
-    delta-long h = rw (FirstRefusal.delta-long s n step k operation x a o b h)
+  pub delta-long : k < keyCount → isOperation operation ≡ true → step < stepMax → valueMax < length x → tried s 0 (Delta n step k operation) x ≡ told (Answer.Refused LONG) s
+  unfolding tried
+  delta-long a o b h = rw (FirstRefusal.delta-long s n step k operation x a o b h)
 
-    pub delta-found : {r : Staging} → length x ≤ valueMax → stagingOf s n step k INCREMENTAL ≡ r → tried s 0 (Delta n step k operation) x ≡ stagedBy s (changed operation x (stagedIn (rowOf s n k)) (cached s k)) r
+  module _ (w : Right step k operation x) where
+    pub delta-found : {r : Staging} → stagingOf s n step k INCREMENTAL ≡ r → tried s 0 (Delta n step k operation) x ≡ stagedBy s (changed operation x (stagedIn (rowOf s n k)) (cached s k)) r
     unfolding tried effect
-    delta-found h e = rw (FirstRefusal.delta-staging s n step k operation x a o b h) (staged-by s n step k INCREMENTAL (changed operation x (stagedIn (rowOf s n k)) (cached s k)) e)
+    delta-found e =
+        rw (FirstRefusal.delta-staging s n step k operation x (w .key) (w .operation) (w .step) (w .short))
+        (staged-by s n step k INCREMENTAL (changed operation x (stagedIn (rowOf s n k)) (cached s k)) e)
 
     -- the session at place i and its row at place j: the session's next record, and then the row's change
-    pub delta-changes : (i j : ℕ) (y : Session) → length x ≤ valueMax → stagingOf s n step k INCREMENTAL ≡ Staging.At i j y → rowOf s n k ≡ rowAt s j
+    pub delta-changes : (i j : ℕ) (y : Session) → stagingOf s n step k INCREMENTAL ≡ Staging.At i j y → rowOf s n k ≡ rowAt s j
         → tried s 0 (Delta n step k operation) x ≡ changes (withSessions s (set (s .sessions) i (session y))) j k operation x
     unfolding changes
-    delta-changes i j y h e r = delta-found h e ∙ ap (λ (w : Row). stagedBy s (changed operation x (stagedIn w) (cached s k)) (Staging.At i j y)) r
+    delta-changes i j y e r = delta-found e ∙ ap (λ (u : Row). stagedBy s (changed operation x (stagedIn u) (cached s k)) (Staging.At i j y)) r
 
 -- ---- what is staged
 

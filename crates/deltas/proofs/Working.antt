@@ -1,12 +1,12 @@
 -- What DELTA stages, by what the bytes say of its row and of its key: the row's mark tells DROP, a staged value or nothing, and where it is
 -- nothing the key's mark tells whether a value is cached. A value stands where its record says, so the operation on those bytes is on it.
-use mathlib.Core.Path.{_≡_, refl, ap, _∙_}
+use mathlib.Core.Path.{_≡_, refl}
 use mathlib.Core.Bool.{true, false, not}
 use mathlib.Core.List.{List}
 use mathlib.Core.Option.{Option, none, some}
-use Prim.Native.Nat.{ℕ, _+_, _-_, _<_}
+use Prim.Native.Nat.{ℕ, _<_}
 use native.Mathlib.Omega.{arith}
-use lib.ListN.{length, take, drop}
+use lib.ListN.{length}
 use Rattle.lent.specs.Bytes.{win}
 use Rattle.machine.specs.Sizes.{keyCount, rowCount, valueAt, stagedAt}
 use Rattle.machine.specs.Tables.{isNone}
@@ -16,7 +16,6 @@ use Rattle.layout.specs.Fields.{VALUED, DROPPED, valueLength, stagedMark, stage
 use Rattle.layout.specs.Holds.{Holds}
 use Rattle.layout.proofs.Held.{value-stands, staged-stands}
 use Rattle.lent.proofs.Choices.{clash}
-use Rattle.lent.proofs.Splice.{part-win}
 use Rattle.deltas.specs.Changes.{changedIn}
 
 module _ (operation : ℕ) (x : Value) where
@@ -54,14 +53,12 @@ module _ (operation : ℕ) (x : Value) where
 
 module _ {b : List ℕ} {s : State} (h : Holds b s) (i k operation : ℕ) (x : Value) where
   pub works-staged : i < rowCount → {n : ℕ} {o : Option Value} → stagedMark (stagedIn (rowAt s i)) ≡ VALUED → n ≡ stagedLength (stagedIn (rowAt s i))
-      → o ≡ operate operation x (take (stagedAt i + n - stagedAt i) (drop (stagedAt i) b)) → orDrop o ≡ changedIn s i k operation x
+      → o ≡ operate operation x (win b (stagedAt i) n) → orDrop o ≡ changedIn s i k operation x
   works-staged l {n} {o} e m q =
-      changed-staged operation x (stagedIn (rowAt s i)) (cached s k) (win b (stagedAt i)) n o e m (staged-stands h i l)
-      (q ∙ ap (operate operation x) (part-win b (stagedAt i) n))
+      changed-staged operation x (stagedIn (rowAt s i)) (cached s k) (win b (stagedAt i)) n o e m (staged-stands h i l) q
 
   pub works-cached : (stagedMark (stagedIn (rowAt s i)) ≡ DROPPED → ⊥) → (stagedMark (stagedIn (rowAt s i)) ≡ VALUED → ⊥)
       → k < keyCount → {n : ℕ} {o : Option Value} → not (isNone (cached s k)) ≡ true → n ≡ valueLength (cached s k)
-      → o ≡ operate operation x (take (valueAt k + n - valueAt k) (drop (valueAt k) b)) → orDrop o ≡ changedIn s i k operation x
+      → o ≡ operate operation x (win b (valueAt k) n) → orDrop o ≡ changedIn s i k operation x
   works-cached p r l {n} {o} e m q =
-      changed-cached operation x (stagedIn (rowAt s i)) (cached s k) (win b (valueAt k)) n o p r e m (value-stands h k l)
-      (q ∙ ap (operate operation x) (part-win b (valueAt k) n))
+      changed-cached operation x (stagedIn (rowAt s i)) (cached s k) (win b (valueAt k)) n o p r e m (value-stands h k l) q

@@ -3,9 +3,10 @@
 ghost use mathlib.Core.Path.{_≡_};
 ghost use mathlib.Core.Bool.{false};
 ghost use mathlib.Core.List.{_++_};
-ghost use Prim.Native.Nat.{_<_};
+ghost use Prim.Native.Nat.{_+_, _≤_, _<_};
 ghost use lib.Dec.{eqb};
 ghost use lib.ListN.{length};
+ghost use Rattle.lent.specs.Bytes.{win};
 ghost use Rattle.lent.specs.Tables.{if_then_else_};
 ghost use Rattle.counts.specs.Count.{readCount, raised, lowered};
 ghost use Rattle.machine.specs.Sizes.{stateSize, keyCount, rowCount, valueMax};
@@ -87,6 +88,21 @@ fn operate(operation: u64, operand: &[u8], value: &[u8], out: &mut [u8]) -> Chan
     }
 }
 
+// On the n bytes of s from a place.
+fn operate_at(
+    s: &[u8],
+    at: usize,
+    n: usize,
+    operation: u64,
+    operand: &[u8],
+    out: &mut [u8],
+) -> Changed
+    requires { ⌜ (at + n ≤ length (now s)) × (length (now out) ≡ valueMax) ⌝ }
+    ensures { λ r. ⌜ Makes (operate operation (now (operand .entry)) (win (now (s .entry)) at n)) r (now (out .exit)) ⌝ }
+{
+    operate(operation, operand, &s[at..at + n], out)
+}
+
 // What is to be staged in a row on key k: the operation on its staged value, or else on the cached one.
 fn work(s: &[u8], row: usize, k: usize, operation: u64, operand: &[u8], out: &mut [u8]) -> Changed
     requires { ⌜ (length (now s) ≡ stateSize) × ((row < rowCount) × ((k < keyCount) × (length (now out) ≡ valueMax))) ⌝ }
@@ -99,14 +115,14 @@ fn work(s: &[u8], row: usize, k: usize, operation: u64, operand: &[u8], out: &mu
     if mark == layout::VALUED {
         let n = rows::staged_length(s, row);
         let at = layout::ROWS_FROM + row * layout::ROW_WIDTH + layout::ROW_VALUE;
-        return operate(operation, operand, &s[at..at + n], out);
+        return operate_at(s, at, n, operation, operand, out);
     }
     if !keys::has_value(s, k) {
         return Changed::Drop;
     }
     let n = keys::value_length(s, k);
     let at = layout::KEYS_FROM + k * layout::KEY_WIDTH + layout::KEY_VALUE;
-    operate(operation, operand, &s[at..at + n], out)
+    operate_at(s, at, n, operation, operand, out)
 }
 
 // It is staged. The value is made in a buffer of its own, since the one that it is made of stands where it goes.

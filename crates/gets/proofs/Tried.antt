@@ -1,6 +1,6 @@
 -- What GET comes to, case by case: each test of its list of refusals decided, in its order, then what the asker sees. A holder of a row
 -- meets no test beyond the session's; anyone else meets the test of the numbers only where a lease would be given.
-use mathlib.Core.Path.{_≡_, refl, ap}
+use mathlib.Core.Path.{_≡_, refl, sym, ap, _∙_}
 use mathlib.Core.Bool.{Bool, true, false, not, _&&_}
 use mathlib.Core.List.{List, [], _∷_}
 use mathlib.Core.Option.{Option, none, some}
@@ -11,19 +11,22 @@ use lib.ListN.{length}
 use borrow.Author.Tests.{le-leb, lt-leb}
 use Rattle.lent.specs.Tables.{if_then_else_}
 use Rattle.lent.proofs.Choices.{zero-one}
-use Rattle.machine.specs.Sizes.{keyCount, numberMax}
+use Rattle.machine.specs.Sizes.{keyCount, rowCount, numberMax}
 use Rattle.machine.specs.Tables.{first}
-use Rattle.machine.specs.State.{noRow, State, freeRow, rowOf, cached}
+use Rattle.machine.specs.State.{State, freeRow, rowPlace, rowOf, rowAt, cached}
 use Rattle.machine.specs.Expiry.{withKeys, withNumbers, setLease}
-use Rattle.machine.specs.Refusals.{Sight as Seen, blocked, cachedSight, sight, wouldLease, notLive, refusals}
+use Rattle.machine.specs.Refusals.{Sight as Seen, blocked, cachedSight, rowSight, sight, wouldLease, notLive, refusals}
 use Rattle.machine.specs.Effects.{Outcome, told, wait, leased, missed, looked as lookedAt, effect}
 use Rattle.machine.specs.Words.{ARG, NO-SESSION, NUMBERS}
 use Rattle.machine.specs.declared.Answer.{Answer}
 use Rattle.machine.specs.declared.Command.the-variants.{Get}
 use Rattle.machine.proofs.FirstRefusal
 use Rattle.layout.specs.Holds.{Holds}
+use Rattle.layout.specs.Search.{found}
+use Rattle.layout.specs.declared.Found.{Found}
 use Rattle.outcome.specs.Outcome.{unless, tried, Gives}
 use Rattle.sights.specs.Sights.{placed}
+use Rattle.sights.proofs.Sights.{row-taken, row-missing, sight-row, sight-cached}
 use Rattle.gets.specs.Got.{asked, absent, looked, others}
 use Rattle.sights.specs.declared.Sight.{Sight}
 
@@ -96,17 +99,18 @@ module _ (s : State) (now n k : ℕ) where
           go false true x y = refl
           go false false x y = refl
 
-      pub got-held : (r : Answer) {b : List ℕ} → Holds b s → freeRow (rowOf s n k) ≡ false → r ≡ asked (placed (sight s n k)) → Gives (tried s now (Get n k) []) r b
-      got-held r {b} g f q = go (sight s n k) refl q
+      -- a row of its own was found, or none
+      pub got-held : {b : List ℕ} {i : ℕ} {r : Answer} → Holds b s → found rowCount (rowPlace s n k) ≡ Found.At i → r ≡ asked (placed (rowSight i k (rowAt s i) (cached s k))) → Gives (tried s now (Get n k) []) r b
+      got-held {b} {i} {r} g f q = go (sight s n k) refl (q ∙ sym (ap (λ (o : Option Seen). asked (placed o)) (sight-row s n k i f)))
         where
           go : (o : Option Seen) → sight s n k ≡ o → r ≡ asked (placed o) → Gives (tried s now (Get n k) []) r b
-          go none p q = rw (got-ask p f) (record { answer = q; holds = g })
+          go none p q = rw (got-ask p (row-taken s n k i (g .fits .rows) f)) (record { answer = q; holds = g })
           go (some x) p q = rw (got-hit x p) (record { answer = q; holds = g })
 
-      pub got-others : rowOf s n k ≡ noRow → sight s n k ≡ cachedSight k (cached s k) → tried s now (Get n k) [] ≡ others s now k
+      pub got-others : {b : List ℕ} → Holds b s → found rowCount (rowPlace s n k) ≡ Found.Nothing → tried s now (Get n k) [] ≡ others s now k
       unfolding others
-      got-others f q = go (cachedSight k (cached s k)) q
+      got-others g f = go (cachedSight k (cached s k)) (sight-cached s n k (g .fits .rows) f)
         where
           go : (o : Option Seen) → sight s n k ≡ o → tried s now (Get n k) [] ≡ looked s now k o
-          go none p = got-absent p (rw f refl)
+          go none p = got-absent p (rw (row-missing s n k (g .fits .rows) f))
           go (some x) p = got-hit x p

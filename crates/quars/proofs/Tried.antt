@@ -12,13 +12,12 @@ use Rattle.lent.specs.Tables.{if_then_else_}
 use Rattle.machine.specs.Sizes.{keyCount, rowCount}
 use Rattle.machine.specs.Tables.{place, first}
 use Rattle.machine.specs.Words.{isKind, ARG, ROOM}
-use Rattle.machine.specs.Decision.{decision, grants}
+use Rattle.machine.specs.Decision.{grants}
 use Rattle.machine.specs.State.{noRow, row, nothing, State, freeRow, kindOf, rowOf}
 use Rattle.machine.specs.Expiry.{withKeys, withRows, setLease}
-use Rattle.machine.specs.Refusals.{heldOn, decide, rowsFull, wouldGrant, refusals}
+use Rattle.machine.specs.Refusals.{decide, rowsFull, wouldGrant, refusals}
 use Rattle.machine.specs.Effects.{told, asks, effect}
 use Rattle.machine.specs.declared.Session.{Session}
-use Rattle.machine.specs.declared.Verdict.{Verdict}
 use Rattle.machine.specs.declared.Answer.{Answer}
 use Rattle.machine.specs.declared.Command.the-variants.{Quar}
 use Rattle.machine.proofs.FirstRefusal
@@ -44,9 +43,9 @@ module _ (s : State) (n k kind : ℕ) where
 
   -- ---- the decision table
 
-  pub ask-by : (v : Verdict) (held : ℕ) → held ≡ heldOn s k → decision held kind ≡ v → ask s n k kind ≡ (if grants v then grant s n k kind else abort s n)
-  unfolding ask decide
-  ask-by v held p e = rw (← p, e)
+  pub ask-by : {t : Bool} → grants (decide s k kind) ≡ t → ask s n k kind ≡ (if t then grant s n k kind else abort s n)
+  unfolding ask
+  ask-by e = rw e
 
   -- ---- what would be granted
 
@@ -54,9 +53,9 @@ module _ (s : State) (n k kind : ℕ) where
   unfolding wouldGrant
   grants-held-not e = rw e
 
-  pub grants-by : eqb (kindOf (rowOf s n k)) kind ≡ false → (v : Verdict) (held : ℕ) → held ≡ heldOn s k → decision held kind ≡ v → wouldGrant s n k kind ≡ grants v
-  unfolding wouldGrant decide
-  grants-by e v held p q = rw (e, ← p, q)
+  pub grants-by : eqb (kindOf (rowOf s n k)) kind ≡ false → wouldGrant s n k kind ≡ grants (decide s k kind)
+  unfolding wouldGrant
+  grants-by e = rw e
 
   -- ---- a row that it has
 

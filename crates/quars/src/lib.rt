@@ -18,7 +18,6 @@ ghost use Rattle.quars.specs.Asking.{grant, abort, ask, hold};
 use askers::Asker;
 use layout::Found;
 use machine::Answer;
-use machine::Verdict;
 
 // Whether session n has a row of this kind on key k.
 fn holds(s: &[u8], n: u32, k: u8, kind: u8) -> bool
@@ -39,13 +38,7 @@ pub fn would_grant(s: &[u8], n: u32, k: u8, kind: u8) -> bool
     if holds(s, n, k, kind) {
         return false;
     }
-    let held = holdings::held(s, k as usize);
-    match decisions::decide(held, kind as usize) {
-        Verdict::Grant => true,
-        Verdict::Void => true,
-        Verdict::BackOff => false,
-        Verdict::Abort => false,
-    }
+    holdings::grants(s, k as usize, kind as usize)
 }
 
 // The lowest free row is taken and the I lease voided; where there is none, the refusal is ROOM.
@@ -74,13 +67,10 @@ fn ask(s: &mut [u8], n: u32, place: usize, k: u8, kind: u8) -> Answer
     requires { ⌜ (length (now s) ≡ stateSize) × ((place < sessionCount) × (kind < askedCount)) ⌝ }
     ensures { λ r. ⌜ ((σ : State) → Holds (now (s .entry)) σ → sound σ ≡ true → numbered n (sessionAt σ place) ≡ true → Gives (ask σ n k kind) r (now (s .exit))) ⌝ }
 {
-    let held = holdings::held(s, k as usize);
-    match decisions::decide(held, kind as usize) {
-        Verdict::Grant => grant(s, n, k, kind),
-        Verdict::Void => grant(s, n, k, kind),
-        Verdict::BackOff => abort(s, n, place),
-        Verdict::Abort => abort(s, n, place),
+    if holdings::grants(s, k as usize, kind as usize) {
+        return grant(s, n, k, kind);
     }
+    abort(s, n, place)
 }
 
 // HELD if session n has such a row already.

@@ -1,8 +1,9 @@
 -- What VALIDATE, DONE and UNDO come to, case by case: the session that the search found is the one that the definitions look up, and
 -- its life and count decide each test.
-use mathlib.Core.Path.{_≡_, refl, sym, ap, _∙_, subst}
-use mathlib.Core.Bool.{Bool, true, false}
-use mathlib.Core.List.{List, [], _∷_}
+use mathlib.Core.Path.{_≡_, refl, sym, ap, _∙_}
+use mathlib.Core.Bool.{Bool, true, false, not, _&&_}
+use mathlib.Core.Option.{none, some}
+use mathlib.Core.List.{[], _∷_}
 use Prim.Native.Nat.{ℕ, _≤_, _<_, _^_}
 use native.Mathlib.Omega.{arith}
 use lib.Dec.{eqb}
@@ -15,7 +16,7 @@ use Rattle.machine.specs.State.{Slot, noSession, session, State, numbered, sess
 use Rattle.machine.specs.Sound.{numberIn, sound}
 use Rattle.machine.specs.Expiry.{withSessions, leave, finish}
 use Rattle.machine.specs.Refusals.{refusals}
-use Rattle.machine.specs.Effects.{told, toCache, effect}
+use Rattle.machine.specs.Effects.{Outcome, told, toCache, effect}
 use Rattle.machine.specs.declared.Session.{Session}
 use Rattle.machine.specs.declared.Validation.{Validation}
 use Rattle.machine.specs.declared.Answer.{Answer}
@@ -23,121 +24,105 @@ use Rattle.machine.specs.declared.Command.the-variants.{Validate, Done, Undo}
 use Rattle.machine.proofs.FirstRefusal
 use Rattle.machine.proofs.SoundFacts as facts
 use Rattle.lent.specs.Tables.{if_then_else_}
-use Rattle.lent.proofs.Choices.{clash}
+use Rattle.lent.proofs.Choices.{clash, zero-one}
 use Rattle.machine.proofs.SoundMeans.{sessions-length}
 use Rattle.layout.specs.Fields.{sessionIn}
-use Rattle.layout.specs.Holds.{Holds}
 use Rattle.layout.specs.Search.{found}
 use Rattle.layout.specs.declared.Found.{Found}
 use Rattle.layout.proofs.Search.{nothing-entry, place-passes}
-use Rattle.outcome.specs.Outcome.{tried}
+use Rattle.outcome.specs.Outcome.{unless, tried}
 
--- ---- the session that was found
+-- ---- the session that was found, as it was loaded
 
-pub record Located (s : State) (n i : ℕ) : Type 0 where
-  pub live : Session
-  pub is : sessionAt s i ≡ session live
-  pub number : live .number ≡ n
-  pub of : sessionOf s n ≡ session live
+-- the session of number n is x, at place i
+pub record Located (s : State) (n i : ℕ) (x : Session) : Type 0 where
+  pub place : sessionPlace s n ≡ i
+  pub is : sessionAt s i ≡ session x
+  pub number : x .number ≡ n
+  pub of : sessionOf s n ≡ session x
 
-pub located : (s : State) (n i : ℕ) → sound s ≡ true → sessionPlace s n ≡ i → i < sessionCount → Located s n i
-located s n i ok p l = go (sessionAt s i) refl (rw (← p) (place-passes (numbered n) noSession (s .sessions) (rw (sessions-length s ok, p) l)))
+pub located : (s : State) (n : ℕ) {i : ℕ} {x : Session} → sound s ≡ true → x ≡ sessionIn (sessionAt s i) → (sessionPlace s n ≡ i) × (i < sessionCount) → Located s n i x
+located s n {i} {x} ok d (p, l) = go (sessionAt s i) refl (rw (← p) (place-passes (numbered n) noSession (s .sessions) (rw (sessions-length s ok, p) l)))
   where
-    go : (e : Slot) → sessionAt s i ≡ e → numbered n (sessionAt s i) ≡ true → Located s n i
+    go : (e : Slot) → sessionAt s i ≡ e → numbered n (sessionAt s i) ≡ true → Located s n i x
     go noSession q h = clash false (rw q at h) refl
-    go (session x) q h = record { live = x; is = q; number = eqb-true (x .number) n (rw q at h); of = ap (sessionAt s) p ∙ q }
+    go (session y) q h =
+        let f : x ≡ y = d ∙ ap sessionIn q in
+        rw f (record { place = p; is = q; number = eqb-true (y .number) n (rw q at h); of = ap (sessionAt s) p ∙ q })
 
 pub unlocated : (s : State) (n : ℕ) → sound s ≡ true → found sessionCount (sessionPlace s n) ≡ Found.Nothing → sessionOf s n ≡ noSession
 unlocated s n ok e = nothing-entry (numbered n) noSession (s .sessions) sessionCount (sessions-length s ok) e
 
--- 0 stands for the time, which none of the three looks at
-module _ (s : State) (n : ℕ) where
-  -- ---- no session
-  pub undo-none : sessionOf s n ≡ noSession → tried s 0 (Undo n) [] ≡ told (Answer.Refused NO-SESSION) s
-  unfolding tried
-  undo-none e = rw (FirstRefusal.undo-not-live s n [] e)
-
-  pub done-none : sessionOf s n ≡ noSession → tried s 0 (Done n) [] ≡ told (Answer.Refused NO-SESSION) s
-  unfolding tried
-  done-none e = rw (FirstRefusal.done-not-live s n [] e)
-
-  module _ (m : ℕ) where
-    pub validate-far : stepMax < m → tried s 0 (Validate n m) [] ≡ told (Answer.Refused ARG) s
-    unfolding tried
-    validate-far h = rw (FirstRefusal.validate-steps s n m [] h)
-
-    pub validate-none : m ≤ stepMax → sessionOf s n ≡ noSession → tried s 0 (Validate n m) [] ≡ told (Answer.Refused NO-SESSION) s
-    unfolding tried
-    validate-none h e = rw (FirstRefusal.validate-not-live s n m [] h e)
-
-  -- ---- the session x
-  module _ (x : Session) (e : sessionOf s n ≡ session x) where
-    pub undo-is : tried s 0 (Undo n) [] ≡ told Answer.Undone (leave (n ∷ []) s)
-    unfolding tried effect
-    undo-is = rw (FirstRefusal.undo-none s n [] x e)
-
-    pub done-open : isSealed x ≡ false → tried s 0 (Done n) [] ≡ told (Answer.Refused NOT-SEALED) s
-    unfolding tried
-    done-open q = rw (FirstRefusal.done-open s n [] x e q)
-
-    pub done-is : isSealed x ≡ true → tried s 0 (Done n) [] ≡ told Answer.Done (finish (n ∷ []) toCache s)
-    unfolding tried effect
-    done-is q = rw (FirstRefusal.done-none s n [] x e q)
-
-    module _ (m : ℕ) (h : m ≤ stepMax) where
-      pub validate-seals : eqb m (x .count) ≡ true → tried s 0 (Validate n m) [] ≡ told Answer.Validated (withSessions s (set (s .sessions) (sessionPlace s n) (session (sealed x))))
-      unfolding tried refusals effect
-      validate-seals q = go (isSealed x) refl
-        where
-          go : (t : Bool) → isSealed x ≡ t → tried s 0 (Validate n m) [] ≡ told Answer.Validated (withSessions s (set (s .sessions) (sessionPlace s n) (session (sealed x))))
-          go true p = rw (le-ltb stepMax m h, e, p, q)
-          go false p = rw (le-ltb stepMax m h, e, p, q)
-
-      pub validate-loses : eqb m (x .count) ≡ false → isSealed x ≡ false → tried s 0 (Validate n m) [] ≡ told Answer.Lost (leave (n ∷ []) s)
-      unfolding tried refusals effect
-      validate-loses q p = rw (le-ltb stepMax m h, e, p, q)
-
-      pub validate-clashes : eqb m (x .count) ≡ false → isSealed x ≡ true → tried s 0 (Validate n m) [] ≡ told (Answer.Refused SEALED) s
-      unfolding tried refusals effect
-      validate-clashes q p = rw (le-ltb stepMax m h, e, p, q)
-
--- ---- the session that was found, as the code has it
-
-module _ {s : State} {n i : ℕ} (w : Located s n i) where
-  -- its number
+module _ {s : State} {n i : ℕ} {x : Session} (w : Located s n i x) where
   pub number-same : {m : ℕ} → m ≡ numberIn (sessionAt s i) → m ≡ n
   number-same e = e ∙ ap numberIn (w .is) ∙ w .number
 
   pub number-here : {m : ℕ} → m ≡ n → numbered m (sessionAt s i) ≡ true
-  number-here {m} e = rw (w .is) (eq-eqb (w .live .number) m (w .number ∙ sym e))
+  number-here {m} e = rw (w .is) (eq-eqb (x .number) m (w .number ∙ sym e))
 
-  -- its record
-  pub live-is : {x : Session} → x ≡ sessionIn (sessionAt s i) → x ≡ w .live
-  live-is e = e ∙ ap sessionIn (w .is)
+-- ---- what each comes to; 0 stands for the time, which none of the three looks at
 
-  module _ (ok : sound s ≡ true) where
-    pub live-number : 0 < w .live .number
-    live-number = facts.session-number s ok i (w .is) .0
+-- by what VALIDATE found of the record at place i
+abbrev pub validated : State → ℕ → ℕ → Validation → Outcome
+validated s n i (Validation.Seals y) = told Answer.Validated (withSessions s (set (s .sessions) i (session y)))
+validated s n i Validation.Loses = told Answer.Lost (leave (n ∷ []) s)
+validated s n i Validation.Clashes = told (Answer.Refused SEALED) s
 
-    pub live-count : w .live .count < 2 ^ 16
-    live-count = let h = facts.session-count s ok i (w .is) in omega arith
+module _ (s : State) (n : ℕ) where
+  pub validate-far : (m : ℕ) → stepMax < m → tried s 0 (Validate n m) [] ≡ told (Answer.Refused ARG) s
+  unfolding tried
+  validate-far m h = rw (FirstRefusal.validate-steps s n m [] h)
 
-  -- sealed, where the code wrote it
-  pub sealed-held : {b : List ℕ} {y : Session} → y ≡ sealed (w .live) → sessionPlace s n ≡ i → Holds b (withSessions s (set (s .sessions) i (session y)))
-      → Holds b (withSessions s (set (s .sessions) (sessionPlace s n) (session (sealed (w .live)))))
-  sealed-held e p q = rw (p, ← e) q
+  -- the search r told of no session
+  module _ (ok : sound s ≡ true) {r : Found} (f : r ≡ found sessionCount (sessionPlace s n)) (q : r ≡ Found.Nothing) where
+    nobody : sessionOf s n ≡ noSession
+    nobody = unlocated s n ok (sym f ∙ q)
 
--- what VALIDATE found of a record
-module _ (x : Session) (m : ℕ) where
-  abbrev pub Means : Validation → Type 0
-  Means (Validation.Seals y) = (eqb m (x .count) ≡ true) × (y ≡ sealed x)
-  Means Validation.Loses = (eqb m (x .count) ≡ false) × (isSealed x ≡ false)
-  Means Validation.Clashes = (eqb m (x .count) ≡ false) × (isSealed x ≡ true)
+    pub undo-none : tried s 0 (Undo n) [] ≡ told (Answer.Refused NO-SESSION) s
+    unfolding tried
+    undo-none = rw (FirstRefusal.undo-not-live s n [] nobody)
 
-  pub validation-means : {v : Validation} → validationOf x m ≡ v → Means v
-  validation-means e = subst Means e (go (eqb m (x .count)) (isSealed x) refl refl)
-    where
-      go : (t u : Bool) → eqb m (x .count) ≡ t → isSealed x ≡ u → Means (if t then Validation.Seals (sealed x) else if u then Validation.Clashes else Validation.Loses)
-      go true u p q = (p, refl)
-      go false true p q = (p, q)
-      go false false p q = (p, q)
+    pub done-none : tried s 0 (Done n) [] ≡ told (Answer.Refused NO-SESSION) s
+    unfolding tried
+    done-none = rw (FirstRefusal.done-not-live s n [] nobody)
+
+    pub validate-none : (m : ℕ) → m ≤ stepMax → tried s 0 (Validate n m) [] ≡ told (Answer.Refused NO-SESSION) s
+    unfolding tried
+    validate-none m h = rw (FirstRefusal.validate-not-live s n m [] h nobody)
+
+  -- the session x
+  module _ {i : ℕ} {x : Session} (w : Located s n i x) where
+    pub undo-is : tried s 0 (Undo n) [] ≡ told Answer.Undone (leave (n ∷ []) s)
+    unfolding tried effect
+    undo-is = rw (FirstRefusal.undo-none s n [] x (w .of))
+
+    pub done-open : isSealed x ≡ false → tried s 0 (Done n) [] ≡ told (Answer.Refused NOT-SEALED) s
+    unfolding tried
+    done-open q = rw (FirstRefusal.done-open s n [] x (w .of) q)
+
+    pub done-is : isSealed x ≡ true → tried s 0 (Done n) [] ≡ told Answer.Done (finish (n ∷ []) toCache s)
+    unfolding tried effect
+    done-is q = rw (FirstRefusal.done-none s n [] x (w .of) q)
+
+    pub validate-by : (m : ℕ) {v : Validation} → m ≤ stepMax → validationOf x m ≡ v → tried s 0 (Validate n m) [] ≡ validated s n i v
+    unfolding tried refusals effect
+    validate-by m h e = rw (le-ltb stepMax m h, w .of, w .place, ← e) (go (eqb m (x .count)) (isSealed x))
+      where
+        go : (t u : Bool) → unless (if u && not t then some SEALED else none) s (if t then validated s n i (Validation.Seals (sealed x)) else validated s n i Validation.Loses)
+            ≡ validated s n i (if t then Validation.Seals (sealed x) else if u then Validation.Clashes else Validation.Loses)
+        go true true = refl
+        go true false = refl
+        go false true = refl
+        go false false = refl
+
+    -- sealed, its record fits as it did
+    pub seals-fit : sound s ≡ true → (m : ℕ) {y : Session} → validationOf x m ≡ Validation.Seals y → (0 < y .number) × (y .count < 2 ^ 16)
+    seals-fit ok m {y} e = go (eqb m (x .count)) (isSealed x) e
+      where
+        fits : (0 < x .number) × (x .count < 2 ^ 16)
+        fits = let h = facts.session-count s ok i (w .is) in (facts.session-number s ok i (w .is) .0, omega arith)
+
+        go : (t u : Bool) → (if t then Validation.Seals (sealed x) else if u then Validation.Clashes else Validation.Loses) ≡ Validation.Seals y → (0 < y .number) × (y .count < 2 ^ 16)
+        go true u q = let f : sealed x ≡ y = cc in rw (← f) fits
+        go false true q = zero-one cc
+        go false false q = zero-one cc

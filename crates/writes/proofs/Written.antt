@@ -1,21 +1,20 @@
 -- Rule 2: the session that a search found is the one that the definitions look up; its life and its row on the key decide, and its
 -- place is where it is marked. What is said of the line is that, and the register's note.
-use Prim.Native.Nat.{ℕ, _<_}
+use Prim.Native.Nat.{ℕ}
 use mathlib.Core.Path.{_≡_, refl, sym, ap, _∙_}
-use mathlib.Core.Bool.{true, false}
+use mathlib.Core.Bool.{true, false, not}
 use mathlib.Core.List.{List}
 use native.Mathlib.Omega.{arith}
 use lib.Dec.{ltb}
+use lib.ListN.{length}
 use borrow.Author.Tests.{le-ltb, lt-ltb}
 use Rattle.lent.specs.Tables.{if_then_else_}
 use Rattle.machine.specs.Sizes.{sessionCount, rowCount}
 use Rattle.machine.specs.Session.{isSealed}
-use Rattle.machine.specs.State.{Value, State, sessionPlace, sessionAt, rowPlace}
+use Rattle.machine.specs.State.{Value, State, freeRow, sessionPlace, rowPlace, rowOf}
 use Rattle.machine.specs.Sound.{sound}
 use Rattle.machine.specs.Refusals.{sealedIn}
 use Rattle.machine.specs.declared.Session.{Session}
-use Rattle.machine.proofs.SoundMeans.{rows-length}
-use Rattle.layout.specs.Fields.{sessionIn}
 use Rattle.layout.specs.Layout.{decode}
 use Rattle.layout.specs.WellFormed.{wellFormed}
 use Rattle.layout.specs.Holds.{Holds}
@@ -23,7 +22,7 @@ use Rattle.layout.specs.Search.{found}
 use Rattle.layout.specs.declared.Found.{Found}
 use Rattle.layout.proofs.Formed.{formed, holds-decoded}
 use Rattle.layout.proofs.Search.{found-at, found-nothing}
-use Rattle.turns.proofs.Tried.{located, unlocated}
+use Rattle.turns.proofs.Tried.{Located, unlocated}
 use Rattle.sights.proofs.Sights.{row-missing, row-taken}
 use Rattle.book.specs.Book.{withRegistered, withMark}
 use Rattle.replies.specs.Replies.{WRITTEN}
@@ -33,29 +32,27 @@ use Rattle.writes.specs.Writes.{mayWrite, marked, writes, Writes}
 
 -- ---- rule 2, of the session at place i, with its record as it was loaded
 
-module _ (s : State) (ok : sound s ≡ true) (b b′ : List ℕ) (n k i : ℕ) (p : sessionPlace s n ≡ i) (l : i < sessionCount) (x : Session) (e : x ≡ sessionIn (sessionAt s i)) (f : b′ ≡ withMark b i (x .number)) where
-  loaded : x ≡ located s n i ok p l .live
-  loaded = e ∙ ap sessionIn (located s n i ok p l .is)
+-- by what the search for its row found
+abbrev pub ruleBy : Found → ℕ
+ruleBy (Found.At j) = 0
+ruleBy Found.Nothing = 2
 
-  number-loaded : x .number ≡ n
-  number-loaded = ap (λ (y : Session). y .number) loaded ∙ located s n i ok p l .number
-
+module _ {s : State} {n i : ℕ} {x : Session} (w : Located s n i x) (k : ℕ) (b : List ℕ) {b′ : List ℕ} (f : b′ ≡ withMark b i (x .number)) where
   sealed-loaded : sealedIn s n ≡ isSealed x
-  sealed-loaded = rw (located s n i ok p l .of) (ap isSealed (sym loaded))
+  sealed-loaded = rw (w .of)
 
   noted-here : b′ ≡ withMark b i n
-  noted-here = f ∙ ap (withMark b i) number-loaded
+  noted-here = f ∙ ap (withMark b i) (w .number)
 
   pub written-open : isSealed x ≡ false → Writes s b n k i 2 b′
   written-open q = record { rule = rw (sealed-loaded ∙ q); book = noted-here }
 
-  pub written-held : isSealed x ≡ true → (j : ℕ) → found rowCount (rowPlace s (x .number) k) ≡ Found.At j → Writes s b n k i 0 b′
-  written-held q j g =
-      record { rule = rw (sealed-loaded ∙ q, row-taken s n k j (rows-length s ok) (rw number-loaded at g)); book = noted-here }
-
-  pub written-rowless : isSealed x ≡ true → found rowCount (rowPlace s (x .number) k) ≡ Found.Nothing → Writes s b n k i 2 b′
-  written-rowless q g =
-      record { rule = rw (sealed-loaded ∙ q, row-missing s n k (rows-length s ok) (rw number-loaded at g)); book = noted-here }
+  pub written-by : length (s .rows) ≡ rowCount → isSealed x ≡ true → {r : Found} → found rowCount (rowPlace s (x .number) k) ≡ r → Writes s b n k i (ruleBy r) b′
+  written-by l q g = record { rule = rw (sealed-loaded ∙ q) (go _ (rw (w .number) at g)); book = noted-here }
+    where
+      go : (r : Found) → found rowCount (rowPlace s n k) ≡ r → ruleBy r ≡ (if not (freeRow (rowOf s n k)) then 0 else 2)
+      go (Found.At j) e = rw (row-taken s n k j l e)
+      go Found.Nothing e = rw (row-missing s n k l e)
 
 -- ---- on the cache's bytes
 

@@ -24,18 +24,12 @@ is-sealed-requires : tie.Need-is-sealed-requires
 is-sealed-requires c κs = search needs
 
 returns-2 : tie.Need-returns-2
-returns-2 c = let is-sealed = c .before .is-sealed in
-    let load = c .before .before .load in
-    let place = c .before .before .before .before .place in
-    let find = c .before .before .before .before .before .before .find in
-    (λ σ h. sym (asker-at σ (h .fits .sessions) _ _ (sym (find .ensures .0 σ h) ∙ place .given .1) ∙ rw (← load .ensures σ h, ← is-sealed .ensures, c .if1 .taken)), tt)
+returns-2 c = (λ σ h. sym (asker-at σ (h .fits .sessions) _ (sym (c .before .before .before .before .before .before .find .ensures .0 σ h) ∙ c .before .before .before .before .place .given .1) (c .before .before .load .ensures σ h) (sym (c .before .is-sealed .ensures) ∙ c .if1 .taken)), tt)
 
 returns-3 : tie.Need-returns-3
-returns-3 c = let is-sealed = c .before .is-sealed in
-    let load = c .before .before .load in
-    let place = c .before .before .before .before .place in
+returns-3 c = let place = c .before .before .before .before .place in
     let find = c .before .before .before .before .before .before .find in
-    (λ σ h. sym (asker-at σ (h .fits .sessions) _ _ (sym (find .ensures .0 σ h) ∙ place .given .1) ∙ rw (← load .ensures σ h, ← is-sealed .ensures, c .if1 .left)), rw (place .given .1) at (find .ensures .1))
+    (λ σ h. sym (asker-at σ (h .fits .sessions) _ (sym (find .ensures .0 σ h) ∙ place .given .1) (c .before .before .load .ensures σ h) (sym (c .before .is-sealed .ensures) ∙ c .if1 .left)), rw (place .given .1) at (find .ensures .1))
 
 pub find-spec : {M : Type 1} → statement M
 find-spec =

@@ -4,7 +4,7 @@ use borrow.Author.Needs.{needs}
 use Rattle.lent.proofs.Choices.{test-failed, test-passed}
 use Rattle.stages.proofs.Staged.{staging-at}
 use Rattle.outcome.proofs.Told.{gives}
-use Rattle.deltas.proofs.Tried.{delta-key, delta-operation, delta-step, delta-long, delta-found, delta-changes}
+use Rattle.deltas.proofs.Tried.{Right, delta-key, delta-operation, delta-step, delta-long, delta-found, delta-changes}
 use Rattle.deltas.proofs.delta.Statement.{statement}
 use Rattle.deltas.proofs.delta.Tie as tie
 
@@ -51,48 +51,30 @@ change-requires c κs = let place = c .before .before .before .before .before .b
     let if1 = c .before .before .before .before .before .before .before .before .before .before .before .before .before .before .if1 in
     (search needs, (rw (place .given .1) at (find .ensures .1) .1, if1 .left))
 
+-- the tests before the search are passed
+right : (c : tie.After-find) → Right (c .before .before .before .before .before .before .before .before .before .args .step) (c .before .before .before .before .before .before .before .before .before .args .key) (c .before .before .before .before .before .before .before .before .before .args .operation) (c .before .before .before .before .before .before .before .before .before .args .operand .now)
+right c = record { key = c .before .before .before .before .before .before .if1 .left; operation = test-passed (c .before .before .before .before .before .is-operation .ensures) (c .before .before .before .before .if2 .left); step = c .before .before .before .if3 .left; short = c .before .before .if4 .left }
+
 same-length : tie.Need-same-length
 same-length c = search needs
 
 returns-5 : tie.Need-returns-5
-returns-5 c = let e = c .before .e in
-    let find = c .before .before .before .find in
-    let if4 = c .before .before .before .before .before .if4 in
-    let if3 = c .before .before .before .before .before .before .if3 in
-    let if2 = c .before .before .before .before .before .before .before .if2 in
-    let is-operation = c .before .before .before .before .before .before .before .before .is-operation in
-    let if1 = c .before .before .before .before .before .before .before .before .before .if1 in
-    λ σ h ok. gives (delta-found _ _ _ _ _ _ (if1 .left) (test-passed (is-operation .ensures) (if2 .left)) (if3 .left) (if4 .left) (sym (find .ensures .0 σ h) ∙ e .given .1)) h
+returns-5 c = λ σ h ok. gives (delta-found _ _ _ _ _ _ (right (c .before .before .before)) (sym (c .before .before .before .find .ensures .0 σ h) ∙ c .before .e .given .1)) h
 
 same-length-2 : tie.Need-same-length-2
 same-length-2 c = search needs
 
 returns-6 : tie.Need-returns-6
-returns-6 c = let find = c .before .before .find in
-    let if4 = c .before .before .before .before .if4 in
-    let if3 = c .before .before .before .before .before .if3 in
-    let if2 = c .before .before .before .before .before .before .if2 in
-    let is-operation = c .before .before .before .before .before .before .before .is-operation in
-    let if1 = c .before .before .before .before .before .before .before .before .if1 in
-    λ σ h ok. gives (delta-found _ _ _ _ _ _ (if1 .left) (test-passed (is-operation .ensures) (if2 .left)) (if3 .left) (if4 .left) (sym (find .ensures .0 σ h) ∙ c .enum-told .given .1)) h
+returns-6 c = λ σ h ok. gives (delta-found _ _ _ _ _ _ (right (c .before .before)) (sym (c .before .before .find .ensures .0 σ h) ∙ c .enum-told .given .1)) h
 
 same-length-3 : tie.Need-same-length-3
 same-length-3 c = search needs
 
 returns-7 : tie.Need-returns-7
-returns-7 c = let change = c .before .before .change in
-    let store = c .before .before .before .before .before .before .store in
-    let place = c .before .before .before .before .before .before .before .before .before .place in
-    let find = c .before .before .before .before .before .before .before .before .before .before .before .find in
-    let if4 = c .before .before .before .before .before .before .before .before .before .before .before .before .before .if4 in
-    let if3 = c .before .before .before .before .before .before .before .before .before .before .before .before .before .before .if3 in
-    let if2 = c .before .before .before .before .before .before .before .before .before .before .before .before .before .before .before .if2 in
-    let is-operation = c .before .before .before .before .before .before .before .before .before .before .before .before .before .before .before .before .is-operation in
-    let if1 = c .before .before .before .before .before .before .before .before .before .before .before .before .before .before .before .before .before .if1 in
-    λ σ h ok.
-    let q = sym (find .ensures .0 σ h) ∙ place .given .1 in
+returns-7 c = λ σ h ok.
+    let q = sym (c .before .before .before .before .before .before .before .before .before .before .before .find .ensures .0 σ h) ∙ c .before .before .before .before .before .before .before .before .before .place .given .1 in
     let a = staging-at σ _ _ _ _ ok _ _ _ q in
-    rw (delta-changes _ _ _ _ _ _ (if1 .left) (test-passed (is-operation .ensures) (if2 .left)) (if3 .left) _ _ _ (if4 .left) q (a .row)) (change .ensures _ (store .ensures σ h (a .number) (a .count)) (a .taken))
+    rw (delta-changes _ _ _ _ _ _ (right (c .before .before .before .before .before .before .before .before .before .before .before)) _ _ _ q (a .row)) (c .before .before .change .ensures _ (c .before .before .before .before .before .before .store .ensures σ h (a .number) (a .count)) (a .taken))
 
 pub delta-spec : {M : Type 1} → statement M
 delta-spec =

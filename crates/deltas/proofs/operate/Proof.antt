@@ -17,19 +17,13 @@ same-length : tie.Need-same-length
 same-length c = search needs
 
 returns : tie.Need-returns
-returns c = let join = c .before .before .join in
-    let match = c .before .before .before .before .match in
-    let args = c .before .before .before .before .before .before .before .before .args in
-    rw (match .keys1, operate-append (args .operand .now) (args .value .now)) (join .ensures)
+returns c = rw (c .before .before .before .before .match .keys1, operate-append) (c .before .before .join .ensures)
 
 same-length-2 : tie.Need-same-length-2
 same-length-2 c = search needs
 
 returns-2 : tie.Need-returns-2
-returns-2 c = let join2 = c .before .before .join2 in
-    let match = c .before .before .before .before .match in
-    let args = c .before .before .before .before .before .before .before .before .args in
-    rw (match .keys2, operate-prepend (args .operand .now) (args .value .now)) (join2 .ensures)
+returns-2 c = rw (c .before .before .before .before .match .keys2, operate-prepend) (c .before .before .join2 .ensures)
 
 same-length-3 : tie.Need-same-length-3
 same-length-3 c = search needs

@@ -11,9 +11,7 @@ mark-requires : tie.Need-mark-requires
 mark-requires c κs = search needs
 
 returns : tie.Need-returns
-returns c = let args = c .before .before .before .before .before .args in
-    let mark = c .before .mark in
-    (λ σ h. changed-drop (args .operation) (args .operand .now) (stagedIn (rowAt σ (args .row))) (cached σ (args .k)) (sym (mark .ensures σ h) ∙ c .if1 .taken), tt)
+returns c = (λ σ h. changed-drop _ _ (stagedIn (rowAt σ _)) (cached σ _) (sym (c .before .mark .ensures σ h) ∙ c .if1 .taken), tt)
 
 staged-length-requires : tie.Need-staged-length-requires
 staged-length-requires c κs = search needs
@@ -27,34 +25,17 @@ add-at c = search needs
 add-at-2 : tie.Need-add-at-2
 add-at-2 c = search needs
 
-add-operate : tie.Need-add-operate
-add-operate c = search needs
-
-sub-operate : tie.Need-sub-operate
-sub-operate c = search needs
-
-part-operate-start : tie.Need-part-operate-start
-part-operate-start c = search needs
-
-part-operate-end : tie.Need-part-operate-end
-part-operate-end c = search needs
-
-operate-requires : tie.Need-operate-requires
-operate-requires c κs = search needs
+operate-at-requires : tie.Need-operate-at-requires
+operate-at-requires c κs = search needs
 
 same-length : tie.Need-same-length
 same-length c = search needs
 
 returns-2 : tie.Need-returns-2
-returns-2 c = let operate = c .before .before .operate in
-    let staged-length = c .before .before .before .before .before .staged-length in
-    let if2 = c .before .before .before .before .before .before .if2 in
-    let mark = c .before .before .before .before .before .before .before .before .mark in
-    let args = c .before .before .before .before .before .before .before .before .before .before .before .before .args in
-    let pre = c .before .before .before .before .before .before .before .before .before .before .before .before .pre in (
-      λ σ h. works-staged h (args .row) (args .k) (args .operation) (args .operand .now) (pre .1 .0)
-          (sym (mark .ensures σ h) ∙ if2 .taken) (staged-length .ensures .0 σ h) (operate .ensures .value),
-      operate .ensures .short,
+returns-2 c = let operate-at = c .before .before .operate-at in
+    let start = c .before .before .before .before .before .before .before .before .before .before .before in (
+      λ σ h. works-staged h (start .args .row) _ _ _ (start .pre .1 .0) (sym (c .before .before .before .before .before .before .before .mark .ensures σ h) ∙ c .before .before .before .before .before .if2 .taken) (c .before .before .before .before .staged-length .ensures .0 σ h) (operate-at .ensures .value),
+      operate-at .ensures .short,
     )
 
 has-value-requires : tie.Need-has-value-requires
@@ -83,38 +64,20 @@ add-at-3 c = search needs
 add-at-4 : tie.Need-add-at-4
 add-at-4 c = search needs
 
-add-operate-2 : tie.Need-add-operate-2
-add-operate-2 c = search needs
-
-sub-operate-2 : tie.Need-sub-operate-2
-sub-operate-2 c = search needs
-
-part-operate-start-2 : tie.Need-part-operate-start-2
-part-operate-start-2 c = search needs
-
-part-operate-end-2 : tie.Need-part-operate-end-2
-part-operate-end-2 c = search needs
-
-operate-requires-2 : tie.Need-operate-requires-2
-operate-requires-2 c κs = search needs
+operate-at-requires-2 : tie.Need-operate-at-requires-2
+operate-at-requires-2 c κs = search needs
 
 same-length-2 : tie.Need-same-length-2
 same-length-2 c = search needs
 
 returns-4 : tie.Need-returns-4
-returns-4 c = let operate2 = c .before .before .operate2 in
-    let value-length = c .before .before .before .before .before .value-length in
-    let if3 = c .before .before .before .before .before .before .if3 in
-    let has-value = c .before .before .before .before .before .before .before .has-value in
-    let if2 = c .before .before .before .before .before .before .before .before .if2 in
-    let if1 = c .before .before .before .before .before .before .before .before .before .if1 in
-    let mark = c .before .before .before .before .before .before .before .before .before .before .mark in
-    let args = c .before .before .before .before .before .before .before .before .before .before .before .before .before .before .args in
-    let pre = c .before .before .before .before .before .before .before .before .before .before .before .before .before .before .pre in (
-      λ σ h. works-cached h (args .row) (args .k) (args .operation) (args .operand .now)
-          (λ q. if1 .left (mark .ensures σ h ∙ q)) (λ q. if2 .left (mark .ensures σ h ∙ q)) (pre .1 .1 .0)
-          (test-passed (has-value .ensures σ h) (if3 .left)) (value-length .ensures .0 σ h) (operate2 .ensures .value),
-      operate2 .ensures .short,
+returns-4 c = let operate-at2 = c .before .before .operate-at2 in
+    let mark = c .before .before .before .before .before .before .before .before .before .mark in
+    let start = c .before .before .before .before .before .before .before .before .before .before .before .before .before in (
+      λ σ h. works-cached h (start .args .row) (start .args .k) _ _
+          (λ q. c .before .before .before .before .before .before .before .before .if1 .left (mark .ensures σ h ∙ q)) (λ q. c .before .before .before .before .before .before .before .if2 .left (mark .ensures σ h ∙ q)) (start .pre .1 .1 .0)
+          (test-passed (c .before .before .before .before .before .before .has-value .ensures σ h) (c .before .before .before .before .before .if3 .left)) (c .before .before .before .before .value-length .ensures .0 σ h) (operate-at2 .ensures .value),
+      operate-at2 .ensures .short,
     )
 
 pub work-spec : {M : Type 1} → statement M
@@ -127,11 +90,7 @@ work-spec =
     mul-at
     add-at
     add-at-2
-    add-operate
-    sub-operate
-    part-operate-start
-    part-operate-end
-    operate-requires
+    operate-at-requires
     same-length
     returns-2
     has-value-requires
@@ -140,10 +99,6 @@ work-spec =
     mul-at-2
     add-at-3
     add-at-4
-    add-operate-2
-    sub-operate-2
-    part-operate-start-2
-    part-operate-end-2
-    operate-requires-2
+    operate-at-requires-2
     same-length-2
     returns-4)

@@ -3,9 +3,7 @@ use Rattle.machine.specs.Sizes.{rowCount}
 use mathlib.Core.Path.{sym, ap, _∙_}
 use native.Mathlib.Omega.{arith}
 use Prim.Native.Nat.{_<_}
-use Rattle.sights.specs.Sights.{placed}
 use Rattle.gets.specs.Got.{asked}
-use Rattle.sights.proofs.Sights.{row-missing, row-taken, sight-row, sight-cached}
 use Rattle.gets.proofs.Tried.{got-key, got-unknown, got-held, got-others}
 use borrow.Author.Needs.{needs}
 use Rattle.outcome.proofs.Told.{gives}
@@ -51,35 +49,15 @@ same-length-2 : tie.Need-same-length-2
 same-length-2 c = search needs
 
 returns-3 : tie.Need-returns-3
-returns-3 c = let row-sight = c .before .row-sight in
-    let row = c .before .before .before .before .row in
-    let find = c .before .before .before .before .before .before .find in
-    let if2 = c .before .before .before .before .before .before .before .before .if2 in
-    let is-unknown = c .before .before .before .before .before .before .before .before .before .is-unknown in
-    let if1 = c .before .before .before .before .before .before .before .before .before .before .before .if1 in
-    let args = c .before .before .before .before .before .before .before .before .before .before .before .before .before .args in
-    λ σ h e. let i = row .given .0 .0 in
-    let f = sym (find .ensures .0 σ h) ∙ row .given .1 in
-    got-held σ (args .time) (args .session) (args .key) (if1 .left) (sym (is-unknown .ensures σ h) ∙ if2 .left) _ h
-    (row-taken σ (args .session) (args .key) i (h .fits .rows) f)
-    (c .asked .ensures ∙ ap asked (row-sight .ensures .0 σ h ∙ sym (ap placed (sight-row σ (args .session) (args .key) i f))))
+returns-3 c = λ σ h e. got-held σ _ _ _ (c .before .before .before .before .before .before .before .before .before .before .before .if1 .left) (sym (c .before .before .before .before .before .before .before .before .before .is-unknown .ensures σ h) ∙ c .before .before .before .before .before .before .before .before .if2 .left) h
+    (sym (c .before .before .before .before .before .before .find .ensures .0 σ h) ∙ c .before .before .before .before .row .given .1) (c .asked .ensures ∙ ap asked (c .before .row-sight .ensures .0 σ h))
 
 same-length-3 : tie.Need-same-length-3
 same-length-3 c = search needs
 
 returns-4 : tie.Need-returns-4
-returns-4 c = let others = c .before .before .others in
-    let enum-told = c .before .before .before .before .enum-told in
-    let find = c .before .before .before .before .before .before .find in
-    let if2 = c .before .before .before .before .before .before .before .before .if2 in
-    let is-unknown = c .before .before .before .before .before .before .before .before .before .is-unknown in
-    let if1 = c .before .before .before .before .before .before .before .before .before .before .before .if1 in
-    let args = c .before .before .before .before .before .before .before .before .before .before .before .before .before .args in
-    λ σ h e. let f = sym (find .ensures .0 σ h) ∙ enum-told .given .1 in
-    rw (got-others σ (args .time) (args .session) (args .key) (if1 .left) (sym (is-unknown .ensures σ h) ∙ if2 .left)
-    (row-missing σ (args .session) (args .key) (h .fits .rows) f)
-    (sight-cached σ (args .session) (args .key) (h .fits .rows) f))
-    (others .ensures σ h e)
+returns-4 c = λ σ h e. rw (got-others σ _ _ _ (c .before .before .before .before .before .before .before .before .before .before .before .if1 .left) (sym (c .before .before .before .before .before .before .before .before .before .is-unknown .ensures σ h) ∙ c .before .before .before .before .before .before .before .before .if2 .left) h
+    (sym (c .before .before .before .before .before .before .find .ensures .0 σ h) ∙ c .before .before .before .before .enum-told .given .1)) (c .before .before .others .ensures σ h e)
 
 pub get-spec : {M : Type 1} → statement M
 get-spec =

@@ -38,38 +38,22 @@ same-length : tie.Need-same-length
 same-length c = search needs
 
 returns-4 : tie.Need-returns-4
-returns-4 c = let e = c .before .e in
-    let find = c .before .before .before .find in
-    let if3 = c .before .before .before .before .before .if3 in
-    let if2 = c .before .before .before .before .before .before .if2 in
-    let if1 = c .before .before .before .before .before .before .before .if1 in
-    λ σ h ok. gives (stage-found _ _ _ _ _ (if1 .left) (if2 .left) (if3 .left) (sym (find .ensures .0 σ h) ∙ e .given .1)) h
+returns-4 c = λ σ h ok. gives (stage-found _ _ _ _ _ (c .before .before .before .before .before .before .before .if1 .left) (c .before .before .before .before .before .before .if2 .left) (c .before .before .before .before .before .if3 .left) (sym (c .before .before .before .find .ensures .0 σ h) ∙ c .before .e .given .1)) h
 
 same-length-2 : tie.Need-same-length-2
 same-length-2 c = search needs
 
 returns-5 : tie.Need-returns-5
-returns-5 c = let find = c .before .before .find in
-    let if3 = c .before .before .before .before .if3 in
-    let if2 = c .before .before .before .before .before .if2 in
-    let if1 = c .before .before .before .before .before .before .if1 in
-    λ σ h ok. gives (stage-found _ _ _ _ _ (if1 .left) (if2 .left) (if3 .left) (sym (find .ensures .0 σ h) ∙ c .enum-told .given .1)) h
+returns-5 c = λ σ h ok. gives (stage-found _ _ _ _ _ (c .before .before .before .before .before .before .if1 .left) (c .before .before .before .before .before .if2 .left) (c .before .before .before .before .if3 .left) (sym (c .before .before .find .ensures .0 σ h) ∙ c .enum-told .given .1)) h
 
 same-length-3 : tie.Need-same-length-3
 same-length-3 c = search needs
 
 returns-6 : tie.Need-returns-6
-returns-6 c = let stage = c .before .before .stage in
-    let store = c .before .before .before .before .before .before .store in
-    let place = c .before .before .before .before .before .before .before .before .before .place in
-    let find = c .before .before .before .before .before .before .before .before .before .before .before .find in
-    let if3 = c .before .before .before .before .before .before .before .before .before .before .before .before .before .if3 in
-    let if2 = c .before .before .before .before .before .before .before .before .before .before .before .before .before .before .if2 in
-    let if1 = c .before .before .before .before .before .before .before .before .before .before .before .before .before .before .before .if1 in
-    λ σ h ok.
-    let q = sym (find .ensures .0 σ h) ∙ place .given .1 in
+returns-6 c = λ σ h ok.
+    let q = sym (c .before .before .before .before .before .before .before .before .before .before .before .find .ensures .0 σ h) ∙ c .before .before .before .before .before .before .before .before .before .place .given .1 in
     let a = staging-at σ _ _ _ _ ok _ _ _ q in
-    gives (stage-found _ _ _ _ _ (if1 .left) (if2 .left) (if3 .left) q) (stage .ensures _ (store .ensures σ h (a .number) (a .count)) (a .taken))
+    gives (stage-found _ _ _ _ _ (c .before .before .before .before .before .before .before .before .before .before .before .before .before .before .before .if1 .left) (c .before .before .before .before .before .before .before .before .before .before .before .before .before .before .if2 .left) (c .before .before .before .before .before .before .before .before .before .before .before .before .before .if3 .left) q) (c .before .before .stage .ensures _ (c .before .before .before .before .before .before .store .ensures σ h (a .number) (a .count)) (a .taken))
 
 pub stage-spec : {M : Type 1} → statement M
 stage-spec =

@@ -1,6 +1,12 @@
 -- No row, a row of another kind, then what the session's record says of the step.
-use mathlib.Core.Path.{sym, _∙_}
-use Rattle.stages.proofs.Found.{staging-rowless, staging-kind, staging-steps}
+use mathlib.Core.Path.{_≡_, sym, _∙_}
+use Rattle.machine.specs.State.{State}
+use Rattle.machine.specs.declared.Step.{Step}
+use Rattle.layout.specs.Holds.{Holds}
+use Rattle.askers.specs.Asker.{askerOf}
+use Rattle.askers.specs.declared.Asker.{Asker}
+use Rattle.stages.specs.Staging.{stagingOf}
+use Rattle.stages.proofs.Found.{stepped, staging-rowless, staging-kind, staging-steps}
 use borrow.Author.Needs.{needs}
 use Rattle.stages.proofs.steps.Statement.{statement}
 use Rattle.stages.proofs.steps.Tie as tie
@@ -41,31 +47,21 @@ enum-told-3 c = search needs
 enum-known-next : tie.Need-enum-known-next
 enum-known-next c = search needs
 
+-- the row was found, of the kind, and the session's record was asked
+here : (c : tie.After-step) {d : Step} → c .step .result ≡ d → (σ : State) → Holds (c .before .before .before .before .before .before .before .before .before .args .s .now) σ
+    → askerOf σ (c .before .before .before .before .before .before .before .before .before .args .session .number) ≡ Asker.Open (c .before .before .before .before .before .before .before .before .before .args .place) (c .before .before .before .before .before .before .before .before .before .args .session)
+    → stepped (c .before .before .before .before .before .before .before .before .before .args .place) (c .before .before .before .before .row .given .0 .0) d ≡ stagingOf σ (c .before .before .before .before .before .before .before .before .before .args .session .number) (c .before .before .before .before .before .before .before .before .before .args .step) (c .before .before .before .before .before .before .before .before .before .args .k) (c .before .before .before .before .before .before .before .before .before .args .kind)
+here c e σ h q =
+    sym (staging-steps _ _ _ _ _ _ _ q (h .fits .rows) _ (sym (c .before .before .before .before .before .before .find .ensures .0 σ h) ∙ c .before .before .before .before .row .given .1) _ (sym (c .before .before .kind .ensures σ h) ∙ c .before .if1 .left) (sym (c .step .ensures) ∙ e))
+
 returns-3 : tie.Need-returns-3
-returns-3 c = let step = c .before .before .step in
-    let if1 = c .before .before .before .if1 in
-    let kind = c .before .before .before .before .kind in
-    let row = c .before .before .before .before .before .before .row in
-    let find = c .before .before .before .before .before .before .before .before .find in
-    (λ σ h q. sym (staging-steps _ _ _ _ _ _ _ q (h .fits .rows) _ (sym (find .ensures .0 σ h) ∙ row .given .1) _ (sym (kind .ensures σ h) ∙ if1 .left) (sym (step .ensures) ∙ c .enum-told2 .given .1)), tt)
+returns-3 c = (here (c .before .before) (c .enum-told2 .given .1), tt)
 
 returns-4 : tie.Need-returns-4
-returns-4 c = let step = c .before .before .step in
-    let if1 = c .before .before .before .if1 in
-    let kind = c .before .before .before .before .kind in
-    let row = c .before .before .before .before .before .before .row in
-    let find = c .before .before .before .before .before .before .before .before .find in
-    (λ σ h q. sym (staging-steps _ _ _ _ _ _ _ q (h .fits .rows) _ (sym (find .ensures .0 σ h) ∙ row .given .1) _ (sym (kind .ensures σ h) ∙ if1 .left) (sym (step .ensures) ∙ c .enum-told3 .given .1)), tt)
+returns-4 c = (here (c .before .before) (c .enum-told3 .given .1), tt)
 
 returns-5 : tie.Need-returns-5
-returns-5 c = let next = c .before .next in
-    let step = c .before .before .before .step in
-    let if1 = c .before .before .before .before .if1 in
-    let kind = c .before .before .before .before .before .kind in
-    let row = c .before .before .before .before .before .before .before .row in
-    let find = c .before .before .before .before .before .before .before .before .before .find in
-    let pre = c .before .before .before .before .before .before .before .before .before .before .before .before .pre in
-    (λ σ h q. sym (staging-steps _ _ _ _ _ _ _ q (h .fits .rows) _ (sym (find .ensures .0 σ h) ∙ row .given .1) _ (sym (kind .ensures σ h) ∙ if1 .left) (sym (step .ensures) ∙ next .given .1)), (pre .1 .0, rw (row .given .1) at (find .ensures .1)))
+returns-5 c = (here (c .before .before .before) (c .before .next .given .1), (c .before .before .before .before .before .before .before .before .before .before .before .before .pre .1 .0, rw (c .before .before .before .before .before .before .before .row .given .1) at (c .before .before .before .before .before .before .before .before .before .find .ensures .1)))
 
 pub steps-spec : {M : Type 1} → statement M
 steps-spec =

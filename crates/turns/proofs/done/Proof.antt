@@ -1,10 +1,14 @@
--- The search finds nothing (`done-none`), or the place of the session, which is handed on (`found-at`).
-use mathlib.Core.Path.{sym, _∙_}
+-- The search finds no session (`done-none`) or its place; an open one is refused (`done-open`), and a sealed one finishes.
+use mathlib.Core.Bool.{true}
+use Rattle.lent.proofs.Choices.{test-failed, test-passed}
+use Rattle.machine.specs.State.{State}
+use Rattle.machine.specs.Sound.{sound}
+use Rattle.layout.specs.Holds.{Holds}
+use mathlib.Core.Path.{_≡_, sym, _∙_}
 use Rattle.outcome.proofs.Told.{gives}
 use Rattle.machine.specs.Sizes.{sessionCount}
-use Rattle.machine.specs.State.{sessionPlace}
-use Rattle.layout.proofs.Search.{found-at}
-use Rattle.turns.proofs.Tried.{unlocated, done-none}
+use Rattle.layout.proofs.Search.{found-at, found-below}
+use Rattle.turns.proofs.Tried.{Located, located, number-here, done-none, done-open, done-is}
 use borrow.Author.Needs.{needs}
 use Rattle.turns.proofs.done.Statement.{statement}
 use Rattle.turns.proofs.done.Tie as tie
@@ -12,11 +16,8 @@ use Rattle.turns.proofs.done.Tie as tie
 find-requires : tie.Need-find-requires
 find-requires c κs = search needs
 
-enum-known-f : tie.Need-enum-known-f
-enum-known-f c = search needs
-
-done-at-requires : tie.Need-done-at-requires
-done-at-requires c κs = (search needs, rw (c .before .before .f .given .1) at (c .before .before .before .before .find .ensures .1))
+enum-known-i : tie.Need-enum-known-i
+enum-known-i c = search needs
 
 enum-told : tie.Need-enum-told
 enum-told c = search needs
@@ -25,29 +26,48 @@ same-length : tie.Need-same-length
 same-length c = search needs
 
 returns : tie.Need-returns
-returns c = let done-at = c .before .before .done-at in
-    let f = c .before .before .before .before .before .f in
-    let find = c .before .before .before .before .before .before .before .find in
-    let args = c .before .before .before .before .before .before .before .before .before .before .args in
-    λ σ h ok. done-at .ensures σ h ok (found-at sessionCount (sessionPlace σ (args .session)) (f .given .0 .0) (sym (find .ensures .0 σ h) ∙ f .given .1) .0)
+returns c = λ σ h ok. gives (done-none σ _ ok (c .before .before .find .ensures .0 σ h) (c .enum-told .given .1)) h
+
+load-requires : tie.Need-load-requires
+load-requires c κs = search (needs, found-below sessionCount)
+
+is-sealed-requires : tie.Need-is-sealed-requires
+is-sealed-requires c κs = search needs
+
+-- the session that was found and loaded
+here : (c : tie.After-load) → (σ : State) → Holds (c .before .before .before .before .before .before .before .before .args .s .now) σ → sound σ ≡ true → Located σ (c .before .before .before .before .before .before .before .before .args .session) (c .before .before .before .i .given .0 .0) (c .load .result)
+here c σ h ok = located σ _ ok (c .load .ensures σ h) (found-at sessionCount _ _ (sym (c .before .before .before .before .before .find .ensures .0 σ h) ∙ c .before .before .before .i .given .1))
 
 same-length-2 : tie.Need-same-length-2
 same-length-2 c = search needs
 
 returns-2 : tie.Need-returns-2
-returns-2 c = let find = c .before .before .find in
-    let args = c .before .before .before .before .before .args in
-    λ σ h ok. gives (done-none σ (args .session) (unlocated σ (args .session) ok (sym (find .ensures .0 σ h) ∙ c .enum-told .given .1))) h
+returns-2 c = λ σ h ok. gives (done-open σ _ (here (c .before .before) σ h ok) (test-failed (c .before .is-sealed .ensures) (c .if1 .taken))) h
+
+finish-requires : tie.Need-finish-requires
+finish-requires c κs = search (needs, found-below sessionCount)
+
+same-length-3 : tie.Need-same-length-3
+same-length-3 c = search needs
+
+returns-3 : tie.Need-returns-3
+returns-3 c = λ σ h ok.
+    let w = here (c .before .before .before .before .before .before) σ h ok in
+    gives (done-is σ _ w (test-passed (c .before .before .before .before .before .is-sealed .ensures) (c .before .before .before .before .if1 .left))) (rw (← w .number) (c .before .before .finish .ensures σ h ok (number-here w (w .number))))
 
 pub done-spec : {M : Type 1} → statement M
 done-spec =
     tie.close
     (tie.spec
     find-requires
-    enum-known-f
-    done-at-requires
+    enum-known-i
     enum-told
     same-length
     returns
+    load-requires
+    is-sealed-requires
     same-length-2
-    returns-2)
+    returns-2
+    finish-requires
+    same-length-3
+    returns-3)

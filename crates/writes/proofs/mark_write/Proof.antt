@@ -1,7 +1,13 @@
 -- The session is loaded and marked; its life and its row on the key decide.
-use mathlib.Core.Path.{sym, _∙_}
+use mathlib.Core.Path.{_≡_, sym, _∙_}
+use mathlib.Core.Bool.{true}
+use Prim.Native.Nat.{ℕ}
 use Rattle.lent.proofs.Choices.{test-failed, test-passed}
-use Rattle.writes.proofs.Written.{written-open, written-held, written-rowless}
+use Rattle.machine.specs.State.{State, sessionPlace}
+use Rattle.machine.specs.Sound.{sound}
+use Rattle.layout.specs.Holds.{Holds}
+use Rattle.turns.proofs.Tried.{Located, located}
+use Rattle.writes.proofs.Written.{written-open, written-by}
 use borrow.Author.Needs.{needs}
 use Rattle.writes.proofs.mark_write.Statement.{statement}
 use Rattle.writes.proofs.mark_write.Tie as tie
@@ -15,15 +21,15 @@ set-mark-requires c κs = search needs
 is-sealed-requires : tie.Need-is-sealed-requires
 is-sealed-requires c κs = search needs
 
+-- the session that was loaded
+here : (c : tie.After-load) (σ : State) → Holds (c .before .before .before .args .cache .now) σ → sound σ ≡ true → (n : ℕ) → sessionPlace σ n ≡ c .before .before .before .args .i → Located σ n (c .before .before .before .args .i) (c .load .result)
+here c σ h ok n p = located σ n ok (c .load .ensures σ h) (p, c .before .before .before .pre .1 .1)
+
 same-length : tie.Need-same-length
 same-length c = search needs
 
 returns : tie.Need-returns
-returns c =
-    let s = c .before .before .before .before .before .before .before .before .before in
-    let l = c .before .before .before .before .before .before .load in
-    λ σ h ok n p. written-open σ ok (s .args .book .now) _ n (s .args .key) (s .args .i) p (s .pre .1 .1) (l .result) (l .ensures σ h) (c .before .before .before .before .set-mark .ensures)
-    (test-failed (c .before .is-sealed .ensures) (c .if1 .taken))
+returns c = λ σ h ok n p. written-open (here (c .before .before .before .before .before .before) σ h ok n p) _ _ (c .before .before .before .before .set-mark .ensures) (test-failed (c .before .is-sealed .ensures) (c .if1 .taken))
 
 cast-find : tie.Need-cast-find
 cast-find c = search needs
@@ -41,23 +47,15 @@ same-length-2 : tie.Need-same-length-2
 same-length-2 c = search needs
 
 returns-2 : tie.Need-returns-2
-returns-2 c =
-    let s = c .before .before .before .before .before .before .before .before .before .before .before .before in
-    let l = c .before .before .before .before .before .before .before .before .before .load in
-    let sealed = test-passed (c .before .before .before .before .is-sealed .ensures) (c .before .before .before .if1 .left) in
-    λ σ h ok n p. written-held σ ok (s .args .book .now) _ n (s .args .key) (s .args .i) p (s .pre .1 .1) (l .result) (l .ensures σ h) (c .before .before .before .before .before .before .before .set-mark .ensures) sealed
-    _ (sym (c .before .before .find .ensures .0 σ h) ∙ c .enum-told .given .1)
+returns-2 c = λ σ h ok n p. written-by (here (c .before .before .before .before .before .before .before .before .before) σ h ok n p) _ _ (c .before .before .before .before .before .before .before .set-mark .ensures) (h .fits .rows)
+    (test-passed (c .before .before .before .before .is-sealed .ensures) (c .before .before .before .if1 .left)) (sym (c .before .before .find .ensures .0 σ h) ∙ c .enum-told .given .1)
 
 same-length-3 : tie.Need-same-length-3
 same-length-3 c = search needs
 
 returns-3 : tie.Need-returns-3
-returns-3 c =
-    let s = c .before .before .before .before .before .before .before .before .before .before .before .before in
-    let l = c .before .before .before .before .before .before .before .before .before .load in
-    let sealed = test-passed (c .before .before .before .before .is-sealed .ensures) (c .before .before .before .if1 .left) in
-    λ σ h ok n p. written-rowless σ ok (s .args .book .now) _ n (s .args .key) (s .args .i) p (s .pre .1 .1) (l .result) (l .ensures σ h) (c .before .before .before .before .before .before .before .set-mark .ensures) sealed
-    (sym (c .before .before .find .ensures .0 σ h) ∙ c .enum-told2 .given .1)
+returns-3 c = λ σ h ok n p. written-by (here (c .before .before .before .before .before .before .before .before .before) σ h ok n p) _ _ (c .before .before .before .before .before .before .before .set-mark .ensures) (h .fits .rows)
+    (test-passed (c .before .before .before .before .is-sealed .ensures) (c .before .before .before .if1 .left)) (sym (c .before .before .find .ensures .0 σ h) ∙ c .enum-told2 .given .1)
 
 pub mark-write-spec : {M : Type 1} → statement M
 mark-write-spec =
