@@ -44,6 +44,14 @@ module _ {A : Type 0} (p : A → Bool) where
     pub nothing-any : found n (place p l) ≡ Found.Nothing → any p l ≡ false
     nothing-any f = not-true (any p l) (sym (full-any l n e) ∙ found-full p d l n e f)
 
+    -- where it is full unless an entry passes or another test does
+    module _ {f : Bool} (t : Bool) (q : f ≡ not (any p l || t)) where
+      pub full-found : (i : ℕ) → found n (place p l) ≡ Found.At i → false ≡ f
+      full-found i g = sym (q ∙ rw (found-any i g))
+
+      pub full-nothing : {r : Bool} → r ≡ t → found n (place p l) ≡ Found.Nothing → not r ≡ f
+      full-nothing u g = ap not u ∙ sym (q ∙ rw (nothing-any g))
+
   -- ---- two tests
 
   pub any-or : (q : A → Bool) (l : List A) → any (λ x. p x || q x) l ≡ any p l || any q l

@@ -2,7 +2,7 @@
 use mathlib.Core.Path.{sym, _∙_}
 use Rattle.machine.specs.Sizes.{sessionCount}
 use Rattle.machine.specs.State.{free, noSession}
-use Rattle.refusals.proofs.Searches.{found-any, nothing-any}
+use Rattle.refusals.proofs.Searches.{full-found, full-nothing}
 use Rattle.refusals.proofs.Rooms.{sessions-full-expired}
 use borrow.Author.Needs.{needs}
 use Rattle.refusals.proofs.after.sessions_full.Statement.{statement}
@@ -15,7 +15,7 @@ enum-told : tie.Need-enum-told
 enum-told c = search needs
 
 returns : tie.Need-returns
-returns c = λ σ h ok. sym (sessions-full-expired σ ok (c .before .before .before .before .args .time) ∙ rw (found-any free noSession (σ .sessions) sessionCount (h .fits .sessions) _ (sym (c .before .before .free-place .ensures .0 σ h) ∙ c .enum-told .given .1)))
+returns c = λ σ h ok. full-found free noSession (σ .sessions) sessionCount (h .fits .sessions) _ (sessions-full-expired σ ok _) _ (sym (c .before .before .free-place .ensures .0 σ h) ∙ c .enum-told .given .1)
 
 enum-told-2 : tie.Need-enum-told-2
 enum-told-2 c = search needs
@@ -24,7 +24,7 @@ sessions-lapse-requires : tie.Need-sessions-lapse-requires
 sessions-lapse-requires c κs = search needs
 
 returns-2 : tie.Need-returns-2
-returns-2 c = λ σ h ok. sym (sessions-full-expired σ ok (c .before .before .before .before .before .args .time) ∙ rw (nothing-any free noSession (σ .sessions) sessionCount (h .fits .sessions) (sym (c .before .before .before .free-place .ensures .0 σ h) ∙ c .before .enum-told2 .given .1), ← c .sessions-lapse .ensures σ h))
+returns-2 c = λ σ h ok. full-nothing free noSession (σ .sessions) sessionCount (h .fits .sessions) _ (sessions-full-expired σ ok _) (c .sessions-lapse .ensures σ h) (sym (c .before .before .before .free-place .ensures .0 σ h) ∙ c .before .enum-told2 .given .1)
 
 pub sessions-full-spec : {M : Type 1} → statement M
 sessions-full-spec =
