@@ -123,7 +123,7 @@ abbrev pub valuedLine : (ℕ → Line) → Hex → Line
 valuedLine k Hex.Not = Line.Unreadable
 valuedLine k (Hex.Is n) = k n
 
-pub gives-valued : (o : Option (List ℕ)) (k : ℕ → Line) (r : Hex) (before after : List ℕ) → r ≡ lengthRead o → after ≡ splice before 0 (valueRead o)
+pub gives-valued : (o : Option (List ℕ)) (k : ℕ → Line) {x r : Hex} {before after : List ℕ} → (x ≡ lengthRead o) × (after ≡ splice before 0 (valueRead o)) → x ≡ r
     → Gives (orUnreadable (o >>= λ v. some (record { line = k (length v); value = v }))) (valuedLine k r) before after
-gives-valued none k r before after e s = record { line = ap (valuedLine k) e; value = s }
-gives-valued (some v) k r before after e s = record { line = ap (valuedLine k) e; value = s }
+gives-valued none k e q = record { line = ap (valuedLine k) (sym q ∙ e .0); value = e .1 }
+gives-valued (some v) k e q = record { line = ap (valuedLine k) (sym q ∙ e .0); value = e .1 }

@@ -65,11 +65,11 @@ module _ (s : State) (ok : sound s ≡ true) (now : ℕ) where
           go false = refl
 
   -- by the search for a free one
-  pub sessions-full-told : {f : Found} → found sessionCount (place free (s .sessions)) ≡ f → fullBy f (any (dueSlot now) (s .sessions)) ≡ sessionsFull (expire now s)
-  sessions-full-told f = full-by free noSession (s .sessions) sessionCount (sessions-length s ok) _ _ f ∙ sym sessions-full-expired
+  pub sessions-full-told : {f g : Found} {t : Bool} → f ≡ found sessionCount (place free (s .sessions)) → f ≡ g → t ≡ any (dueSlot now) (s .sessions) → fullBy g t ≡ sessionsFull (expire now s)
+  sessions-full-told {g = g} p q r = ap (fullBy g) r ∙ full-by free noSession (s .sessions) sessionCount (sessions-length s ok) g _ (sym p ∙ q) ∙ sym sessions-full-expired
 
-  pub rows-full-told : {f : Found} → found rowCount (place freeRow (s .rows)) ≡ f → fullBy f (any (goes now s) (s .rows)) ≡ rowsFull (expire now s)
-  rows-full-told f = full-by freeRow noRow (s .rows) rowCount (rows-length s ok) _ _ f ∙ sym rows-full-expired
+  pub rows-full-told : {f g : Found} {t : Bool} → f ≡ found rowCount (place freeRow (s .rows)) → f ≡ g → t ≡ any (goes now s) (s .rows) → fullBy g t ≡ rowsFull (expire now s)
+  rows-full-told {g = g} p q r = ap (fullBy g) r ∙ full-by freeRow noRow (s .rows) rowCount (rows-length s ok) g _ (sym p ∙ q) ∙ sym rows-full-expired
 
   module _ (full : rowsFull (expire now s) ≡ true) where
     rows-stay : expire now s .rows ≡ s .rows
