@@ -13,8 +13,8 @@ use Rattle.lent.specs.Tables.{if_then_else_}
 use Rattle.lent.proofs.Choices.{if-ind}
 use Rattle.hex.specs.Hex.{readHex}
 use Rattle.hex.proofs.Laws.{read-bytes}
-use Rattle.lines.specs.Fields.{lineMax, valueRoom, Field, fields, _>>=_, number, numbers, Lettered, letter, upTo, lastValue}
-use Rattle.lines.specs.Lines.{Read, unvalued, orUnreadable, atEnd, shapeOf, commandLine, startLetter, writeLetter, keyMax, valueMax, startLine, writeLine, timedLine, lineBy, readLine}
+use Rattle.lines.specs.Fields.{lineMax, valueRoom, Field, fields, _>>=_, number, numbers, Lettered, letter, upTo, lastValue, atEnd, ending}
+use Rattle.lines.specs.Lines.{Read, unvalued, orUnreadable, shapeOf, commandLine, startLetter, writeLetter, keyMax, valueMax, startLine, writeLine, timedLine, lineBy, readLine}
 use Rattle.lines.specs.declared.Line.{Line}
 use Rattle.lines.specs.declared.Shape.{Shape}
 
@@ -58,6 +58,11 @@ module _ (most : ℕ) (v : List ℕ) where
   value-fits (f ∷ []) h = field-fits f (readHex f) refl h
   value-fits (f ∷ g ∷ fs) h = absurd (Option·none-ne-some v h)
 
+ending-fits : (valued : Bool) (v : List ℕ) (fs : List Field) → ending valued fs ≡ some v → ShortBytes valueRoom v
+ending-fits true v fs h = value-fits valueRoom v fs h
+ending-fits false v [] h = let e : [] ≡ v = cc in rw (← e) (omega arith, λ i. omega arith)
+ending-fits false v (f ∷ fs) h = absurd (Option·none-ne-some v h)
+
 -- ---- the three forms
 
 -- no value
@@ -97,12 +102,10 @@ write-fine fs =
 
 command-fine : (time : ℕ) (s : Shape) (fs : List Field) → Fine (commandLine time s fs)
 unfolding commandLine
-command-fine time (Shape.Plain place k) fs =
-    next-fine (numbers k fs) _ (λ n e. at-end-fine (n .rest) _ (unvalued-sound (Line.Command place time (n .a) (n .b) (n .c) (n .d) 0) refl tt))
-command-fine time (Shape.Valued place k) fs =
+command-fine time (Shape.Is place k valued) fs =
     next-fine (numbers k fs) _
-    (λ n e. next-fine (lastValue valueRoom (n .rest)) _
-    (λ v q. let s = value-fits valueRoom v (n .rest) q in record { size = refl; room = s .0; bytes = s .1; range = tt }))
+    (λ n e. next-fine (ending valued (n .rest)) _
+    (λ v q. let s = ending-fits valued v (n .rest) q in record { size = refl; room = s .0; bytes = s .1; range = tt }))
 command-fine time Shape.Unknown fs = unreadable-sound
 
 timed-fine : (fs : List Field) → Fine (timedLine fs)

@@ -14,22 +14,22 @@ use Rattle.counts.specs.Count.{readCount}
 use Rattle.counts.specs.declared.Count.{Count}
 use Rattle.hex.specs.Hex.{readHex, lengthRead, valueRead}
 use Rattle.hex.specs.declared.Hex.{Hex}
-use Rattle.lines.specs.Fields.{zeroDigit, Field, fields, fieldsAt, Ends, _>>=_, readNumber, numberOf, number, letter, upTo, lastValue}
-use Rattle.lines.specs.Lines.{Read, unvalued, orUnreadable, atEnd, Gives}
+use Rattle.lines.specs.Fields.{zeroDigit, Field, fields, fieldsAt, Ends, _>>=_, readNumber, numberOf, number, letter, upTo, lastValue, atEnd}
+use Rattle.lines.specs.Lines.{Read, unvalued, orUnreadable, Gives}
 use Rattle.lines.specs.declared.Line.{Line}
 use Rattle.lines.proofs.Cutting.{prefixed, prefixed-none, fields-in, fields-past}
 
 -- ---- the end of the fields
 
-at-end-more : (fs : List Field) (r : Read) → atEnd (prefixed [] fs) r ≡ none
-at-end-more [] r = refl
-at-end-more (f ∷ fs) r = refl
+at-end-more : {A : Type 0} (fs : List Field) (x : A) → atEnd (prefixed [] fs) x ≡ none
+at-end-more [] x = refl
+at-end-more (f ∷ fs) x = refl
 
-module _ (t : List ℕ) (at : ℕ) (r : Read) where
-  pub at-end-in : at ≤ length t → atEnd (fieldsAt t at) r ≡ none
-  at-end-in h = rw (fields-in t at h, ← prefixed-none (drop at t)) (at-end-more (fields (drop at t)) r)
+module _ {A : Type 0} (t : List ℕ) (at : ℕ) (x : A) where
+  pub at-end-in : at ≤ length t → atEnd (fieldsAt t at) x ≡ none
+  at-end-in h = rw (fields-in t at h, ← prefixed-none (drop at t)) (at-end-more (fields (drop at t)) x)
 
-  pub at-end-past : length t < at → atEnd (fieldsAt t at) r ≡ some r
+  pub at-end-past : length t < at → atEnd (fieldsAt t at) x ≡ some x
   at-end-past h = rw (fields-past t at h)
 
 -- ---- a field as a number
@@ -118,14 +118,12 @@ gives-unvalued x r s e = rw e (record { line = refl; value = sym (splice-none s 
 pub gives-none : (s : List ℕ) → Gives (unvalued Line.Unreadable) Line.Unreadable s s
 gives-none s = gives-unvalued _ _ s refl
 
-module _ (o : Option (List ℕ)) (k : ℕ → Line) (r : Hex) (before after : List ℕ) (a : r ≡ lengthRead o) (s : after ≡ splice before 0 (valueRead o)) where
-  pub gives-no-value : r ≡ Hex.Not → Gives (orUnreadable (o >>= λ v. some (record { line = k (length v); value = v }))) Line.Unreadable before after
-  gives-no-value e =
-      let q : o ≡ none = length-read-not o (sym a ∙ e) in
-      let u : after ≡ splice before 0 [] = s ∙ rw q in
-      rw q (record { line = refl; value = u })
+-- a line by the length of its value, where one is read
+abbrev pub valuedLine : (ℕ → Line) → Hex → Line
+valuedLine k Hex.Not = Line.Unreadable
+valuedLine k (Hex.Is n) = k n
 
-  pub gives-value : (n : ℕ) → r ≡ Hex.Is n → Gives (orUnreadable (o >>= λ v. some (record { line = k (length v); value = v }))) (k n) before after
-  gives-value n e =
-      let p = length-read-is o n (sym a ∙ e) in
-      rw (p .0) (record { line = ap k (sym (p .1)); value = s })
+pub gives-valued : (o : Option (List ℕ)) (k : ℕ → Line) {x r : Hex} {before after : List ℕ} → (x ≡ lengthRead o) × (after ≡ splice before 0 (valueRead o)) → x ≡ r
+    → Gives (orUnreadable (o >>= λ v. some (record { line = k (length v); value = v }))) (valuedLine k r) before after
+gives-valued none k e q = record { line = ap (valuedLine k) (sym q ∙ e .0); value = e .1 }
+gives-valued (some v) k e q = record { line = ap (valuedLine k) (sym q ∙ e .0); value = e .1 }

@@ -116,6 +116,18 @@ lastValue most [] = none
 lastValue most (f ∷ []) = upTo most (readHex f)
 lastValue most (f ∷ g ∷ fs) = none
 
+-- ---- the end of a line
+
+-- x, if no field is left
+abbrev pub atEnd : {A : Type 0} → List Field → A → Option A
+atEnd [] x = some x
+atEnd (f ∷ fs) x = none
+
+-- what follows a command's numbers: a value, if it has one, and else no field and no bytes
+abbrev pub ending : Bool → List Field → Option (List ℕ)
+ending true fs = lastValue valueRoom fs
+ending false fs = atEnd fs []
+
 -- ---- what the code's answers say of a line t
 
 abbrev pub numberAt : List ℕ → One → Option OneNumber

@@ -1,9 +1,9 @@
 -- What a line of the rehearsal says. 01, "The rehearsal": "Letters in the order above, without SHOW: B, G, F, Q, S, D, V, X (DONE), U, E, T; `C s k v` is a register write; `A r w` (no time) starts."
 -- Whether an A line comes first and once is not decided here.
 use Prim.Native.Nat.{ℕ, _-_}
-use mathlib.Core.Bool.{true}
+use mathlib.Core.Bool.{true, false}
 use mathlib.Core.Path.{_≡_}
-use mathlib.Core.List.{List, [], _∷_}
+use mathlib.Core.List.{List, []}
 use mathlib.Core.Option.{Option, none, some}
 use lib.ListN.{length}
 use lib.Dec.{eqb, ltb}
@@ -11,7 +11,7 @@ use Rattle.lent.specs.Bytes.{splice}
 use Rattle.lent.specs.Tables.{if_then_else_}
 use Rattle.machine.specs.Sizes.{keyCount}
 pub use Rattle.machine.specs.Sizes.{valueMax}
-use Rattle.lines.specs.Fields.{lineMax, valueRoom, Field, fields, _>>=_, number, numbers, Lettered, letter, lastValue}
+use Rattle.lines.specs.Fields.{lineMax, Field, fields, _>>=_, number, numbers, Lettered, letter, atEnd, lastValue, ending}
 use Rattle.lines.specs.declared.Line.{Line}
 use Rattle.lines.specs.declared.Shape.{Shape}
 
@@ -28,34 +28,27 @@ abbrev pub orUnreadable : Option Read → Read
 orUnreadable (some r) = r
 orUnreadable none = unvalued Line.Unreadable
 
--- r, if no field is left
-abbrev pub atEnd : List Field → Read → Option Read
-atEnd [] r = some r
-atEnd (f ∷ fs) r = none
-
 -- a letter's command, by its place in the document's list, how many numbers follow it, and whether a value does
 unfoldable pub shapeOf : ℕ → Shape
 shapeOf l =
-    if eqb l 66 then Shape.Plain 1 0  -- B
-    else if eqb l 71 then Shape.Plain 2 2  -- G session key
-    else if eqb l 70 then Shape.Valued 3 2  -- F token key value
-    else if eqb l 81 then Shape.Plain 4 3  -- Q session key kind
-    else if eqb l 83 then Shape.Valued 5 3  -- S session step key value
-    else if eqb l 68 then Shape.Valued 6 4  -- D session step key operation operand
-    else if eqb l 86 then Shape.Plain 7 2  -- V session n
-    else if eqb l 88 then Shape.Plain 8 1  -- X session
-    else if eqb l 85 then Shape.Plain 9 1  -- U session
-    else if eqb l 69 then Shape.Plain 10 1  -- E key
-    else if eqb l 84 then Shape.Plain 11 0  -- T
+    if eqb l 66 then Shape.Is 1 0 false  -- B
+    else if eqb l 71 then Shape.Is 2 2 false  -- G session key
+    else if eqb l 70 then Shape.Is 3 2 true  -- F token key value
+    else if eqb l 81 then Shape.Is 4 3 false  -- Q session key kind
+    else if eqb l 83 then Shape.Is 5 3 true  -- S session step key value
+    else if eqb l 68 then Shape.Is 6 4 true  -- D session step key operation operand
+    else if eqb l 86 then Shape.Is 7 2 false  -- V session n
+    else if eqb l 88 then Shape.Is 8 1 false  -- X session
+    else if eqb l 85 then Shape.Is 9 1 false  -- U session
+    else if eqb l 69 then Shape.Is 10 1 false  -- E key
+    else if eqb l 84 then Shape.Is 11 0 false  -- T
     else Shape.Unknown
 
 -- what follows a command's letter: its numbers, the value if it has one, and nothing else
 unfoldable pub commandLine : ℕ → Shape → List Field → Option Read
-commandLine time (Shape.Plain place k) fs =
-    numbers k fs >>= λ n. atEnd (n .rest) (unvalued (Line.Command place time (n .a) (n .b) (n .c) (n .d) 0))
-commandLine time (Shape.Valued place k) fs =
+commandLine time (Shape.Is place k valued) fs =
     numbers k fs >>= λ n.
-    lastValue valueRoom (n .rest) >>= λ v.
+    ending valued (n .rest) >>= λ v.
     some (record { line = Line.Command place time (n .a) (n .b) (n .c) (n .d) (length v); value = v })
 commandLine time Shape.Unknown fs = none
 

@@ -4,7 +4,7 @@ ghost use Prim.Native.Nat.{_≤_};
 ghost use lib.ListN.{length};
 ghost use Rattle.lent.specs.Bytes.{splice};
 ghost use Rattle.hex.specs.Hex.{lengthRead, valueRead};
-ghost use Rattle.lines.specs.Fields.{lineMax, valueRoom, fieldsAt, Ends, readNumber, number, numberAt, numbers, numbersAt, letter, letterAt, lastValue};
+ghost use Rattle.lines.specs.Fields.{lineMax, valueRoom, fieldsAt, Ends, readNumber, number, numberAt, numbers, numbersAt, letter, letterAt, lastValue, ending};
 ghost use Rattle.lines.specs.Lines.{unvalued, orUnreadable, shapeOf, commandLine, startLine, writeLine, timedLine, readLine, Gives};
 use counts::Count;
 use hex::Hex;
@@ -51,10 +51,9 @@ enum Letter {
     Not,
 }
 
-// A letter's command and how many numbers follow it; behind them nothing, or a value.
+// A letter's command, how many numbers follow it, and whether a value does.
 enum Shape {
-    Plain(u64, u64),
-    Valued(u64, u64),
+    Is(u64, u64, bool),
     Unknown,
 }
 
@@ -177,66 +176,36 @@ fn last_value(line: &[u8], at: usize, most: usize, value: &mut [u8]) -> Hex
     hex::read(&line[at..e], value)
 }
 
+// What follows a command's numbers, at a place: a value where one is wanted, and else nothing, which has no bytes.
+fn ending(line: &[u8], at: usize, valued: bool, value: &mut [u8]) -> Hex
+    requires { ⌜ (length (now line) ≤ lineMax) × (valueRoom ≤ length (now value)) ⌝ }
+    ensures { λ r. ⌜ (r ≡ lengthRead (ending valued (fieldsAt (now (line .entry)) at))) × (now (value .exit) ≡ splice (now (value .entry)) 0 (valueRead (ending valued (fieldsAt (now (line .entry)) at)))) ⌝ }
+{
+    if valued {
+        return last_value(line, at, VALUE_ROOM, value);
+    }
+    if at <= line.len() {
+        return Hex::Not;
+    }
+    Hex::Is(0)
+}
+
 fn shape_of(letter: u8) -> Shape
     ensures { λ r. ⌜ r ≡ shapeOf letter ⌝ }
 {
     match letter {
-        b'B' => Shape::Plain(1, 0),
-        b'G' => Shape::Plain(2, 2),
-        b'F' => Shape::Valued(3, 2),
-        b'Q' => Shape::Plain(4, 3),
-        b'S' => Shape::Valued(5, 3),
-        b'D' => Shape::Valued(6, 4),
-        b'V' => Shape::Plain(7, 2),
-        b'X' => Shape::Plain(8, 1),
-        b'U' => Shape::Plain(9, 1),
-        b'E' => Shape::Plain(10, 1),
-        b'T' => Shape::Plain(11, 0),
+        b'B' => Shape::Is(1, 0, false),
+        b'G' => Shape::Is(2, 2, false),
+        b'F' => Shape::Is(3, 2, true),
+        b'Q' => Shape::Is(4, 3, false),
+        b'S' => Shape::Is(5, 3, true),
+        b'D' => Shape::Is(6, 4, true),
+        b'V' => Shape::Is(7, 2, false),
+        b'X' => Shape::Is(8, 1, false),
+        b'U' => Shape::Is(9, 1, false),
+        b'E' => Shape::Is(10, 1, false),
+        b'T' => Shape::Is(11, 0, false),
         _ => Shape::Unknown,
-    }
-}
-
-// A command without a value: its k numbers from a place on and nothing else.
-fn plain(line: &[u8], at: usize, time: u64, place: u64, k: u64) -> Line
-    requires { ⌜ length (now line) ≤ lineMax ⌝ }
-    ensures { λ r. ⌜ orUnreadable (commandLine time (Shape.Plain place k) (fieldsAt (now (line .entry)) at)) ≡ unvalued r ⌝ }
-{
-    let Four::Are(a, b, c, d, next) = numbers(line, at, k) else {
-        return Line::Unreadable;
-    };
-    if next <= line.len() {
-        return Line::Unreadable;
-    }
-    Line::Command {
-        number: place,
-        time,
-        a,
-        b,
-        c,
-        d,
-        length: 0,
-    }
-}
-
-// A command with a value: its k numbers from a place on, the value and nothing else.
-fn valued(line: &[u8], at: usize, time: u64, place: u64, k: u64, value: &mut [u8]) -> Line
-    requires { ⌜ (length (now line) ≤ lineMax) × (valueRoom ≤ length (now value)) ⌝ }
-    ensures { λ r. ⌜ Gives (orUnreadable (commandLine time (Shape.Valued place k) (fieldsAt (now (line .entry)) at))) r (now (value .entry)) (now (value .exit)) ⌝ }
-{
-    let Four::Are(a, b, c, d, next) = numbers(line, at, k) else {
-        return Line::Unreadable;
-    };
-    let Hex::Is(length) = last_value(line, next, VALUE_ROOM, value) else {
-        return Line::Unreadable;
-    };
-    Line::Command {
-        number: place,
-        time,
-        a,
-        b,
-        c,
-        d,
-        length,
     }
 }
 
@@ -245,11 +214,23 @@ fn command(line: &[u8], at: usize, time: u64, letter: u8, value: &mut [u8]) -> L
     requires { ⌜ (length (now line) ≤ lineMax) × (valueRoom ≤ length (now value)) ⌝ }
     ensures { λ r. ⌜ Gives (orUnreadable (commandLine time (shapeOf letter) (fieldsAt (now (line .entry)) at))) r (now (value .entry)) (now (value .exit)) ⌝ }
 {
-    let shape = shape_of(letter);
-    match shape {
-        Shape::Plain(place, k) => plain(line, at, time, place, k),
-        Shape::Valued(place, k) => valued(line, at, time, place, k, value),
-        Shape::Unknown => Line::Unreadable,
+    let Shape::Is(number, k, valued) = shape_of(letter) else {
+        return Line::Unreadable;
+    };
+    let Four::Are(a, b, c, d, next) = numbers(line, at, k) else {
+        return Line::Unreadable;
+    };
+    let Hex::Is(length) = ending(line, next, valued, value) else {
+        return Line::Unreadable;
+    };
+    Line::Command {
+        number,
+        time,
+        a,
+        b,
+        c,
+        d,
+        length,
     }
 }
 

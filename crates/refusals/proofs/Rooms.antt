@@ -2,18 +2,16 @@
 -- granted is as it was: of the rest only an I lease may have lapsed, and a quarantine is granted over one as over nothing.
 use mathlib.Core.Path.{_≡_, refl, sym, ap, _∙_}
 use mathlib.Core.Bool.{Bool, true, false, not, _&&_, _||_}
-use mathlib.Core.List.{[], map}
+use mathlib.Core.List.{[]}
 use mathlib.Core.Option.{Option, none, some}
 use Prim.Native.Nat.{ℕ, _<_}
 use native.Mathlib.Omega.{arith}
 use lib.Dec.{eqb}
-use lib.ListN.{length-map}
 use borrow.Author.Tests.{not-true}
 use Rattle.lent.specs.Tables.{if_then_else_}
 use Rattle.lent.proofs.Choices.{or-no}
-use Rattle.machine.proofs.Views.{any-mapped}
 use Rattle.machine.specs.Sizes.{keyCount, sessionCount, rowCount}
-use Rattle.machine.specs.Tables.{find, any, first}
+use Rattle.machine.specs.Tables.{place, find, any, first}
 use Rattle.machine.specs.Words.{ROOM, INVALIDATE, INCREMENTAL, isKind}
 use Rattle.machine.specs.Session.{isDue, isSealed}
 use Rattle.machine.specs.Decision.{decision, grants}
@@ -28,11 +26,13 @@ use Rattle.machine.proofs.Accepted.{is-kind, session-of-number}
 use Rattle.machine.proofs.FirstRefusal.{quar-full}
 use Rattle.machine.proofs.Table.{free-grants, Q-voids-I}
 use Rattle.machine.proofs.SoundMeans.{sessions-length, rows-length}
+use Rattle.layout.specs.Search.{found}
+use Rattle.layout.specs.declared.Found.{Found}
 use Rattle.deadlines.specs.Deadlines.{dueSlot}
 use Rattle.sweep.specs.Lapsing.{freeDue}
 use Rattle.sweep.proofs.Lapsing.{unmapped}
 use Rattle.refusals.specs.Left.{goes}
-use Rattle.refusals.proofs.Searches.{full-any, any-or}
+use Rattle.refusals.proofs.Searches.{fullBy, full-by, full-mapped}
 use Rattle.refusals.proofs.Expired.{due, rows-expired, sessions-expired, due-is}
 
 grants-over-lease : (kind : ℕ) → Within INVALIDATE INCREMENTAL kind → (o : Option Lease) → grants (decision (heldBy noRow o) kind) ≡ true
@@ -40,11 +40,9 @@ grants-over-lease kind d none = ap grants (free-grants kind (omega (arith, d .1)
 grants-over-lease kind d (some l) = ap grants (Q-voids-I kind (d .0) (omega (arith, d .1)))
 
 module _ (s : State) (ok : sound s ≡ true) (now : ℕ) where
-  pub sessions-full-expired : sessionsFull (expire now s) ≡ not (any free (s .sessions) || any (dueSlot now) (s .sessions))
+  sessions-full-expired : sessionsFull (expire now s) ≡ not (any free (s .sessions) || any (dueSlot now) (s .sessions))
   sessions-full-expired =
-      rw (sessions-expired s ok now)
-      (full-any free (map (freeDue now) (s .sessions)) sessionCount (length-map (s .sessions) (freeDue now) ∙ sessions-length s ok)
-      ∙ ap not (any-mapped free (freeDue now) (λ e. free e || dueSlot now e) each (s .sessions) ∙ any-or free (dueSlot now) (s .sessions)))
+      rw (sessions-expired s ok now) (full-mapped free (freeDue now) (dueSlot now) each (s .sessions) sessionCount (sessions-length s ok))
     where
       each : (e : Slot) → free (freeDue now e) ≡ free e || dueSlot now e
       each noSession = refl
@@ -54,11 +52,9 @@ module _ (s : State) (ok : sound s ≡ true) (now : ℕ) where
           go true = refl
           go false = refl
 
-  pub rows-full-expired : rowsFull (expire now s) ≡ not (any freeRow (s .rows) || any (goes now s) (s .rows))
+  rows-full-expired : rowsFull (expire now s) ≡ not (any freeRow (s .rows) || any (goes now s) (s .rows))
   rows-full-expired =
-      rw (rows-expired s now)
-      (full-any freeRow (map (freeIfOf (due s now)) (s .rows)) rowCount (length-map (s .rows) (freeIfOf (due s now)) ∙ rows-length s ok)
-      ∙ ap not (any-mapped freeRow (freeIfOf (due s now)) (λ r. freeRow r || goes now s r) each (s .rows) ∙ any-or freeRow (goes now s) (s .rows)))
+      rw (rows-expired s now) (full-mapped freeRow (freeIfOf (due s now)) (goes now s) each (s .rows) rowCount (rows-length s ok))
     where
       each : (r : Row) → freeRow (freeIfOf (due s now) r) ≡ freeRow r || goes now s r
       each noRow = refl
@@ -67,6 +63,13 @@ module _ (s : State) (ok : sound s ≡ true) (now : ℕ) where
           go : (t : Bool) → freeRow (if t then noRow else row n k d u) ≡ t
           go true = refl
           go false = refl
+
+  -- by the search for a free one
+  pub sessions-full-told : {f g : Found} {t : Bool} → f ≡ found sessionCount (place free (s .sessions)) → f ≡ g → t ≡ any (dueSlot now) (s .sessions) → fullBy g t ≡ sessionsFull (expire now s)
+  sessions-full-told {g = g} p q r = ap (fullBy g) r ∙ full-by free noSession (s .sessions) sessionCount (sessions-length s ok) g _ (sym p ∙ q) ∙ sym sessions-full-expired
+
+  pub rows-full-told : {f g : Found} {t : Bool} → f ≡ found rowCount (place freeRow (s .rows)) → f ≡ g → t ≡ any (goes now s) (s .rows) → fullBy g t ≡ rowsFull (expire now s)
+  rows-full-told {g = g} p q r = ap (fullBy g) r ∙ full-by freeRow noRow (s .rows) rowCount (rows-length s ok) g _ (sym p ∙ q) ∙ sym rows-full-expired
 
   module _ (full : rowsFull (expire now s) ≡ true) where
     rows-stay : expire now s .rows ≡ s .rows

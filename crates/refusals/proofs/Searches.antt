@@ -2,21 +2,26 @@
 -- induction on the table.
 use mathlib.Core.Path.{_≡_, refl, sym, ap, ap₂, _∙_}
 use mathlib.Core.Bool.{Bool, true, false, not, _&&_, _||_}
-use mathlib.Core.List.{List, [], _∷_}
+use mathlib.Core.List.{List, [], _∷_, map}
 use Prim.Native.Nat.{ℕ, suc, _+_}
 use native.Mathlib.Omega.{arith}
 use lib.Dec.{leb, leb·suc-suc}
-use lib.ListN.{length}
+use lib.ListN.{length, length-map}
 use borrow.Author.Tests.{lt-leb, not-true}
 use mathlib.Core.Logic.{inl, inr}
 use Rattle.lent.specs.Tables.{if_then_else_}
 use Rattle.lent.proofs.Choices.{clash, or-no, or-swap}
 use Rattle.machine.specs.Tables.{place, any, count, find}
-use Rattle.machine.proofs.Views.{find-test, any-at}
+use Rattle.machine.proofs.Views.{find-test, any-at, any-mapped}
 use Rattle.layout.specs.Search.{found}
 use Rattle.layout.specs.declared.Found.{Found}
 use Rattle.layout.proofs.Search.{found-at, found-passes, found-full, count-most}
 use Rattle.endings.proofs.Searches.{any-hit}
+
+-- what a search for a free entry tells of a full table: none, and that nothing else frees one
+abbrev pub fullBy : Found → Bool → Bool
+fullBy (Found.At i) t = false
+fullBy Found.Nothing t = not t
 
 module _ {A : Type 0} (p : A → Bool) where
   -- ---- by the count of the others
@@ -44,11 +49,21 @@ module _ {A : Type 0} (p : A → Bool) where
     pub nothing-any : found n (place p l) ≡ Found.Nothing → any p l ≡ false
     nothing-any f = not-true (any p l) (sym (full-any l n e) ∙ found-full p d l n e f)
 
+    -- whether no entry passes and nothing else does, by what is found
+    pub full-by : (f : Found) (t : Bool) → found n (place p l) ≡ f → fullBy f t ≡ not (any p l || t)
+    full-by (Found.At i) t g = rw (found-any i g)
+    full-by Found.Nothing t g = rw (nothing-any g)
+
   -- ---- two tests
 
   pub any-or : (q : A → Bool) (l : List A) → any (λ x. p x || q x) l ≡ any p l || any q l
   any-or q [] = refl
   any-or q (x ∷ l) = ap (λ t. (p x || q x) || t) (any-or q l) ∙ or-swap (p x) (q x) (any p l) (any q l)
+
+  -- whether all others are left of a table that is changed so that each that passes q passes p
+  pub full-mapped : (f : A → A) (q : A → Bool) → ((x : A) → p (f x) ≡ p x || q x) → (l : List A) (n : ℕ) → length l ≡ n
+      → leb n (count (λ x. not (p x)) (map f l)) ≡ not (any p l || any q l)
+  full-mapped f q each l n e = full-any (map f l) n (length-map l f ∙ e) ∙ ap not (any-mapped p f (λ x. p x || q x) each l ∙ any-or q l)
 
   -- if each that passes one passes the other
 

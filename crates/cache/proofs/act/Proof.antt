@@ -75,70 +75,70 @@ same-length c = search needs
 
 returns : tie.Need-returns
 unfolding tried refusals effect
-returns c = λ σ h ok. rw (c .before .before .before .before .enum-told .given .1) (c .before .before .begin .ensures σ h ok)
+returns c = rw (c .before .before .before .before .enum-told .given .1) (c .before .before .begin .ensures)
 
 same-length-2 : tie.Need-same-length-2
 same-length-2 c = search needs
 
 returns-2 : tie.Need-returns-2
 unfolding tried refusals effect
-returns-2 c = λ σ h ok. rw (c .before .before .before .before .before .command .given .1) (c .before .before .get .ensures σ h ok)
+returns-2 c = rw (c .before .before .before .before .before .command .given .1) (c .before .before .get .ensures)
 
 same-length-3 : tie.Need-same-length-3
 same-length-3 c = search needs
 
 returns-3 : tie.Need-returns-3
 unfolding tried refusals effect
-returns-3 c = λ σ h ok. rw (c .before .before .before .before .before .command2 .given .1) (c .before .before .fill .ensures σ h ok)
+returns-3 c = rw (c .before .before .before .before .before .command2 .given .1) (c .before .before .fill .ensures)
 
 same-length-4 : tie.Need-same-length-4
 same-length-4 c = search needs
 
 returns-4 : tie.Need-returns-4
 unfolding tried refusals effect
-returns-4 c = λ σ h ok. rw (c .before .before .before .before .before .command3 .given .1) (c .before .before .quar .ensures σ h ok)
+returns-4 c = rw (c .before .before .before .before .before .command3 .given .1) (c .before .before .quar .ensures)
 
 same-length-5 : tie.Need-same-length-5
 same-length-5 c = search needs
 
 returns-5 : tie.Need-returns-5
 unfolding tried refusals effect
-returns-5 c = λ σ h ok. rw (c .before .before .before .before .before .command4 .given .1) (c .before .before .stage .ensures σ h ok)
+returns-5 c = rw (c .before .before .before .before .before .command4 .given .1) (c .before .before .stage .ensures)
 
 same-length-6 : tie.Need-same-length-6
 same-length-6 c = search needs
 
 returns-6 : tie.Need-returns-6
 unfolding tried refusals effect
-returns-6 c = λ σ h ok. rw (c .before .before .before .before .before .command5 .given .1) (c .before .before .delta .ensures σ h ok)
+returns-6 c = rw (c .before .before .before .before .before .command5 .given .1) (c .before .before .delta .ensures)
 
 same-length-7 : tie.Need-same-length-7
 same-length-7 c = search needs
 
 returns-7 : tie.Need-returns-7
 unfolding tried refusals effect
-returns-7 c = λ σ h ok. rw (c .before .before .before .before .before .command6 .given .1) (c .before .before .validate .ensures σ h ok)
+returns-7 c = rw (c .before .before .before .before .before .command6 .given .1) (c .before .before .validate .ensures)
 
 same-length-8 : tie.Need-same-length-8
 same-length-8 c = search needs
 
 returns-8 : tie.Need-returns-8
 unfolding tried refusals effect
-returns-8 c = λ σ h ok. rw (c .before .before .before .before .before .command7 .given .1) (c .before .before .done .ensures σ h ok)
+returns-8 c = rw (c .before .before .before .before .before .command7 .given .1) (c .before .before .done .ensures)
 
 same-length-9 : tie.Need-same-length-9
 same-length-9 c = search needs
 
 returns-9 : tie.Need-returns-9
 unfolding tried refusals effect
-returns-9 c = λ σ h ok. rw (c .before .before .before .before .before .command8 .given .1) (c .before .before .undo .ensures σ h ok)
+returns-9 c = rw (c .before .before .before .before .before .command8 .given .1) (c .before .before .undo .ensures)
 
 same-length-10 : tie.Need-same-length-10
 same-length-10 c = search needs
 
 returns-10 : tie.Need-returns-10
 unfolding tried refusals effect
-returns-10 c = λ σ h ok. rw (c .before .before .before .before .before .command9 .given .1) (c .before .before .evict .ensures σ h ok)
+returns-10 c = rw (c .before .before .before .before .before .command9 .given .1) (c .before .before .evict .ensures)
 
 returns-11 : tie.Need-returns-11
 unfolding tried refusals effect

@@ -1,5 +1,4 @@
 -- Token and deadline, written one after the other, are the record's lease.
-use native.Mathlib.Omega.{arith}
 use Rattle.keys.proofs.Written.{lease-written}
 use borrow.Author.Needs.{needs}
 use Rattle.keys.proofs.put_lease.Statement.{statement}
@@ -27,10 +26,7 @@ same-length : tie.Need-same-length
 same-length c = search needs
 
 returns : tie.Need-returns
-returns c = let store-u64 = c .before .before .store-u64 in
-    let store-u32 = c .before .before .before .before .before .before .store-u32 in
-    let args = c .before .before .before .before .before .before .before .before .before .args in
-    λ σ h g. rw (store-u64 .ensures, store-u32 .ensures) (lease-written h (args .k) (omega arith) (args .token) (args .until) (omega arith) (omega arith) (omega arith))
+returns c = λ σ h g. rw (c .before .before .store-u64 .ensures, c .before .before .before .before .before .before .store-u32 .ensures) (lease-written h _ (search needs) _ _ (search needs) (search needs) (search needs))
 
 pub put-lease-spec : {M : Type 1} → statement M
 put-lease-spec =

@@ -1,7 +1,14 @@
--- `command` meets its contract: an arm for each form of a shape.
-use mathlib.Core.Path.{sym, _∙_}
-use Rattle.lines.specs.Lines.{commandLine}
-use Rattle.lines.proofs.Saying.{gives-none, gives-unvalued}
+-- `command` meets its contract: the shape, the numbers and what ends the line, in the order of `commandLine`.
+use mathlib.Core.Path.{_≡_, sym, _∙_}
+use mathlib.Core.List.{List}
+use Prim.Native.Nat.{ℕ}
+use Rattle.lent.specs.Bytes.{splice}
+use Rattle.hex.specs.Hex.{lengthRead, valueRead}
+use Rattle.hex.specs.declared.Hex.{Hex}
+use Rattle.lines.specs.Fields.{fieldsAt, ending}
+use Rattle.lines.specs.Lines.{orUnreadable, shapeOf, commandLine, Gives}
+use Rattle.lines.specs.declared.Line.{Line}
+use Rattle.lines.proofs.Saying.{gives-none, valuedLine, gives-valued}
 use borrow.Author.Needs.{needs}
 use Rattle.lines.proofs.command.Statement.{statement}
 use Rattle.lines.proofs.command.Tie as tie
@@ -9,45 +16,80 @@ use Rattle.lines.proofs.command.Tie as tie
 shape-of-requires : tie.Need-shape-of-requires
 shape-of-requires c κs = search needs
 
-enum-known-shape : tie.Need-enum-known-shape
-enum-known-shape c = search needs
-
-plain-requires : tie.Need-plain-requires
-plain-requires c κs = search needs
-
-enum-known-shape-2 : tie.Need-enum-known-shape-2
-enum-known-shape-2 c = search needs
-
-valued-requires : tie.Need-valued-requires
-valued-requires c κs = search needs
+enum-known-number : tie.Need-enum-known-number
+enum-known-number c = search needs
 
 enum-told : tie.Need-enum-told
 enum-told c = search needs
 
 returns : tie.Need-returns
-returns c = rw (sym (c .before .before .before .before .shape-of .ensures) ∙ c .before .before .shape .given .1) (gives-unvalued _ _ _ (c .plain .ensures))
+unfolding commandLine
+returns c = rw (sym (c .before .before .shape-of .ensures) ∙ c .enum-told .given .1) (gives-none _)
+
+numbers-requires : tie.Need-numbers-requires
+numbers-requires c κs = search needs
+
+enum-known-a : tie.Need-enum-known-a
+enum-known-a c = search needs
+
+enum-told-2 : tie.Need-enum-told-2
+enum-told-2 c = search needs
+
+returns-2 : tie.Need-returns-2
+unfolding commandLine
+returns-2 c = rw (sym (c .before .before .before .before .before .before .shape-of .ensures) ∙ c .before .before .before .before .number .given .1, c .before .before .numbers .ensures, c .enum-told2 .given .1) (gives-none _)
+
+ending-requires : tie.Need-ending-requires
+ending-requires c κs = search needs
+
+enum-known-length : tie.Need-enum-known-length
+enum-known-length c = search needs
+
+enum-told-3 : tie.Need-enum-told-3
+enum-told-3 c = search needs
+
+-- behind the numbers what is given is by what ends the line
+by-ending : (c : tie.After-known-told2) {x r : Hex} {after : List ℕ}
+    → let a = c .before .before .before .before .before .before .before .before .before .before .args in
+    let shape = c .before .before .before .before .before .number .given .0 in
+    let numbers = c .before .a .given .0 in
+    let end = ending (shape .1 .1 .0) (fieldsAt (a .line .now) (numbers .1 .1 .1 .1 .0)) in
+    (x ≡ lengthRead end) × (after ≡ splice (a .value .now) 0 (valueRead end)) → x ≡ r
+    → Gives (orUnreadable (commandLine (a .time) (shapeOf (a .letter)) (fieldsAt (a .line .now) (a .at))))
+    (valuedLine (Line.Command (shape .0) (a .time) (numbers .0) (numbers .1 .0) (numbers .1 .1 .0) (numbers .1 .1 .1 .0)) r) (a .value .now) after
+unfolding commandLine
+by-ending c e q =
+    rw (sym (c .before .before .before .before .before .before .before .shape-of .ensures) ∙ c .before .before .before .before .before .number .given .1, c .before .before .before .numbers .ensures, c .before .a .given .1)
+    (gives-valued (ending (c .before .before .before .before .before .number .given .0 .1 .1 .0) (fieldsAt (c .before .before .before .before .before .before .before .before .before .before .args .line .now) (c .before .a .given .0 .1 .1 .1 .1 .0))) _ e q)
 
 same-length : tie.Need-same-length
 same-length c = search needs
 
-returns-2 : tie.Need-returns-2
-returns-2 c = rw (sym (c .before .before .before .before .before .before .before .shape-of .ensures) ∙ c .before .before .before .before .before .shape2 .given .1) (c .before .before .valued .ensures)
-
 returns-3 : tie.Need-returns-3
-unfolding commandLine
-returns-3 c = rw (sym (c .before .before .shape-of .ensures) ∙ c .enum-told .given .1) (gives-none _)
+returns-3 c = by-ending (c .before .before .before .before .before .before) (c .before .before .before .before .ending .ensures) (c .enum-told3 .given .1)
+
+same-length-2 : tie.Need-same-length-2
+same-length-2 c = search needs
+
+returns-4 : tie.Need-returns-4
+returns-4 c = by-ending (c .before .before .before .before .before .before .before) (c .before .before .before .before .before .ending .ensures) (c .before .length .given .1)
 
 pub command-spec : {M : Type 1} → statement M
 command-spec =
     tie.close
     (tie.spec
     shape-of-requires
-    enum-known-shape
-    plain-requires
-    enum-known-shape-2
-    valued-requires
+    enum-known-number
     enum-told
     returns
-    same-length
+    numbers-requires
+    enum-known-a
+    enum-told-2
     returns-2
-    returns-3)
+    ending-requires
+    enum-known-length
+    enum-told-3
+    same-length
+    returns-3
+    same-length-2
+    returns-4)

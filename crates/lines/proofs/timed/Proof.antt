@@ -1,6 +1,11 @@
 -- `timed` meets its contract: the time, the letter and what follows it, in the order of `timedLine`.
+use mathlib.Core.Path.{_≡_}
+use mathlib.Core.Bool.{Bool}
+use lib.Dec.{eqb}
 use borrow.Author.Tests.{eq-eqb, ne-eqb}
-use Rattle.lines.specs.Lines.{timedLine, writeLetter}
+use Rattle.lent.specs.Tables.{if_then_else_}
+use Rattle.lines.specs.Fields.{fieldsAt}
+use Rattle.lines.specs.Lines.{shapeOf, commandLine, writeLine, timedLine, writeLetter}
 use Rattle.lines.proofs.Saying.{gives-none}
 use borrow.Author.Needs.{needs}
 use Rattle.lines.proofs.timed.Statement.{statement}
@@ -38,9 +43,18 @@ register-write-requires c κs = search needs
 same-length : tie.Need-same-length
 same-length c = search needs
 
-returns-3 : tie.Need-returns-3
+-- behind the letter: by whether it is that of a register write
+by-letter : (c : tie.After-known-told2) {t : Bool}
+    → let a = c .before .before .before .before .before .before .before .before .before .before .args in
+    let time = c .before .before .before .before .before .time .given .0 in
+    let letter = c .before .letter .given .0 in
+    let rest = fieldsAt (a .line .now) (letter .1 .0) in
+    eqb (letter .0) writeLetter ≡ t → timedLine (fieldsAt (a .line .now) 0) ≡ (if t then writeLine rest else commandLine (time .0) (shapeOf (letter .0)) rest)
 unfolding timedLine
-returns-3 c = rw (c .before .before .before .before .before .before .before .before .before .before .before .before .number-at .ensures, c .before .before .before .before .before .before .before .before .before .before .time .given .1, c .before .before .before .before .before .before .before .before .letter-at .ensures, c .before .before .before .before .before .before .letter .given .1, eq-eqb (c .before .before .before .before .before .before .letter .given .0 .0) writeLetter (c .before .before .before .before .if1 .taken)) (c .before .before .register-write .ensures)
+by-letter c e = rw (c .before .before .before .before .before .before .before .number-at .ensures, c .before .before .before .before .before .time .given .1, c .before .before .before .letter-at .ensures, c .before .letter .given .1, e)
+
+returns-3 : tie.Need-returns-3
+returns-3 c = rw (by-letter (c .before .before .before .before .before) (eq-eqb _ _ (c .before .before .before .before .if1 .taken))) (c .before .before .register-write .ensures)
 
 command-requires : tie.Need-command-requires
 command-requires c κs = search needs
@@ -49,8 +63,7 @@ same-length-2 : tie.Need-same-length-2
 same-length-2 c = search needs
 
 returns-4 : tie.Need-returns-4
-unfolding timedLine
-returns-4 c = rw (c .before .before .before .before .before .before .before .before .before .before .before .before .number-at .ensures, c .before .before .before .before .before .before .before .before .before .before .time .given .1, c .before .before .before .before .before .before .before .before .letter-at .ensures, c .before .before .before .before .before .before .letter .given .1, ne-eqb (c .before .before .before .before .before .before .letter .given .0 .0) writeLetter (c .before .before .before .before .if1 .left)) (c .before .before .command .ensures)
+returns-4 c = rw (by-letter (c .before .before .before .before .before) (ne-eqb _ _ (c .before .before .before .before .if1 .left))) (c .before .before .command .ensures)
 
 pub timed-spec : {M : Type 1} → statement M
 timed-spec =

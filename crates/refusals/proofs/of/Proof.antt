@@ -71,11 +71,11 @@ enum-told-2 c = search needs
 
 returns : tie.Need-returns
 unfolding refusals
-returns c = λ σ h ok. rw (c .before .enum-told .given .1) (c .begin .ensures σ h ok)
+returns c = rw (c .before .enum-told .given .1) (c .begin .ensures)
 
 returns-2 : tie.Need-returns-2
 unfolding refusals
-returns-2 c = λ σ h ok. rw (c .before .before .command .given .1) (c .get .ensures σ h ok)
+returns-2 c = rw (c .before .before .command .given .1) (c .get .ensures)
 
 returns-3 : tie.Need-returns-3
 unfolding refusals
@@ -83,27 +83,27 @@ returns-3 c = λ σ h ok. rw (c .before .before .command2 .given .1) (c .fill .e
 
 returns-4 : tie.Need-returns-4
 unfolding refusals
-returns-4 c = λ σ h ok. rw (c .before .before .command3 .given .1) (c .quar .ensures σ h ok)
+returns-4 c = rw (c .before .before .command3 .given .1) (c .quar .ensures)
 
 returns-5 : tie.Need-returns-5
 unfolding refusals
-returns-5 c = λ σ h ok. rw (c .before .before .command4 .given .1) (c .stage .ensures σ h ok)
+returns-5 c = rw (c .before .before .command4 .given .1) (c .stage .ensures)
 
 returns-6 : tie.Need-returns-6
 unfolding refusals
-returns-6 c = λ σ h ok. rw (c .before .before .command5 .given .1) (c .delta .ensures σ h ok)
+returns-6 c = rw (c .before .before .command5 .given .1) (c .delta .ensures)
 
 returns-7 : tie.Need-returns-7
 unfolding refusals
-returns-7 c = λ σ h ok. rw (c .before .before .command6 .given .1) (c .validate .ensures σ h ok)
+returns-7 c = rw (c .before .before .command6 .given .1) (c .validate .ensures)
 
 returns-8 : tie.Need-returns-8
 unfolding refusals
-returns-8 c = λ σ h ok. rw (c .before .before .command7 .given .1) (c .done .ensures σ h ok)
+returns-8 c = rw (c .before .before .command7 .given .1) (c .done .ensures)
 
 returns-9 : tie.Need-returns-9
 unfolding refusals
-returns-9 c = λ σ h ok. rw (c .before .before .command8 .given .1) (c .undo .ensures σ h ok)
+returns-9 c = rw (c .before .before .command8 .given .1) (c .undo .ensures)
 
 returns-10 : tie.Need-returns-10
 unfolding refusals

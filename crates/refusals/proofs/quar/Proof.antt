@@ -1,9 +1,18 @@
 -- Key and kind, then whoever is left; the last test is of two parts, and where the rows are full the other is as it was.
-use mathlib.Core.Path.{sym, _∙_}
+use mathlib.Core.Path.{_≡_, sym, _∙_}
+use mathlib.Core.Bool.{Bool}
+use mathlib.Core.List.{[]}
+use mathlib.Core.Option.{none, some}
 use native.Mathlib.Omega.{arith}
+use Rattle.lent.specs.Tables.{if_then_else_}
 use Rattle.lent.proofs.Choices.{test-failed, test-passed}
+use Rattle.machine.specs.Tables.{first}
+use Rattle.machine.specs.Words.{ROOM}
+use Rattle.machine.specs.Refusals.{refusals}
+use Rattle.machine.specs.declared.Command.the-variants.{Quar}
 use Rattle.machine.proofs.Accepted.{is-kind}
 use Rattle.machine.proofs.FirstRefusal.{quar-key, quar-kind, quar-not-live, quar-sealed, quar-room}
+use Rattle.refusals.specs.Met.{refusalOf, Meets}
 use Rattle.refusals.proofs.Lefts.{left-is, left-nobody, meets}
 use Rattle.refusals.proofs.Rooms.{quar-expired}
 use borrow.Author.Needs.{needs}
@@ -64,27 +73,23 @@ cast-would-grant-2 c = omega (arith, is-kind (c .before .before .before .before 
 would-grant-requires : tie.Need-would-grant-requires
 would-grant-requires c κs = let d = is-kind (c .before .before .before .before .before .before .before .before .before .before .before .before .args .kind) (test-passed (c .before .before .before .before .before .before .before .before .before .is-kind .ensures) (c .before .before .before .before .before .before .before .before .if2 .left)) in (search needs, (d .0, omega (arith, d .1)))
 
-returns-6 : tie.Need-returns-6
-returns-6 c =
-    let key = c .before .before .before .before .before .before .before .before .before .before .before .before .if1 .left in
-    let kind = test-passed (c .before .before .before .before .before .before .before .before .before .before .before .is-kind .ensures) (c .before .before .before .before .before .before .before .before .before .before .if2 .left) in
-    let x = c .before .before .before .before .before .before .before .x in
-    let unsealed = sym (c .before .before .before .before .before .is-sealed .ensures) ∙ c .before .before .before .before .if3 .left in
+-- where the rows are full, what would be granted is refused
+by-grant : (c : tie.After-would-grant) {t : Bool} → c .would-grant .result ≡ t
+    → let a = c .before .before .before .before .before .before .before .before .before .before .before .before .before .args in Meets (a .s .now) (a .time) (λ σ. first (refusals σ (Quar (a .session) (a .key) (a .kind)) [])) (refusalOf (if t then some ROOM else none))
+by-grant c g =
+    let key = c .before .before .before .before .before .before .before .before .before .before .before .if1 .left in
+    let kind = test-passed (c .before .before .before .before .before .before .before .before .before .before .is-kind .ensures) (c .before .before .before .before .before .before .before .before .before .if2 .left) in
+    let unsealed = sym (c .before .before .before .before .is-sealed .ensures) ∙ c .before .before .before .if3 .left in
     λ σ h ok.
-    let live = left-is _ _ (sym (c .before .before .before .before .before .before .before .before .before .session .ensures σ h ok) ∙ x .given .1) in
-    let full = test-passed (c .before .before .before .rows-full .ensures σ h ok) (c .before .before .if4 .left) in
-    meets (quar-expired _ ok _ full _ _ _ key kind _ live unsealed (sym (c .before .would-grant .ensures σ h ok) ∙ c .if5 .taken))
+    let live = left-is _ _ (sym (c .before .before .before .before .before .before .before .before .session .ensures σ h ok) ∙ c .before .before .before .before .before .before .x .given .1) in
+    let full = test-passed (c .before .before .rows-full .ensures σ h ok) (c .before .if4 .left) in
+    meets (quar-expired _ ok _ full _ _ _ key kind _ live unsealed (sym (c .would-grant .ensures σ h ok) ∙ g))
+
+returns-6 : tie.Need-returns-6
+returns-6 c = by-grant (c .before) (c .if5 .taken)
 
 returns-7 : tie.Need-returns-7
-returns-7 c =
-    let key = c .before .before .before .before .before .before .before .before .before .before .before .before .if1 .left in
-    let kind = test-passed (c .before .before .before .before .before .before .before .before .before .before .before .is-kind .ensures) (c .before .before .before .before .before .before .before .before .before .before .if2 .left) in
-    let x = c .before .before .before .before .before .before .before .x in
-    let unsealed = sym (c .before .before .before .before .before .is-sealed .ensures) ∙ c .before .before .before .before .if3 .left in
-    λ σ h ok.
-    let live = left-is _ _ (sym (c .before .before .before .before .before .before .before .before .before .session .ensures σ h ok) ∙ x .given .1) in
-    let full = test-passed (c .before .before .before .rows-full .ensures σ h ok) (c .before .before .if4 .left) in
-    meets (quar-expired _ ok _ full _ _ _ key kind _ live unsealed (sym (c .before .would-grant .ensures σ h ok) ∙ c .if5 .left))
+returns-7 c = by-grant (c .before) (c .if5 .left)
 
 pub quar-spec : {M : Type 1} → statement M
 quar-spec =

@@ -1,8 +1,12 @@
 -- Nobody left is NO SESSION; whoever is left finds what he finds on the state as it is.
-use mathlib.Core.Path.{sym, _∙_}
+use mathlib.Core.Path.{_≡_, sym, _∙_}
+use Rattle.machine.specs.Tables.{first}
 use Rattle.machine.specs.Expiry.{expire}
+use Rattle.machine.specs.Refusals.{stagingRefusals}
 use Rattle.machine.proofs.FirstRefusal.{staging-not-live}
-use Rattle.refusals.proofs.Lefts.{meets, left-is, left-nobody, left-stages}
+use Rattle.stages.specs.declared.Staging.{Staging}
+use Rattle.refusals.specs.Met.{Meets}
+use Rattle.refusals.proofs.Lefts.{meets, left-is, left-nobody, refusalIn, left-stages}
 use borrow.Author.Needs.{needs}
 use Rattle.refusals.proofs.staging.Statement.{statement}
 use Rattle.refusals.proofs.staging.Tie as tie
@@ -33,14 +37,19 @@ enum-told-3 c = search needs
 enum-told-4 : tie.Need-enum-told-4
 enum-told-4 c = search needs
 
+-- the refusal is in what he finds
+by-finding : (c : tie.After-find) {r : Staging} → c .find .result ≡ r
+    → let a = c .before .before .before .before .before .args in Meets (a .s .now) (a .time) (λ σ. first (stagingRefusals σ (a .session) (a .step) (a .k) (a .kind))) (refusalIn r)
+by-finding c e = λ σ h ok. left-stages _ ok _ _ _ (left-is _ _ (sym (c .before .before .before .session .ensures σ h ok) ∙ c .before .enum-told2 .given .1)) _ _ _ (sym (c .find .ensures .0 σ h) ∙ e)
+
 returns-2 : tie.Need-returns-2
-returns-2 c = λ σ h ok. left-stages _ ok _ _ _ (left-is _ _ (sym (c .before .before .before .before .before .before .session .ensures σ h ok) ∙ c .before .before .before .before .enum-told2 .given .1)) _ _ _ (sym (c .before .before .before .find .ensures .0 σ h) ∙ c .before .e .given .1)
+returns-2 c = by-finding (c .before .before .before) (c .before .e .given .1)
 
 returns-3 : tie.Need-returns-3
-returns-3 c = λ σ h ok. left-stages _ ok _ _ _ (left-is _ _ (sym (c .before .before .before .before .before .session .ensures σ h ok) ∙ c .before .before .before .enum-told2 .given .1)) _ _ _ (sym (c .before .before .find .ensures .0 σ h) ∙ c .enum-told3 .given .1)
+returns-3 c = by-finding (c .before .before) (c .enum-told3 .given .1)
 
 returns-4 : tie.Need-returns-4
-returns-4 c = λ σ h ok. left-stages _ ok _ _ _ (left-is _ _ (sym (c .before .before .before .before .before .session .ensures σ h ok) ∙ c .before .before .before .enum-told2 .given .1)) _ _ _ (sym (c .before .before .find .ensures .0 σ h) ∙ c .enum-told4 .given .1)
+returns-4 c = by-finding (c .before .before) (c .enum-told4 .given .1)
 
 pub staging-spec : {M : Type 1} → statement M
 staging-spec =

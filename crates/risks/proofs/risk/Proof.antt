@@ -1,5 +1,4 @@
 -- A wrong length is not well formed; else each arm is the risk of its command, on the state that the bytes hold.
-use Rattle.layout.specs.Layout.{decode}
 use Rattle.layout.proofs.Formed.{formed, holds-decoded}
 use Rattle.risks.specs.Risks.{wroteFor, staleFor}
 use borrow.Author.Needs.{needs}
@@ -74,11 +73,11 @@ returns-8 c = λ e. rw (c .enum-told6 .given .1)
 
 returns-9 : tie.Need-returns-9
 unfolding staleFor
-returns-9 c = λ e. rw (c .before .before .command2 .given .1) (c .done-risk .ensures (decode (c .before .before .before .before .before .before .before .before .args .cache .now)) (holds-decoded (c .before .before .before .before .before .before .before .before .args .cache .now) e))
+returns-9 c = λ e. rw (c .before .before .command2 .given .1) (c .done-risk .ensures _ (holds-decoded _ e))
 
 returns-10 : tie.Need-returns-10
 unfolding wroteFor
-returns-10 c = λ e. rw (c .before .before .command3 .given .1) (c .undo-risk .ensures (decode (c .before .before .before .before .before .before .before .before .args .cache .now)) (holds-decoded (c .before .before .before .before .before .before .before .before .args .cache .now) e))
+returns-10 c = λ e. rw (c .before .before .command3 .given .1) (c .undo-risk .ensures _ (holds-decoded _ e))
 
 returns-11 : tie.Need-returns-11
 returns-11 c = λ e. rw (c .enum-told7 .given .1)

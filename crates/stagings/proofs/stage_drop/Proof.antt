@@ -26,10 +26,7 @@ same-length : tie.Need-same-length
 same-length c = search needs
 
 returns : tie.Need-returns
-returns c = let clear = c .before .before .clear in
-    let store-pair = c .before .before .before .before .before .before .store-pair in
-    let args = c .before .before .before .before .before .before .before .before .before .args in
-    λ σ h g. rw (clear .ensures, store-pair .ensures) (drop-staged h (args .i) (search needs) g)
+returns c = λ σ h g. rw (c .before .before .clear .ensures, c .before .before .before .before .before .before .store-pair .ensures) (drop-staged h _ (search needs) g)
 
 pub stage-drop-spec : {M : Type 1} → statement M
 stage-drop-spec =

@@ -1,9 +1,6 @@
 -- A free row stays free; where there is none, one is free if a row goes.
-use mathlib.Core.Path.{sym, _∙_}
-use Rattle.machine.specs.Sizes.{rowCount}
-use Rattle.machine.specs.State.{freeRow, noRow}
-use Rattle.refusals.proofs.Searches.{found-any, nothing-any}
-use Rattle.refusals.proofs.Rooms.{rows-full-expired}
+use mathlib.Core.Path.{refl}
+use Rattle.refusals.proofs.Rooms.{rows-full-told}
 use borrow.Author.Needs.{needs}
 use Rattle.refusals.proofs.after.rows_full.Statement.{statement}
 use Rattle.refusals.proofs.after.rows_full.Tie as tie
@@ -15,7 +12,7 @@ enum-told : tie.Need-enum-told
 enum-told c = search needs
 
 returns : tie.Need-returns
-returns c = λ σ h ok. sym (rows-full-expired σ ok (c .before .before .before .before .args .time) ∙ rw (found-any freeRow noRow (σ .rows) rowCount (h .fits .rows) _ (sym (c .before .before .free-place .ensures .0 σ h) ∙ c .enum-told .given .1)))
+returns c = λ σ h ok. rows-full-told σ ok _ (c .before .before .free-place .ensures .0 σ h) (c .enum-told .given .1) refl
 
 enum-told-2 : tie.Need-enum-told-2
 enum-told-2 c = search needs
@@ -24,7 +21,7 @@ some-row-goes-requires : tie.Need-some-row-goes-requires
 some-row-goes-requires c κs = search needs
 
 returns-2 : tie.Need-returns-2
-returns-2 c = λ σ h ok. sym (rows-full-expired σ ok (c .before .before .before .before .before .args .time) ∙ rw (nothing-any freeRow noRow (σ .rows) rowCount (h .fits .rows) (sym (c .before .before .before .free-place .ensures .0 σ h) ∙ c .before .enum-told2 .given .1), ← c .some-row-goes .ensures σ h))
+returns-2 c = λ σ h ok. rows-full-told σ ok _ (c .before .before .before .free-place .ensures .0 σ h) (c .before .enum-told2 .given .1) (c .some-row-goes .ensures σ h)
 
 pub rows-full-spec : {M : Type 1} → statement M
 rows-full-spec =
