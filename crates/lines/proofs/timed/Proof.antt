@@ -40,7 +40,14 @@ same-length c = search needs
 
 returns-3 : tie.Need-returns-3
 unfolding timedLine
-returns-3 c = rw (c .before .before .before .before .before .before .before .before .before .before .before .before .number-at .ensures, c .before .before .before .before .before .before .before .before .before .before .time .given .1, c .before .before .before .before .before .before .before .before .letter-at .ensures, c .before .before .before .before .before .before .letter .given .1, eq-eqb (c .before .before .before .before .before .before .letter .given .0 .0) writeLetter (c .before .before .before .before .if1 .taken)) (c .before .before .register-write .ensures)
+returns-3 c =
+    let if1 = c .before .before .before .before .if1 in
+    let letter = c .before .before .before .before .before .before .letter in
+    let letter-at = c .before .before .before .before .before .before .before .before .letter-at in
+    let time = c .before .before .before .before .before .before .before .before .before .before .time in
+    let number-at = c .before .before .before .before .before .before .before .before .before .before .before .before .number-at in
+    rw (number-at .ensures, time .given .1, letter-at .ensures, letter .given .1, eq-eqb (letter .given .0 .0) writeLetter (if1 .taken))
+    (c .before .before .register-write .ensures)
 
 command-requires : tie.Need-command-requires
 command-requires c κs = search needs
@@ -50,7 +57,14 @@ same-length-2 c = search needs
 
 returns-4 : tie.Need-returns-4
 unfolding timedLine
-returns-4 c = rw (c .before .before .before .before .before .before .before .before .before .before .before .before .number-at .ensures, c .before .before .before .before .before .before .before .before .before .before .time .given .1, c .before .before .before .before .before .before .before .before .letter-at .ensures, c .before .before .before .before .before .before .letter .given .1, ne-eqb (c .before .before .before .before .before .before .letter .given .0 .0) writeLetter (c .before .before .before .before .if1 .left)) (c .before .before .command .ensures)
+returns-4 c =
+    let if1 = c .before .before .before .before .if1 in
+    let letter = c .before .before .before .before .before .before .letter in
+    let letter-at = c .before .before .before .before .before .before .before .before .letter-at in
+    let time = c .before .before .before .before .before .before .before .before .before .before .time in
+    let number-at = c .before .before .before .before .before .before .before .before .before .before .before .before .number-at in
+    rw (number-at .ensures, time .given .1, letter-at .ensures, letter .given .1, ne-eqb (letter .given .0 .0) writeLetter (if1 .left))
+    (c .before .before .command .ensures)
 
 pub timed-spec : {M : Type 1} → statement M
 timed-spec =
