@@ -37,21 +37,59 @@ load-u32-requires c κs = search needs
 
 returns-4 : tie.Need-returns-4
 unfolding headFormed headSound decHead
-returns-4 c = let s = c .before .before .before .before .before .before .before .before .before .args .s .now in rw (le-leb (le64 s 0) timeMax (omega arith), test-passed (c .before .before .before .before .before .lifetime-at .ensures) (c .before .before .before .before .if2 .left), test-passed (c .before .before .before .lifetime-at2 .ensures) (c .before .before .if3 .left), lt-leb 1 (le32 s 16) (omega arith))
+returns-4 c =
+    let lifetime-at2 = c .before .before .before .lifetime-at2 in
+    let if2 = c .before .before .before .before .if2 in
+    let lifetime-at = c .before .before .before .before .before .lifetime-at in
+    let s = c .before .before .before .before .before .before .before .before .before .args .s .now in
+    rw (
+      le-leb (le64 s 0) timeMax (omega arith),
+      test-passed (lifetime-at .ensures) (if2 .left),
+      test-passed (lifetime-at2 .ensures) (c .before .before .if3 .left),
+      lt-leb 1 (le32 s 16) (omega arith),
+    )
 
 load-u32-requires-2 : tie.Need-load-u32-requires-2
 load-u32-requires-2 c κs = search needs
 
 returns-5 : tie.Need-returns-5
 unfolding headFormed headSound decHead
-returns-5 c = let s = c .before .before .before .before .before .before .before .before .before .before .before .args .s .now in rw (le-leb (le64 s 0) timeMax (omega arith), test-passed (c .before .before .before .before .before .before .before .lifetime-at .ensures) (c .before .before .before .before .before .before .if2 .left), test-passed (c .before .before .before .before .before .lifetime-at2 .ensures) (c .before .before .before .before .if3 .left), le-leb 1 (le32 s 16) (omega arith), le-leb (le32 s 16) numberMax (omega arith), lt-leb 1 (le32 s 20) (omega arith))
+returns-5 c =
+    let if3 = c .before .before .before .before .if3 in
+    let lifetime-at2 = c .before .before .before .before .before .lifetime-at2 in
+    let if2 = c .before .before .before .before .before .before .if2 in
+    let lifetime-at = c .before .before .before .before .before .before .before .lifetime-at in
+    let s = c .before .before .before .before .before .before .before .before .before .before .before .args .s .now in
+    rw (
+      le-leb (le64 s 0) timeMax (omega arith),
+      test-passed (lifetime-at .ensures) (if2 .left),
+      test-passed (lifetime-at2 .ensures) (if3 .left),
+      le-leb 1 (le32 s 16) (omega arith),
+      le-leb (le32 s 16) numberMax (omega arith),
+      lt-leb 1 (le32 s 20) (omega arith),
+    )
 
 is-zero-requires : tie.Need-is-zero-requires
 is-zero-requires c κs = search needs
 
 returns-6 : tie.Need-returns-6
 unfolding headFormed headSound decHead
-returns-6 c = let s = c .before .before .before .before .before .before .before .before .before .before .before .before .args .s .now in rw (le-leb (le64 s 0) timeMax (omega arith), test-passed (c .before .before .before .before .before .before .before .before .lifetime-at .ensures) (c .before .before .before .before .before .before .before .if2 .left), test-passed (c .before .before .before .before .before .before .lifetime-at2 .ensures) (c .before .before .before .before .before .if3 .left), le-leb 1 (le32 s 16) (omega arith), le-leb (le32 s 16) numberMax (omega arith), le-leb 1 (le32 s 20) (omega arith), le-leb (le32 s 20) numberMax (omega arith)) (c .is-zero .ensures)
+returns-6 c =
+    let if3 = c .before .before .before .before .before .if3 in
+    let lifetime-at2 = c .before .before .before .before .before .before .lifetime-at2 in
+    let if2 = c .before .before .before .before .before .before .before .if2 in
+    let lifetime-at = c .before .before .before .before .before .before .before .before .lifetime-at in
+    let s = c .before .before .before .before .before .before .before .before .before .before .before .before .args .s .now in
+    rw (
+      le-leb (le64 s 0) timeMax (omega arith),
+      test-passed (lifetime-at .ensures) (if2 .left),
+      test-passed (lifetime-at2 .ensures) (if3 .left),
+      le-leb 1 (le32 s 16) (omega arith),
+      le-leb (le32 s 16) numberMax (omega arith),
+      le-leb 1 (le32 s 20) (omega arith),
+      le-leb (le32 s 20) numberMax (omega arith),
+    )
+    (c .is-zero .ensures)
 
 pub head-formed-spec : {M : Type 1} → statement M
 head-formed-spec =

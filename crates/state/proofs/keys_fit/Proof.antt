@@ -71,8 +71,13 @@ loop-less : tie.Need-loop-less Inv-loop μ-loop
 loop-less c = search needs
 
 loop-again : tie.Need-loop-again Inv-loop μ-loop
-loop-again c = let l = c .before .before .before .before .before .before in let n = l .before in let m = c .token-meets .ensures in
-    (search needs, (records-passed (keyFormed (n .before .limit .result) (n .load-u32 .result)) (n .before .before .before .args .s .now) keysFrom keyWidth (l .loop .k) (c .before .before .before .key-formed .ensures) (c .before .before .if1 .left) (l .loop .inv .1 .0), (m .marked, met-more (l .loop .inv .1 .1 .1) m)))
+loop-again c =
+    let l = c .before .before .before .before .before .before in
+    let n = l .before in
+    let m = c .token-meets .ensures in
+    let formed = keyFormed (n .before .limit .result) (n .load-u32 .result) in
+    let passed = records-passed formed (n .before .before .before .args .s .now) keysFrom keyWidth (l .loop .k) (c .before .before .before .key-formed .ensures) (c .before .before .if1 .left) (l .loop .inv .1 .0) in
+    (search needs, (passed, (m .marked, met-more (l .loop .inv .1 .1 .1) m)))
 
 returns-2 : tie.Need-returns-2 Inv-loop μ-loop
 unfolding keysFit keysFormed decHead

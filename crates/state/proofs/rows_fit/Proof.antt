@@ -56,7 +56,11 @@ join-requires c κs = (search needs, (search needs, (c .before .before .before .
 
 returns-2 : tie.Need-returns-2 Inv-loop μ-loop
 unfolding rowsFit
-returns-2 c = let f = every-fails (joinOk (c .before .before .before .before .before .before .before .before .before .before .before .args .s .now)) rowCount (c .before .before .before .before .before .before .before .before .before .loop .i) (search needs) (test-failed (c .before .join .ensures .is) (c .if2 .taken)) in rw (f, and-false)
+returns-2 c =
+    let loop = c .before .before .before .before .before .before .before .before .before .loop in
+    let args = c .before .before .before .before .before .before .before .before .before .before .before .args in
+    let f = every-fails (joinOk (args .s .now)) rowCount (loop .i) (search needs) (test-failed (c .before .join .ensures .is) (c .if2 .taken)) in
+    rw (f, and-false)
 
 add-i : tie.Need-add-i Inv-loop μ-loop
 add-i c = search needs
@@ -65,8 +69,13 @@ loop-less : tie.Need-loop-less Inv-loop μ-loop
 loop-less c = search needs
 
 loop-again : tie.Need-loop-again Inv-loop μ-loop
-loop-again c = let l = c .before .before .before .before .before .before .before .before .before in let j = c .before .join .ensures in
-    (search needs, (records-passed rowFormed (c .before .before .before .before .before .before .before .before .before .before .before .args .s .now) rowsFrom rowWidth (l .loop .i) (c .before .before .before .before .before .before .row-formed .ensures) (c .before .before .before .before .before .if1 .left) (l .loop .inv .1 .0), (every-more _ _ (l .loop .inv .1 .1 .0) (test-passed (j .is) (c .if2 .left)), j .next (not-false _ (c .if2 .left)))))
+loop-again c =
+    let l = c .before .before .before .before .before .before .before .before .before in
+    let j = c .before .join .ensures in
+    let told = c .before .before .before .before .before .before .row-formed .ensures in
+    let passed = records-passed rowFormed (l .before .before .args .s .now) rowsFrom rowWidth (l .loop .i) told (c .before .before .before .before .before .if1 .left) (l .loop .inv .1 .0) in
+    let joined = every-more _ _ (l .loop .inv .1 .1 .0) (test-passed (j .is) (c .if2 .left)) in
+    (search needs, (passed, (joined, j .next (not-false _ (c .if2 .left)))))
 
 returns-3 : tie.Need-returns-3 Inv-loop μ-loop
 unfolding rowsFit rowsFormed

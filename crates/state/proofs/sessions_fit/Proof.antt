@@ -72,8 +72,14 @@ loop-less : tie.Need-loop-less Inv-loop μ-loop
 loop-less c = search needs
 
 loop-again : tie.Need-loop-again Inv-loop μ-loop
-loop-again c = let l = c .before .before .before .before .before .before .before in let n = l .before in let m = c .session-sits .ensures in
-    (search needs, (records-passed (sessionFormed (n .before .limit .result) (n .load-u32 .result)) (n .before .before .before .args .s .now) sessionsFrom sessionWidth (l .loop .j) (c .before .before .before .before .session-formed .ensures) (c .before .before .before .if1 .left) (l .loop .inv .1 .0), (m .entered, sat-more (l .loop .inv .1 .1 .1) m)))
+loop-again c =
+    let l = c .before .before .before .before .before .before .before in
+    let n = l .before in
+    let m = c .session-sits .ensures in
+    let formed = sessionFormed (n .before .limit .result) (n .load-u32 .result) in
+    let told = c .before .before .before .before .session-formed .ensures in
+    let passed = records-passed formed (n .before .before .before .args .s .now) sessionsFrom sessionWidth (l .loop .j) told (c .before .before .before .if1 .left) (l .loop .inv .1 .0) in
+    (search needs, (passed, (m .entered, sat-more (l .loop .inv .1 .1 .1) m)))
 
 returns-2 : tie.Need-returns-2 Inv-loop μ-loop
 unfolding sessionsFit sessionsFormed decHead
