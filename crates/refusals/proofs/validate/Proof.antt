@@ -34,13 +34,28 @@ enum-told-4 : tie.Need-enum-told-4
 enum-told-4 c = search needs
 
 returns-3 : tie.Need-returns-3
-returns-3 c = λ σ h ok. validates _ _ _ _ (left-is _ _ (sym (c .before .before .before .before .before .before .session .ensures σ h ok) ∙ c .before .before .before .before .x .given .1)) (c .before .before .before .before .before .before .before .if1 .left) (sym (c .before .before .validate .ensures) ∙ c .enum-told2 .given .1)
+returns-3 c =
+    let x = c .before .before .before .before .x in
+    let session = c .before .before .before .before .before .before .session in
+    let if1 = c .before .before .before .before .before .before .before .if1 in
+    λ σ h ok. validates _ _ _ _ (left-is _ _ (sym (session .ensures σ h ok) ∙ x .given .1)) (if1 .left)
+    (sym (c .before .before .validate .ensures) ∙ c .enum-told2 .given .1)
 
 returns-4 : tie.Need-returns-4
-returns-4 c = λ σ h ok. validates _ _ _ _ (left-is _ _ (sym (c .before .before .before .before .before .before .session .ensures σ h ok) ∙ c .before .before .before .before .x .given .1)) (c .before .before .before .before .before .before .before .if1 .left) (sym (c .before .before .validate .ensures) ∙ c .enum-told3 .given .1)
+returns-4 c =
+    let x = c .before .before .before .before .x in
+    let session = c .before .before .before .before .before .before .session in
+    let if1 = c .before .before .before .before .before .before .before .if1 in
+    λ σ h ok. validates _ _ _ _ (left-is _ _ (sym (session .ensures σ h ok) ∙ x .given .1)) (if1 .left)
+    (sym (c .before .before .validate .ensures) ∙ c .enum-told3 .given .1)
 
 returns-5 : tie.Need-returns-5
-returns-5 c = λ σ h ok. validates _ _ _ _ (left-is _ _ (sym (c .before .before .before .before .before .before .session .ensures σ h ok) ∙ c .before .before .before .before .x .given .1)) (c .before .before .before .before .before .before .before .if1 .left) (sym (c .before .before .validate .ensures) ∙ c .enum-told4 .given .1)
+returns-5 c =
+    let x = c .before .before .before .before .x in
+    let session = c .before .before .before .before .before .before .session in
+    let if1 = c .before .before .before .before .before .before .before .if1 in
+    λ σ h ok. validates _ _ _ _ (left-is _ _ (sym (session .ensures σ h ok) ∙ x .given .1)) (if1 .left)
+    (sym (c .before .before .validate .ensures) ∙ c .enum-told4 .given .1)
 
 pub validate-spec : {M : Type 1} → statement M
 validate-spec =

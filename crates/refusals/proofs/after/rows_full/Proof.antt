@@ -24,7 +24,11 @@ some-row-goes-requires : tie.Need-some-row-goes-requires
 some-row-goes-requires c κs = search needs
 
 returns-2 : tie.Need-returns-2
-returns-2 c = λ σ h ok. sym (rows-full-expired σ ok (c .before .before .before .before .before .args .time) ∙ rw (nothing-any freeRow noRow (σ .rows) rowCount (h .fits .rows) (sym (c .before .before .before .free-place .ensures .0 σ h) ∙ c .before .enum-told2 .given .1), ← c .some-row-goes .ensures σ h))
+returns-2 c =
+    let time = c .before .before .before .before .before .args .time in
+    λ σ h ok.
+    let full = nothing-any freeRow noRow (σ .rows) rowCount (h .fits .rows) (sym (c .before .before .before .free-place .ensures .0 σ h) ∙ c .before .enum-told2 .given .1) in
+    sym (rows-full-expired σ ok time ∙ rw (full, ← c .some-row-goes .ensures σ h))
 
 pub rows-full-spec : {M : Type 1} → statement M
 rows-full-spec =

@@ -24,7 +24,11 @@ sessions-lapse-requires : tie.Need-sessions-lapse-requires
 sessions-lapse-requires c κs = search needs
 
 returns-2 : tie.Need-returns-2
-returns-2 c = λ σ h ok. sym (sessions-full-expired σ ok (c .before .before .before .before .before .args .time) ∙ rw (nothing-any free noSession (σ .sessions) sessionCount (h .fits .sessions) (sym (c .before .before .before .free-place .ensures .0 σ h) ∙ c .before .enum-told2 .given .1), ← c .sessions-lapse .ensures σ h))
+returns-2 c =
+    let time = c .before .before .before .before .before .args .time in
+    λ σ h ok.
+    let full = nothing-any free noSession (σ .sessions) sessionCount (h .fits .sessions) (sym (c .before .before .before .free-place .ensures .0 σ h) ∙ c .before .enum-told2 .given .1) in
+    sym (sessions-full-expired σ ok time ∙ rw (full, ← c .sessions-lapse .ensures σ h))
 
 pub sessions-full-spec : {M : Type 1} → statement M
 sessions-full-spec =
