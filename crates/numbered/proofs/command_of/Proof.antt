@@ -37,7 +37,21 @@ returns-11 : tie.Need-returns-11
 returns-11 c = rw (c .match .keys11)
 
 returns-12 : tie.Need-returns-12
-returns-12 c = rw (ne-eqb _ _ (c .match .rest .0 .0 .0 .0 .0 .0 .0 .0 .0 .0 .1), ne-eqb _ _ (c .match .rest .0 .0 .0 .0 .0 .0 .0 .0 .0 .1), ne-eqb _ _ (c .match .rest .0 .0 .0 .0 .0 .0 .0 .0 .1), ne-eqb _ _ (c .match .rest .0 .0 .0 .0 .0 .0 .0 .1), ne-eqb _ _ (c .match .rest .0 .0 .0 .0 .0 .0 .1), ne-eqb _ _ (c .match .rest .0 .0 .0 .0 .0 .1), ne-eqb _ _ (c .match .rest .0 .0 .0 .0 .1), ne-eqb _ _ (c .match .rest .0 .0 .0 .1), ne-eqb _ _ (c .match .rest .0 .0 .1), ne-eqb _ _ (c .match .rest .0 .1), ne-eqb _ _ (c .match .rest .1))
+returns-12 c =
+    let rest = c .match .rest in
+    rw (
+      ne-eqb _ _ (rest .0 .0 .0 .0 .0 .0 .0 .0 .0 .0 .1),
+      ne-eqb _ _ (rest .0 .0 .0 .0 .0 .0 .0 .0 .0 .1),
+      ne-eqb _ _ (rest .0 .0 .0 .0 .0 .0 .0 .0 .1),
+      ne-eqb _ _ (rest .0 .0 .0 .0 .0 .0 .0 .1),
+      ne-eqb _ _ (rest .0 .0 .0 .0 .0 .0 .1),
+      ne-eqb _ _ (rest .0 .0 .0 .0 .0 .1),
+      ne-eqb _ _ (rest .0 .0 .0 .0 .1),
+      ne-eqb _ _ (rest .0 .0 .0 .1),
+      ne-eqb _ _ (rest .0 .0 .1),
+      ne-eqb _ _ (rest .0 .1),
+      ne-eqb _ _ (rest .1),
+    )
 
 pub command-of-spec : {M : Type 1} → statement M
 command-of-spec =
