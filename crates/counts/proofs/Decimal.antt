@@ -93,7 +93,7 @@ first-digit (suc f) n v p h =
     ⊎-elim (λ l. rw (lt-ltb n 10 l) (omega arith))
     (λ l. rw (le-ltb n 10 l) (first-digit f (n / 10) ((48 + n % 10) ∷ v) (omega arith) (omega arith))) (one-digit n)
 
-pub digit-at : (v : List ℕ) (i : ℕ) → allDigits v ≡ true → i < length v → (48 ≤ getD v i 0) × (getD v i 0 ≤ 57)
+digit-at : (v : List ℕ) (i : ℕ) → allDigits v ≡ true → i < length v → (48 ≤ getD v i 0) × (getD v i 0 ≤ 57)
 digit-at [] i p h = absurd (omega arith)
 digit-at (b ∷ v) zero p h =
     let q = and-eq-true-iff (leb 48 b) (leb b 57) .0 (and-eq-true-iff (digit b) (allDigits v) .0 p .0) in

@@ -16,7 +16,7 @@ use Rattle.counts.specs.Count.{countMax, digitsMax, digit, allDigits, nu
 use Rattle.counts.specs.declared.Count.{Count}
 use Rattle.counts.specs.declared.Count.the-variants.{Is, Not}
 
-pub numeral-grows : (a : ℕ) (v : List ℕ) → a ≤ numeral a v
+numeral-grows : (a : ℕ) (v : List ℕ) → a ≤ numeral a v
 numeral-grows a [] = le-refl a
 numeral-grows a (b ∷ v) = omega (arith, numeral-grows (a * 10 + (b - 48)) v)
 
@@ -60,7 +60,7 @@ by-tests false u n v e = refl
 by-tests true true n v e = refl
 by-tests true false n v e = past n v (leb-false n countMax e)
 
-pub read-digit : (a b : ℕ) (v : List ℕ) → readBehind a (b ∷ v) ≡ readOn (extended a b) v
+read-digit : (a b : ℕ) (v : List ℕ) → readBehind a (b ∷ v) ≡ readOn (extended a b) v
 unfolding readBehind extended
 read-digit a b v = by-tests (digit b) (leb (a * 10 + (b - 48)) countMax) (a * 10 + (b - 48)) v refl
 

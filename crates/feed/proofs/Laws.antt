@@ -18,13 +18,13 @@ use Rattle.feed.specs.Held.{Buffer, taken, lineAfter, pushed, pushedAll}
 use Rattle.feed.specs.declared.Taken.{Taken}
 
 -- there is a place: the byte stands behind the held ones
-pub held-more : (line : List ℕ) (h b : ℕ) → h < heldMax → h < length line → take (h + 1) (set line h b) ≡ take heldMax (take h line ++ b ∷ [])
+held-more : (line : List ℕ) (h b : ℕ) → h < heldMax → h < length line → take (h + 1) (set line h b) ≡ take heldMax (take h line ++ b ∷ [])
 held-more line h b m l =
     let e : length (take h line ++ b ∷ []) ≤ heldMax = simp (length-append, length-take) (omega arith) in
     rw (add-one, take-suc-set line h b l) (sym (take-all heldMax (take h line ++ b ∷ []) e))
 
 -- there is none: the byte is let go
-pub held-full : (line : List ℕ) (h b : ℕ) → h ≡ heldMax → h ≤ length line → take h line ≡ take heldMax (take h line ++ b ∷ [])
+held-full : (line : List ℕ) (h b : ℕ) → h ≡ heldMax → h ≤ length line → take h line ≡ take heldMax (take h line ++ b ∷ [])
 held-full line h b m l =
     let n : length (take h line) ≡ heldMax = length-take-le h line l ∙ m in
     sym (take-append-le heldMax (take h line) (b ∷ []) (omega arith) ∙ take-all heldMax (take h line) (omega arith))

@@ -31,7 +31,7 @@ by-text P t u v w =
     (case-of (isDash t))
 
 module _ (t : List ℕ) where
-  pub value-read-bytes : Bytes (valueRead (readHex t))
+  value-read-bytes : Bytes (valueRead (readHex t))
   value-read-bytes = by-text (λ o. Bytes (valueRead o)) t (λ i. omega arith) (λ i. omega arith) (λ e. bytes-of t (hex-digits t e))
 
 module _ (t v : List ℕ) (e : readHex t ≡ some v) where

@@ -29,17 +29,17 @@ module _ (n : ℕ) where
   digit-many h = rw (le-ltb n 10 h)
 
   -- a digit says what it was made from
-  pub digit-back : n < 16 → digitValue (digitOf n) ≡ n
+  digit-back : n < 16 → digitValue (digitOf n) ≡ n
   digit-back h =
       ⊎-elim (λ t. let l : n < 10 = ltb-true n 10 t in rw (digit-few l, digit-number (48 + n) (omega arith) (omega arith)) (omega arith))
       (λ t. let l : 10 ≤ n = ltb-false n 10 t in rw (digit-many l, digit-letter (97 + (n - 10)) (omega arith) (omega arith)) (omega arith))
       (case-of (ltb n 10))
 
-pub digits-append : (v w : List ℕ) → digitsOf (v ++ w) ≡ digitsOf v ++ digitsOf w
+digits-append : (v w : List ℕ) → digitsOf (v ++ w) ≡ digitsOf v ++ digitsOf w
 digits-append [] w = refl
 digits-append (b ∷ v) w = rw (digits-append v w)
 
-pub length-digits : (v : List ℕ) → length (digitsOf v) ≡ 2 * length v
+length-digits : (v : List ℕ) → length (digitsOf v) ≡ 2 * length v
 length-digits [] = refl
 length-digits (b ∷ v) = omega (arith, length-digits v)
 

@@ -52,7 +52,7 @@ dash-one (b ∷ c ∷ t) e = absurd (omega arith)
 
 -- ---- all digits
 
-pub digits-turn : (t : List ℕ) (i : ℕ) → i < length t → allDigits (drop i t) ≡ ltb (digitValue (getD t i 0)) 16 && allDigits (drop (i + 1) t)
+digits-turn : (t : List ℕ) (i : ℕ) → i < length t → allDigits (drop i t) ≡ ltb (digitValue (getD t i 0)) 16 && allDigits (drop (i + 1) t)
 digits-turn t i h = rw (add-one, drop-cons t i 0)
 
 module _ (t : List ℕ) (i : ℕ) (h : i < length t) (r : Bool) (e : r ≡ allDigits (drop i t)) where

@@ -30,16 +30,16 @@ splice-over-front x y r e = splice-front x r y 0 (omega arith) ∙ rw (splice-wh
 
 module _ (b : List ℕ) (a w : ℕ) (x : List ℕ) (e : win b a w ≡ x) (l : a + w ≤ length b) where
   -- at a place in the record, or at its front
-  pub part-put : (i : ℕ) (y v : List ℕ) → i + length y ≤ w → splice x i y ≡ v → splice b (a + i) y ≡ splice b a v
+  part-put : (i : ℕ) (y v : List ℕ) → i + length y ≤ w → splice x i y ≡ v → splice b (a + i) y ≡ splice b a v
   part-put i y v m q =
       let lx : length x ≡ w = ap length (sym e) ∙ length-win b a w l in
       part-more b a w l b x i y (part-none b a w l ∙ rw e) lx m ∙ rw q
 
-  pub front-put : (y v : List ℕ) → length y ≤ w → splice x 0 y ≡ v → splice b a y ≡ splice b a v
+  front-put : (y v : List ℕ) → length y ≤ w → splice x 0 y ≡ v → splice b a y ≡ splice b a v
   front-put y v m q = rw add-zero at (part-put 0 y v (omega arith) q)
 
   -- at its front, then at a place in it
-  pub parts-put : (y : List ℕ) (j : ℕ) (z v : List ℕ) → length y ≤ w → j + length z ≤ w → splice (splice x 0 y) j z ≡ v → splice (splice b a y) (a + j) z ≡ splice b a v
+  parts-put : (y : List ℕ) (j : ℕ) (z v : List ℕ) → length y ≤ w → j + length z ≤ w → splice (splice x 0 y) j z ≡ v → splice (splice b a y) (a + j) z ≡ splice b a v
   parts-put y j z v m n q =
       let lx : length x ≡ w = ap length (sym e) ∙ length-win b a w l in
       part-more b a w l (splice b a y) (splice x 0 y) j z (front-put y (splice x 0 y) m refl) (length-splice x 0 y (omega arith) ∙ lx) n ∙ rw q
@@ -88,14 +88,19 @@ module _ {b : List ℕ} {s : State} (h : Holds b s) (k : ℕ) (l : k < keyCount)
   pub value-put : (o : Option Value) → ValueFits o → Holds (splice (splice b (keysFrom + k * keyWidth) (valueTag o ∷ valueLength o ∷ [])) (valueAt k) (valueBytes o)) (withKeys s (setValue (s .keys) k o))
   value-put o g =
       let n : keyValueField + length (valueBytes o) ≤ keyWidth = rw (length-value o g) (omega arith) in
-      rw (parts-put b (keysFrom + k * keyWidth) keyWidth (encKey (keyOf s k)) (key-stands h k l .held) (omega (arith, holds-size h)) (valueTag o ∷ valueLength o ∷ []) keyValueField (valueBytes o) (encKey (record { value = o; lease = keyOf s k .lease })) (omega arith) n (key-valued (keyOf s k) (key-fits h k l) o g))
-      (key-stands h k l .store (record { value = o; lease = keyOf s k .lease }) (record { value = g; lease = key-fits h k l .lease }))
+      let valued : Key = record { value = o; lease = keyOf s k .lease } in
+      let mark = valueTag o ∷ valueLength o ∷ [] in
+      rw (parts-put b (keysFrom + k * keyWidth) keyWidth (encKey (keyOf s k)) (key-stands h k l .held) (omega (arith, holds-size h))
+      mark keyValueField (valueBytes o) (encKey valued) (omega arith) n (key-valued (keyOf s k) (key-fits h k l) o g))
+      (key-stands h k l .store valued (record { value = g; lease = key-fits h k l .lease }))
 
   pub lease-put : (o : Option Lease) → LeaseFits o → Holds (splice b (keysFrom + k * keyWidth + keyTokenField) (leaseBytes o)) (withKeys s (setLease (s .keys) k o))
   lease-put o g =
       let n : keyTokenField + length (leaseBytes o) ≤ keyWidth = rw (length-lease o) (omega arith) in
-      rw (part-put b (keysFrom + k * keyWidth) keyWidth (encKey (keyOf s k)) (key-stands h k l .held) (omega (arith, holds-size h)) keyTokenField (leaseBytes o) (encKey (record { value = keyOf s k .value; lease = o })) n (key-leased (keyOf s k) (key-fits h k l) o))
-      (key-stands h k l .store (record { value = keyOf s k .value; lease = o }) (record { value = key-fits h k l .value; lease = g }))
+      let leased : Key = record { value = keyOf s k .value; lease = o } in
+      rw (part-put b (keysFrom + k * keyWidth) keyWidth (encKey (keyOf s k)) (key-stands h k l .held) (omega (arith, holds-size h))
+      keyTokenField (leaseBytes o) (encKey leased) n (key-leased (keyOf s k) (key-fits h k l) o))
+      (key-stands h k l .store leased (record { value = key-fits h k l .value; lease = g }))
 
 -- ---- a row
 

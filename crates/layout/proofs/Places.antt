@@ -20,9 +20,16 @@ use Rattle.layout.proofs.Widths.{length-head, length-key, length-row, l
 use Rattle.layout.proofs.Records.{head-read, key-read, row-read, session-read}
 
 -- the header is read from its own bytes
-pub head-win : (b : List ℕ) → decHead (win b 0 headSize) ≡ decHead b
+head-win : (b : List ℕ) → decHead (win b 0 headSize) ≡ decHead b
 unfolding decHead
-head-win b = rw (le64-win b 0 headSize 0 (omega arith), le32-win b 0 headSize readLifeField (omega arith), le32-win b 0 headSize writeLifeField (omega arith), le32-win b 0 headSize nextSessionField (omega arith), le32-win b 0 headSize nextTokenField (omega arith))
+head-win b =
+    rw (
+      le64-win b 0 headSize 0 (omega arith),
+      le32-win b 0 headSize readLifeField (omega arith),
+      le32-win b 0 headSize writeLifeField (omega arith),
+      le32-win b 0 headSize nextSessionField (omega arith),
+      le32-win b 0 headSize nextTokenField (omega arith),
+    )
 
 -- ---- a table, what comes before it and what comes behind it
 

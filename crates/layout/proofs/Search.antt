@@ -50,12 +50,12 @@ count-most p (x ∷ l) = go (p x) (count-most p l)
 -- ---- the place of the first that passes
 
 module _ {A : Type 0} (p : A → Bool) (d : A) where
-  pub place-is : (l : List A) (i : ℕ) → i < length l → p (getD l i d) ≡ true → ((j : ℕ) → j < i → p (getD l j d) ≡ false) → place p l ≡ i
+  place-is : (l : List A) (i : ℕ) → i < length l → p (getD l i d) ≡ true → ((j : ℕ) → j < i → p (getD l j d) ≡ false) → place p l ≡ i
   place-is [] i h e f = absurd (omega arith)
   place-is (x ∷ l) zero h e f = rw e
   place-is (x ∷ l) (suc i) h e f = rw (f 0 (omega arith), place-is l i (omega arith) e (λ j k. f (suc j) (omega arith)))
 
-  pub place-none : (l : List A) → ((j : ℕ) → j < length l → p (getD l j d) ≡ false) → place p l ≡ length l
+  place-none : (l : List A) → ((j : ℕ) → j < length l → p (getD l j d) ≡ false) → place p l ≡ length l
   place-none [] f = refl
   place-none (x ∷ l) f = rw (f 0 (omega arith), place-none l (λ j k. f (suc j) (omega arith)))
 
@@ -69,7 +69,7 @@ module _ {A : Type 0} (p : A → Bool) (d : A) where
       go false e k f = f (omega arith)
 
   -- a search by index
-  pub first-place : (l : List A) (n : ℕ) → length l ≡ n → first (λ i. p (getD l i d)) Found.At Found.Nothing 0 n ≡ foundAt n (place p l)
+  first-place : (l : List A) (n : ℕ) → length l ≡ n → first (λ i. p (getD l i d)) Found.At Found.Nothing 0 n ≡ foundAt n (place p l)
   first-place l n e = go (first-search (λ i. p (getD l i d)) Found.At Found.Nothing n 0)
     where
       go : {r : Found} → Search (λ i. p (getD l i d)) Found.At Found.Nothing r 0 n → r ≡ foundAt n (place p l)

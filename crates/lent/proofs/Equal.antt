@@ -57,7 +57,7 @@ same-split [] (y ∷ p) q m e h = absurd (omega arith)
 same-split (z ∷ x) (y ∷ p) q m e h =
     rw (← e) (rw (same-split x p q (length p) refl (omega arith)) (sym (and-assoc (eqb z y) (same (take (length p) x) p) (same (drop (length p) x) q))))
 
-pub same-append : (x y p q : List ℕ) (m : ℕ) → length x ≡ m → length p ≡ m → same (x ++ y) (p ++ q) ≡ same x p && same y q
+same-append : (x y p q : List ℕ) (m : ℕ) → length x ≡ m → length p ≡ m → same (x ++ y) (p ++ q) ≡ same x p && same y q
 same-append x y p q m e f =
     same-split (x ++ y) p q m f (simp length-append (omega arith)) ∙ rw (take-at x y m e, drop-at x y m e)
 
@@ -66,7 +66,7 @@ module _ (s : List ℕ) (a m n : ℕ) (p q : List ℕ) (e : length p ≡ m) (h :
   same-win = rw (win-add s a m n) (same-append (win s a m) (win s (a + m) n) p q m (length-win s a m (omega arith)) e)
 
   -- the front is the same
-  pub same-skip : win s a m ≡ p → same (win s a (m + n)) (p ++ q) ≡ same (win s (a + m) n) q
+  same-skip : win s a m ≡ p → same (win s a (m + n)) (p ++ q) ≡ same (win s (a + m) n) q
   same-skip f = same-win ∙ rw (f, same-refl p)
 
 -- one byte

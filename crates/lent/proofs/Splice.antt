@@ -219,7 +219,7 @@ splice-win s a n i x l h =
     ∙ sym (splice-is s a (splice m i x) n ly))
 
 -- a window around what was written
-pub win-splice-around : (s : List ℕ) (a n i : ℕ) (x : List ℕ) → a + n ≤ length s → i + length x ≤ n → win (splice s (a + i) x) a n ≡ splice (win s a n) i x
+win-splice-around : (s : List ℕ) (a n i : ℕ) (x : List ℕ) → a + n ≤ length s → i + length x ≤ n → win (splice s (a + i) x) a n ≡ splice (win s a n) i x
 win-splice-around s a n i x l h =
     let lm : length (win s a n) ≡ n = length-win s a n l in
     rw (← splice-win s a n i x l h) (win-splice s a (splice (win s a n) i x) n (length-splice (win s a n) i x (omega arith) ∙ lm) (omega arith))

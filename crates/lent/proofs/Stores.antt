@@ -8,7 +8,7 @@ use Rattle.lent.specs.Bytes.{splice, win, zeros}
 use Rattle.lent.proofs.Splice.{getD-splice-after, getD-splice-before, length-splice, length-win, set-splice, splice-next, splice-swap, win-cons, win-more}
 
 -- one more byte behind what was written
-pub splice-snoc : (s : List ℕ) (a : ℕ) (x : List ℕ) (n v : ℕ) → length x ≡ n → a + n < length s → set (splice s a x) (a + n) v ≡ splice s a (x ++ (v ∷ []))
+splice-snoc : (s : List ℕ) (a : ℕ) (x : List ℕ) (n v : ℕ) → length x ≡ n → a + n < length s → set (splice s a x) (a + n) v ≡ splice s a (x ++ (v ∷ []))
 splice-snoc s a x n v e h =
     let l : length (splice s a x) ≡ length s = length-splice s a x (omega arith) in
     set-splice (splice s a x) (a + n) v (omega arith) ∙ splice-next s x (v ∷ []) a n e (omega arith)

@@ -59,14 +59,14 @@ module _ {A : Type 0} (enc : A → List ℕ) (w : ℕ) where
   length-tab [] e = sym (zero-mul w)
   length-tab (x ∷ xs) e = simp (length-append, e .0, length-tab xs (e .1)) (omega arith)
 
-  pub win-tab : (xs : List A) (q : List ℕ) (d : A) (i : ℕ) → Wide xs → i < length xs → win (tabOf enc xs ++ q) (i * w) w ≡ enc (getD xs i d)
+  win-tab : (xs : List A) (q : List ℕ) (d : A) (i : ℕ) → Wide xs → i < length xs → win (tabOf enc xs ++ q) (i * w) w ≡ enc (getD xs i d)
   unfolding tabOf Each win
   win-tab [] q d i e h = absurd (not-suc-le-zero h)
   win-tab (x ∷ xs) q d zero e h = rw (zero-mul, append-assoc, take-at (enc x) _ w (e .0))
   win-tab (x ∷ xs) q d (suc i) e h =
       rw (append-assoc, place-next i w) (win-append (enc x) (tabOf enc xs ++ q) w (i * w) w (e .0) ∙ win-tab xs q d i (e .1) (le-of-suc-le-suc h))
 
-  pub put-tab : (xs : List A) (q : List ℕ) (y : A) (i : ℕ) → Wide xs → length (enc y) ≡ w → i < length xs → splice (tabOf enc xs ++ q) (i * w) (enc y) ≡ tabOf enc (set xs i y) ++ q
+  put-tab : (xs : List A) (q : List ℕ) (y : A) (i : ℕ) → Wide xs → length (enc y) ≡ w → i < length xs → splice (tabOf enc xs ++ q) (i * w) (enc y) ≡ tabOf enc (set xs i y) ++ q
   unfolding tabOf Each splice
   put-tab [] q y i e l h = absurd (not-suc-le-zero h)
   put-tab (x ∷ xs) q y zero e l h = rw (zero-mul, l, zero-add, append-assoc, drop-at (enc x) _ w (e .0), append-assoc)
@@ -95,7 +95,7 @@ module _ {A : Type 0} (dec : List ℕ → A) (w : ℕ) where
   length-read zero l = refl
   length-read (suc n) l = ap suc (length-read n (drop w l))
 
-  pub read-at : (n : ℕ) (l : List ℕ) (d : A) (i : ℕ) → i < n → getD (readTab dec w n l) i d ≡ dec (win l (i * w) w)
+  read-at : (n : ℕ) (l : List ℕ) (d : A) (i : ℕ) → i < n → getD (readTab dec w n l) i d ≡ dec (win l (i * w) w)
   unfolding readTab win
   read-at zero l d i h = absurd (not-suc-le-zero h)
   read-at (suc n) l d zero h = rw zero-mul
@@ -120,7 +120,7 @@ module _ {A : Type 0} (enc : A → List ℕ) (dec : List ℕ → A) (w : ℕ) wh
     abbrev again : List ℕ → ℕ → Bool
     again l i = same (win l (i * w) w) (enc (dec (win l (i * w) w)))
 
-    pub same-tab : (n : ℕ) (l q : List ℕ) → n * w ≤ length l
+    same-tab : (n : ℕ) (l q : List ℕ) → n * w ≤ length l
         → same l (tabOf enc (readTab dec w n l) ++ q) ≡ every (λ i. again l i) n && same (drop (n * w) l) q
     unfolding tabOf readTab win
     same-tab zero l q h = rw (zero-mul, every-none)
@@ -129,7 +129,8 @@ module _ {A : Type 0} (enc : A → List ℕ) (dec : List ℕ → A) (w : ℕ) wh
         let y : List ℕ = drop w l in
         let z : again l 0 ≡ same x (enc (dec x)) = rw zero-mul in
         let e : every (again y) n ≡ every (λ i. again l (suc i)) n = every-cong (again y) (λ i. again l (suc i)) n (λ i k. rw (drop-drop (i * w) w l, place-next i w)) in
-        rw (append-assoc, same-split l (enc (dec x)) (tabOf enc (readTab dec w n y) ++ q) w (wide x (length-take-le w l (omega arith))) (omega arith), same-tab n y q (simp length-drop (omega arith)), e, drop-drop (n * w) w l, place-next n w, every-front (again l) n, z)
+        let split = same-split l (enc (dec x)) (tabOf enc (readTab dec w n y) ++ q) w (wide x (length-take-le w l (omega arith))) (omega arith) in
+        rw (append-assoc, split, same-tab n y q (simp length-drop (omega arith)), e, drop-drop (n * w) w l, place-next n w, every-front (again l) n, z)
         (sym (and-assoc (same x (enc (dec x))) (every (λ i. again l (suc i)) n) (same (drop (w + n * w) l) q)))
 
     -- behind the first a bytes

@@ -21,7 +21,7 @@ use Rattle.lookups.specs.Test.{testOf, rowTest}
 
 -- ---- tests
 
-pub owner-free : (r : Row) → RowFits r → eqb (rowSession r) 0 ≡ freeRow r
+owner-free : (r : Row) → RowFits r → eqb (rowSession r) 0 ≡ freeRow r
 owner-free noRow f = refl
 owner-free (row n k d u) f = ne-eqb n 0 (λ q. omega (arith, q, f .given))
 

@@ -89,7 +89,7 @@ module _ (s : State) (now : ℕ) (h : WellFormed s now) where
   staged-in (row n k d v) i e q = rw q at (h .rows .each i e .what)
 
   -- each accepted command
-  pub well-effect : (c : Command) (v : Value) → Bytes v → refusal s now c v ≡ none → WellFormed (effect s now c v .after) now
+  well-effect : (c : Command) (v : Value) → Bytes v → refusal s now c v ≡ none → WellFormed (effect s now c v .after) now
   unfolding effect refusals
   well-effect Begin v b e = WellKept.well-begin s now h (leb-false numberMax (s .head .nextSession) (Accepted.passed s now Begin v e 2))
   well-effect (Get n k) v b e = well-looked n k (sight s n k) (λ p q r. leb-false numberMax (s .head .nextToken) (Accepted.room-for s now n k v e p q r))
@@ -183,7 +183,7 @@ unfolding commanded written
 next-sound w (command now c v) b h = step-sound (w .state) now c v b h
 next-sound w (write n k v) b h = h
 
-pub run-sound : (w : World) (es : List Event) → AllBytes es → sound (w .state) ≡ true → sound (run w es .state) ≡ true
+run-sound : (w : World) (es : List Event) → AllBytes es → sound (w .state) ≡ true → sound (run w es .state) ≡ true
 run-sound w [] b h = h
 run-sound w (e ∷ es) b h = run-sound (next w e) es (b .1) (next-sound w e (b .0) h)
 

@@ -181,7 +181,7 @@ orderly-keys s ks f h = record {
 }
 
 -- each session stood at its place with its number
-pub orderly-sessions : (s : State) (l : List Slot)
+orderly-sessions : (s : State) (l : List Slot)
     → ((i : ℕ) (x : Session) → getD l i noSession ≡ session x → (m : Session) × (sessionAt s i ≡ session m) × (m .number ≡ x .number))
     → Orderly s → Orderly (withSessions s l)
 orderly-sessions s l f h = record {
@@ -194,7 +194,7 @@ orderly-sessions s l f h = record {
 }
 
 -- each row stood at its place with its session, key and kind, and an invalidation with what it stages
-pub orderly-rows : (s : State) (rs : List Row)
+orderly-rows : (s : State) (rs : List Row)
     → ((i n k d : ℕ) (v : Staged) → getD rs i noRow ≡ row n k d v → (u : Staged) × (rowAt s i ≡ row n k d u) × (d ≡ INVALIDATE → v ≡ u))
     → Orderly s → Orderly (withRows s rs)
 orderly-rows s rs f h = record {

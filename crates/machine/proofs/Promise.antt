@@ -21,7 +21,7 @@ use Rattle.machine.proofs.Shape.{orderly-effect}
 use Rattle.machine.proofs.Invariant.{RowOn, Good, Frame, reframed, row-on-quarantined, quarantined-row-on, written-good}
 use Rattle.machine.proofs.Frames.{expire-value, expire-row-on, frame-kept, frame-expire, framed}
 
-pub expired-good : (w : World) → Good w → (now : ℕ) → Good (expired w now)
+expired-good : (w : World) → Good w → (now : ℕ) → Good (expired w now)
 expired-good w g now = reframed w g Answer.Ticked (expire now (w .state)) (w .began) (orderly-expire (w .state) now (g .orderly)) (frame-expire w g now)
     (λ k v p q. g .older k v (expire-value now (w .state) k v p) (expire-row-on now (w .state) k q))
 

@@ -27,7 +27,7 @@ use Rattle.machine.proofs.Views.{no-some, some-eq, answers-differ}
 
 -- The first test that holds
 
-pub first-is : (l : List (Bool × ℕ)) (e : ℕ) → first l ≡ some e → First l e
+first-is : (l : List (Bool × ℕ)) (e : ℕ) → first l ≡ some e → First l e
 first-is [] e p = no-some e p
 first-is (x ∷ l) e p = go (case-of (x .0)) (first-is l e)
   where
@@ -39,7 +39,7 @@ first-is (x ∷ l) e p = go (case-of (x .0)) (first-is l e)
     go (inl q) f = record { place = 0; holds = q; number = some-eq (x .1) e (rw q at p); before = λ j h. absurd (omega arith) }
     go (inr q) f = let g = f (rw q at p) in record { place = suc (g .place); holds = g .holds; number = g .number; before = λ j h. up j g q h }
 
-pub is-first : (l : List (Bool × ℕ)) (e : ℕ) → First l e → first l ≡ some e
+is-first : (l : List (Bool × ℕ)) (e : ℕ) → First l e → first l ≡ some e
 is-first l e f = go l (f .place) (f .holds) (f .number) (f .before)
   where
     go : (k : List (Bool × ℕ)) (i : ℕ) → getD k i (false, 0) .0 ≡ true → getD k i (false, 0) .1 ≡ e → ((j : ℕ) → j < i → getD k j (false, 0) .0 ≡ false) → first k ≡ some e

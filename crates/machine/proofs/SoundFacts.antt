@@ -61,7 +61,7 @@ module _ (s : State) (e : sound s ≡ true) where
   pub row-place : (i : ℕ) {n k d : ℕ} {u : Staged} → rowAt s i ≡ row n k d u → i < rowCount
   row-place i {n} {k} {d} {u} p = row-inside s i n k d u (rows-length s e) p
 
-  pub row-live : (i : ℕ) {n k d : ℕ} {u : Staged} → rowAt s i ≡ row n k d u → LiveAs (s .sessions) n
+  row-live : (i : ℕ) {n k d : ℕ} {u : Staged} → rowAt s i ≡ row n k d u → LiveAs (s .sessions) n
   row-live i p = sound-means s e .live i p
 
   pub row-number : (i : ℕ) {n k d : ℕ} {u : Staged} → rowAt s i ≡ row n k d u → (1 ≤ n) × (n < s .head .nextSession)

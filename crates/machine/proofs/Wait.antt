@@ -37,11 +37,11 @@ use Rattle.machine.proofs.KeepsSound.{well-expired}
 
 module _ (now : ℕ) (s : State) where
   -- no lease ends at or before now
-  pub expired-leases : (k : ℕ) (l : Lease) → leaseOn (expire now s) k ≡ some l → now < l .until
+  expired-leases : (k : ℕ) (l : Lease) → leaseOn (expire now s) k ≡ some l → now < l .until
   expired-leases k l e = expired-was now s k l e .1
 
   -- and no open session
-  pub expired-sessions : (i : ℕ) (x : Session) (until : ℕ) → sessionAt (expire now s) i ≡ session x → x .life ≡ Life.Open until → now < until
+  expired-sessions : (i : ℕ) (x : Session) (until : ℕ) → sessionAt (expire now s) i ≡ session x → x .life ≡ Life.Open until → now < until
   unfolding expire finish leave
   expired-sessions i x until e q = let r = OrderlyKept.was-session (those (isDue now) (s .sessions)) (s .sessions) i x e in go (r .0) (r .1) (case-of (leb until now))
     where

@@ -40,7 +40,16 @@ well-later s a b q t h = record {
 
 -- the clock is set to that time
 pub well-clock : (s : State) (now : ℕ) → WellFormed s now → WellFormed (withClock s now) now
-well-clock s now h = record { orderly = OrderlyKept.orderly-clock s now (h .orderly); head = record { time = h .head .time; readLife = h .head .readLife; writeLife = h .head .writeLife; nextSession = h .head .nextSession; nextToken = h .head .nextToken }; keys = h .keys; sessions = h .sessions; rows = h .rows; live = h .live }
+well-clock s now h =
+    let x = h .head in
+    record {
+      orderly = OrderlyKept.orderly-clock s now (h .orderly);
+      head = record { time = x .time; readLife = x .readLife; writeLife = x .writeLife; nextSession = x .nextSession; nextToken = x .nextToken };
+      keys = h .keys;
+      sessions = h .sessions;
+      rows = h .rows;
+      live = h .live;
+    }
 
 settle-length : (ns : List ℕ) (f : Staged → Option Value) (rs : List Row) (ks : List Key) → length (settle ns f rs ks) ≡ length ks
 settle-length ns f [] ks = refl
@@ -53,7 +62,8 @@ settle-length ns f (row m j d u ∷ rs) ks = go (mem m ns) (settle-length ns f r
 
 module _ (s : State) (now : ℕ) (h : WellFormed s now) where
   -- the keys change: each value fits, each lease was there
-  pub well-keys : (ks : List Key) → length ks ≡ length (s .keys) → ((k : ℕ) (v : Value) → getD ks k blank .value ≡ some v → Fine v) → ((k : ℕ) (l : Lease) → getD ks k blank .lease ≡ some l → leaseOn s k ≡ some l) → WellFormed (withKeys s ks) now
+  well-keys : (ks : List Key) → length ks ≡ length (s .keys) → ((k : ℕ) (v : Value) → getD ks k blank .value ≡ some v → Fine v)
+      → ((k : ℕ) (l : Lease) → getD ks k blank .lease ≡ some l → leaseOn s k ≡ some l) → WellFormed (withKeys s ks) now
   well-keys ks n fv fl = record {
     orderly = OrderlyKept.orderly-keys s ks (λ k l p. inl (fl k l p)) (h .orderly);
     head = h .head;
@@ -179,7 +189,7 @@ module _ (s : State) (now : ℕ) (h : WellFormed s now) where
       fits = record { positive = h .head .nextSession .0; steps = omega arith; deadline = λ t p. let q : now + s .head .writeLife ≡ t = cc in omega arith }
 
   -- the session of number n is put through f, which keeps its number
-  pub well-session : (n : ℕ) (f : Session → Session) → ((x : Session) → f x .number ≡ x .number)
+  well-session : (n : ℕ) (f : Session → Session) → ((x : Session) → f x .number ≡ x .number)
       → ((i : ℕ) (x : Session) → sessionAt s i ≡ session x → x .number ≡ n → SessionFits (now + s .head .writeLife) (f x)) → WellFormed (withSession s n f) now
   well-session n f same fits = record {
     orderly = OrderlyKept.orderly-session s n f same (h .orderly);
@@ -233,7 +243,7 @@ module _ (s : State) (now : ℕ) (h : WellFormed s now) where
       two i j m q d c u v (inr x) (inr y) = sym (x .0) ∙ y .0
 
   -- what is staged in the row of session n on key k becomes u, which fits its kind
-  pub well-restaged : (n k : ℕ) (u : Staged) → ((i d : ℕ) (v : Staged) → rowAt s i ≡ row n k d v → StagedFits d u) → Orderly (withStaged s n k u) → WellFormed (withStaged s n k u) now
+  well-restaged : (n k : ℕ) (u : Staged) → ((i d : ℕ) (v : Staged) → rowAt s i ≡ row n k d v → StagedFits d u) → Orderly (withStaged s n k u) → WellFormed (withStaged s n k u) now
   well-restaged n k u fits o = record {
     orderly = o;
     head = h .head;

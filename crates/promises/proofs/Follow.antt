@@ -37,12 +37,12 @@ next-follows w (write n k v) x f = refl
 
 -- ---- every run
 
-pub run-formed : (w : ByteWorld) (es : List Event) → AllBytes es → wellFormed (w .bytes) ≡ true → wellFormed (runBytes w es .bytes) ≡ true
+run-formed : (w : ByteWorld) (es : List Event) → AllBytes es → wellFormed (w .bytes) ≡ true → wellFormed (runBytes w es .bytes) ≡ true
 run-formed w [] x f = f
 run-formed w (e ∷ es) x f = run-formed (nextBytes w e) es (x .1) (next-formed w e (x .0) f)
 
 -- a run on the bytes is the machine's run on what they say
-pub run-follows : (w : ByteWorld) (es : List Event) → AllBytes es → wellFormed (w .bytes) ≡ true → worldOf (runBytes w es) ≡ run (worldOf w) es
+run-follows : (w : ByteWorld) (es : List Event) → AllBytes es → wellFormed (w .bytes) ≡ true → worldOf (runBytes w es) ≡ run (worldOf w) es
 run-follows w [] x f = refl
 run-follows w (e ∷ es) x f = run-follows (nextBytes w e) es (x .1) (next-formed w e (x .0) f) ∙ ap (λ (u : World). run u es) (next-follows w e (x .0) f)
 
@@ -50,7 +50,7 @@ pub bytes-follow : (w : ByteWorld) (es : List Event) → AllBytes es → wellFor
 bytes-follow w es x f = ap (λ (u : World). u .state) (run-follows w es x f)
 
 -- the rules kept on what the bytes say are the rules kept in the machine's run
-pub kept-follows : (w : ByteWorld) (es : List Event) → AllBytes es → wellFormed (w .bytes) ≡ true → AllKeptBytes w es → AllKept (worldOf w) es
+kept-follows : (w : ByteWorld) (es : List Event) → AllBytes es → wellFormed (w .bytes) ≡ true → AllKeptBytes w es → AllKept (worldOf w) es
 kept-follows w [] x f h = tt
 kept-follows w (e ∷ es) x f h = (h .0, rw (next-follows w e (x .0) f) at (kept-follows (nextBytes w e) es (x .1) (next-formed w e (x .0) f) (h .1)))
 

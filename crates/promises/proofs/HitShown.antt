@@ -55,7 +55,7 @@ module _ (s : State) (now n k at size : ℕ) (v : Value) where
       hit (some x) e a = rw (show-accepted (expire now s) now n k v p, e) (looked-some (expire now s) now n k at size x a)
       hit none e a = absurd (looked-none (expire now s) now n k at size a)
 
-  pub hit-shown : step s now (Get n k) v .answer ≡ Answer.Hit at size → ShowsHit at size (step s now (Get n k) v .handed) (show (step s now (Get n k) v .after) n k)
+  hit-shown : step s now (Get n k) v .answer ≡ Answer.Hit at size → ShowsHit at size (step s now (Get n k) v .handed) (show (step s now (Get n k) v .after) n k)
   unfolding step
   hit-shown = settled-shown (refusal (expire now s) now (Get n k) v) refl
 

@@ -12,10 +12,10 @@ use Rattle.exported.specs.Told.{version, Said, stretchTold}
 use Rattle.promises.specs.OneAnswer.{OneReply}
 use Rattle.promises.proofs.OneAnswer.{one-answer}
 
-pub one-said : (a : Answer) (r t : ℕ) (x y : List ℕ) → Said a r x → Said a t y → (r ≡ t) × (x ≡ y)
+one-said : (a : Answer) (r t : ℕ) (x y : List ℕ) → Said a r x → Said a t y → (r ≡ t) × (x ≡ y)
 one-said a r t x y p q = (one-answer _ r t (p .word) (q .word), one-answer _ x y (p .numbers) (q .numbers))
 
-pub one-replied : (f : Reply) → OneReply f
+one-replied : (f : Reply) → OneReply f
 one-replied f r t x y b d p q =
     let s = one-said (f .answer) r t x y (p .said) (q .said) in
     (s .0, s .1, one-answer (f .bytes) b d (p .bytes) (q .bytes))

@@ -20,7 +20,7 @@ use Rattle.promises.specs.OneAnswer.{Given}
 pub one-answer : {A : Type 0} (f x y : A) → x ≡ f → y ≡ f → x ≡ y
 one-answer f x y p q = p ∙ sym q
 
-pub one-reply : (f : Reply) (r t : Answer) (x y : List ℕ) → Given f r x → Given f t y → (r ≡ t) × (x ≡ y)
+one-reply : (f : Reply) (r t : Answer) (x y : List ℕ) → Given f r x → Given f t y → (r ≡ t) × (x ≡ y)
 one-reply f r t x y p q = (one-answer (f .answer) r t (p .0) (q .0), one-answer (f .bytes) x y (p .1) (q .1))
 
 pub one-run : (b : List ℕ) (time : ℕ) (c : Command) (v : Value) (r t : Answer) (x y : List ℕ) → Given (ran b time c v) r x → Given (ran b time c v) t y → (r ≡ t) × (x ≡ y)

@@ -25,7 +25,7 @@ use Rattle.promises.specs.Bytes.{ByteWorld, worldOf, begunOn, nextBytes,
 use Rattle.promises.proofs.Follow.{next-formed, next-follows, demand-3-bytes}
 
 -- rules kept in the machine's run are kept on bytes that say its state
-pub kept-bytes : (w : ByteWorld) (es : List Event) → AllBytes es → wellFormed (w .bytes) ≡ true → AllKept (worldOf w) es → AllKeptBytes w es
+kept-bytes : (w : ByteWorld) (es : List Event) → AllBytes es → wellFormed (w .bytes) ≡ true → AllKept (worldOf w) es → AllKeptBytes w es
 kept-bytes w [] x f h = tt
 kept-bytes w (e ∷ es) x f h = (h .0, kept-bytes (nextBytes w e) es (x .1) (next-formed w e (x .0) f) (rw (next-follows w e (x .0) f) (h .1)))
 
@@ -48,7 +48,7 @@ valuesTest [] = true
 valuesTest (command now c v ∷ es) = byteTest v && valuesTest es
 valuesTest (write n k v ∷ es) = valuesTest es
 
-pub values-test : (es : List Event) → valuesTest es ≡ true → AllBytes es
+values-test : (es : List Event) → valuesTest es ≡ true → AllBytes es
 values-test [] e = tt
 values-test (command now c v ∷ es) e = (byte-test v (and-yes (byteTest v) (valuesTest es) e .0), values-test es (and-yes (byteTest v) (valuesTest es) e .1))
 values-test (write n k v ∷ es) e = (tt, values-test es e)

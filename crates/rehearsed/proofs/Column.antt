@@ -65,7 +65,7 @@ tied-promised p w h c = record { consistent = c; formed = h .formed; cache = h .
 -- One line
 
 module _ (p : Memory) (w : World) (h : Tied p w) where
-  pub tied-sound : sound (w .state) ≡ true
+  tied-sound : sound (w .state) ≡ true
   tied-sound = sym (ap sound (h .says)) ∙ formed (p .cache) (h .formed) .sound
 
   ran-answer : (now : ℕ) (c : Command) (v : Value) → ran (p .cache) now c v .answer ≡ step (w .state) now c v .answer
@@ -134,11 +134,11 @@ tied-counted p w rule h = record { formed = h .formed; says = h .says; records =
 
 -- Every run
 
-pub tied-run : (p : Memory) (w : World) → Tied p w → (es : List Event) → AllBytes es → AllReadable es → Tied (through p es) (run w es)
+tied-run : (p : Memory) (w : World) → Tied p w → (es : List Event) → AllBytes es → AllReadable es → Tied (through p es) (run w es)
 tied-run p w h [] x y = h
 tied-run p w h (e ∷ es) x y = tied-run (after p e) (next w e) (tied-next p w h e (x .0) (y .0)) es (x .1) (y .1)
 
-pub column-as : (p : Memory) (w : World) → Tied p w → (es : List Event) → AllBytes es → AllReadable es → column p es ≡ verdictsTwo w es
+column-as : (p : Memory) (w : World) → Tied p w → (es : List Event) → AllBytes es → AllReadable es → column p es ≡ verdictsTwo w es
 column-as p w h [] x y = refl
 column-as p w h (e ∷ es) x y =
     ap (λ (n : ℕ). n ∷ column (after p e) es) (rule-as p w h e)

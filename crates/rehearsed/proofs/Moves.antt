@@ -125,7 +125,7 @@ moves-looked s now n k none = if-ind (Moves s (Get n k)) (freeRow (rowOf s n k))
     (λ e. if-ind (Moves s (Get n k)) (blocked s k) (λ b. moves-still s (Get n k) (Answer.Backoff (wait s k now)) [] refl) (λ b. moves-leased s now n k))
     (λ e. moves-still s (Get n k) Answer.Ask [] refl)
 
-pub moves-effect : (s : State) (now : ℕ) (c : Command) (v : Value) → Moves s c (effect s now c v)
+moves-effect : (s : State) (now : ℕ) (c : Command) (v : Value) → Moves s c (effect s now c v)
 unfolding effect fills
 moves-effect s now Begin v = moves-begun s Begin now
 moves-effect s now (Get n k) v = moves-looked s now n k (sight s n k)

@@ -30,7 +30,7 @@ use Rattle.rehearsed.proofs.Moves.{expire-session}
 -- A word that is not REFUSED is that of no refusal
 
 module _ (s : State) (now : ℕ) (c : Command) (v : Value) (word : ℕ) (some-word : eqb REFUSED word ≡ false) where
-  pub accepted : eqb (wordOf (step s now c v .answer)) word ≡ true → refusal (expire now s) now c v ≡ none
+  accepted : eqb (wordOf (step s now c v .answer)) word ≡ true → refusal (expire now s) now c v ≡ none
   unfolding step settled
   accepted = go (refusal (expire now s) now c v)
     where

@@ -198,7 +198,7 @@ said-rule p w h none = refl
 said-rule p w h (some e) = rule-as p w h e
 
 -- exact for one line: the machine's verdict of its event, and 0 for a line that tells none
-pub tied-rule : (p : Memory) (w : World) → Tied p w → started (p .book) ≡ true → (t : Text) → textRule p t ≡ ruleBy w (eventOf t)
+tied-rule : (p : Memory) (w : World) → Tied p w → started (p .book) ≡ true → (t : Text) → textRule p t ≡ ruleBy w (eventOf t)
 tied-rule p w h e t = ap (λ (s : Said). s .rule) (text-told p t e) ∙ said-rule p w h (eventOf t)
 
 run-before : (w : World) (o : Option Event) (es : List Event) → run w (before o es) ≡ run (nextBy w o) es
@@ -324,14 +324,14 @@ module _ (x b : List ℕ) (new : NewBook b) (fresh : started b ≡ false) where
   lines-rule ts t = rule-beside (textThrough p₀ ts) (textColumn p₀ ts) (runOf x ts) (lines-follow x b new fresh ts) t
 
   -- the column is 0 on every line exactly if the clients' four rules are kept
-  pub lines-kept : (ts : List Text) → allZero (textColumn p₀ ts) ≡ true → RulesKept (runOf x ts)
+  lines-kept : (ts : List Text) → allZero (textColumn p₀ ts) ≡ true → RulesKept (runOf x ts)
   lines-kept ts = zeros-kept (textThrough p₀ ts) (textColumn p₀ ts) (runOf x ts) (lines-follow x b new fresh ts)
 
   pub lines-zeros : (ts : List Text) → RulesKept (runOf x ts) → allZero (textColumn p₀ ts) ≡ true
   lines-zeros ts = kept-zeros (textThrough p₀ ts) (textColumn p₀ ts) (runOf x ts) (lines-follow x b new fresh ts)
 
   -- lines whose column is all 0 keep the rules and have demand 3 at each moment: after each first part of them
-  pub lines-promised : (ts us : List Text) → allZero (textColumn p₀ (ts ++ us)) ≡ true → RulesKept (runOf x ts) × PromisedIn (textThrough p₀ ts) (runOf x ts)
+  lines-promised : (ts us : List Text) → allZero (textColumn p₀ (ts ++ us)) ≡ true → RulesKept (runOf x ts) × PromisedIn (textThrough p₀ ts) (runOf x ts)
   lines-promised ts us z =
       let k = lines-kept ts (zeros-first p₀ ts us z) in
       (k, kept-promised (textThrough p₀ ts) (textColumn p₀ ts) (runOf x ts) (lines-follow x b new fresh ts) k)

@@ -119,7 +119,7 @@ pub data Remembered (w : World) (a : Answer) (k : ℕ) (l : Lease) : Type 0 wher
   kept-lease : leaseOn (w .state) k ≡ some l → sinceGrant (w .register) (w .since) a (l .token) k ≡ w .since (l .token) k → Remembered w a k l
   new-lease : sinceGrant (w .register) (w .since) a (l .token) k ≡ (w .register k ∷ []) → Remembered w a k l
 
-pub remembered : (w : World) (c : Command) (r : Outcome) → Orderly (w .state) → Moves (w .state) c r → (k : ℕ) (l : Lease) → leaseOn (r .after) k ≡ some l → Remembered w (r .answer) k l
+remembered : (w : World) (c : Command) (r : Outcome) → Orderly (w .state) → Moves (w .state) c r → (k : ℕ) (l : Lease) → leaseOn (r .after) k ≡ some l → Remembered w (r .answer) k l
 remembered w c r h m k l e = go (m .leases)
   where
     go : Leases (w .state) c (r .answer) (r .after) → Remembered w (r .answer) k l
@@ -157,7 +157,7 @@ written-steady w g n k v held = record {
     other : (j : ℕ) (l : Lease) → leaseOn (w .state) j ≡ some l → eqb j k ≡ false
     other j l e = ne-eqb j k (λ q. g .orderly .leases j l e .1 (held .place) n (held .kind) (held .what) (rw q (held .is)))
 
-pub next-steady : (w : World) (e : Event) → Steady w → WriteKept w e → Steady (next w e)
+next-steady : (w : World) (e : Event) → Steady w → WriteKept w e → Steady (next w e)
 next-steady w (command now c v) g rule = commanded-steady w g c (step (w .state) now c v) (orderly-step (w .state) now c v (g .orderly)) (moves-step (w .state) now c v)
 next-steady w (write n k v) g rule = written-steady w g n k v (rule .1)
 

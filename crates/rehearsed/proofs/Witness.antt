@@ -69,7 +69,7 @@ verdicts-are : (allZero (verdictsTwo begunWorld events) ≡ true)
 unfolding same allZero readCount decision fresh leave finish expire decide blocked sight wouldLease wouldGrant refusals refusal begins wait leased missed looked fills asks operate changed stages effect settled step commanded written
 verdicts-are = (refl, refl, refl, refl)
 
-pub witness-zeros : allZero (column begunMemory events) ≡ true
+witness-zeros : allZero (column begunMemory events) ≡ true
 witness-zeros = ap allZero (column-is events (verdictsTwo begunWorld events) refl refl) ∙ verdicts-are .0
 
 pub witness-promised : (i : ℕ) → Promised (through begunMemory (take i events)) (run begunWorld (take i events))

@@ -33,7 +33,7 @@ module _ {s t : List ℕ} {a b : ℕ} {x : List ℕ} (p : Put s a x b t) where
     bytes = splice-then s t u x y a (length x) (p .bytes) (rw (← p .place) (q .bytes)) refl h;
   }
 
-pub put-front : {s t x : List ℕ} {b : ℕ} → Put s 0 x b t → (b ≡ length x) × (t ≡ splice s 0 x)
+put-front : {s t x : List ℕ} {b : ℕ} → Put s 0 x b t → (b ≡ length x) × (t ≡ splice s 0 x)
 put-front {s} {t} {x} {b} p = (p .place ∙ zero-add (length x), p .bytes)
 
 -- ---- in the tail of a buffer
@@ -64,11 +64,11 @@ pub number-most : (n v : ℕ) → length (field (printed n) v) ≤ digitsMax + 1
 number-most n v = omega (arith, field-length (printed n) v, printed-most n)
 
 module _ (n : ℕ) (s : List ℕ) (h : digitsMax ≤ length s) where
-  pub printed-bytes : written n s .bytes ≡ splice s 0 (printed n)
+  printed-bytes : written n s .bytes ≡ splice s 0 (printed n)
   unfolding printed
   printed-bytes = ap (λ w. w .bytes) (written-room n s h)
 
-  pub printed-number : written n s .number ≡ length (printed n)
+  printed-number : written n s .number ≡ length (printed n)
   unfolding printed
   printed-number = ap (λ w. w .number) (written-room n s h)
 

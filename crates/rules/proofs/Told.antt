@@ -58,7 +58,7 @@ watched-not-refused (Evict k) = refl
 watched-not-refused Tick = refl
 
 -- on bytes that are not well formed what would be broken does not matter
-pub rule-told : (x b : List ℕ) (now : ℕ) (c : Command) (v : Value) (risk w : ℕ) → w ≡ wordOf (ran x now c v .answer) → (wellFormed x ≡ true → risk ≡ riskOf x b c v)
+rule-told : (x b : List ℕ) (now : ℕ) (c : Command) (v : Value) (risk w : ℕ) → w ≡ wordOf (ran x now c v .answer) → (wellFormed x ≡ true → risk ≡ riskOf x b c v)
     → (if eqb w (watched c) then risk else 0) ≡ ruleOf x b c v w
 unfolding ran
 rule-told x b now c v risk w e f = go (wellFormed x) refl ∙ sym (rule-is x b c v w)

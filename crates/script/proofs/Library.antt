@@ -28,7 +28,7 @@ unfolding splice
 splice-least s x = simp length-append (omega arith)
 
 -- a text that was put into the part of lineRoom bytes at `put`
-pub at-front-printed : (out text x : List ℕ) (put r : ℕ) → put + lineRoom ≤ length out
+at-front-printed : (out text x : List ℕ) (put r : ℕ) → put + lineRoom ≤ length out
     → length x ≡ length (lentPart out put) → AtFront text (lentPart out put) r x
     → Printed text out put (take put out ++ (x ++ drop (put + lineRoom - put) (drop put out))) (put + r) × (r ≤ lineRoom)
 at-front-printed out text x put r h l p =

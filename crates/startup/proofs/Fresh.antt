@@ -37,7 +37,11 @@ behindHead = keyCount * keyWidth + (rowCount * rowWidth + (sessionCount * sessio
 fresh-bytes : (readLife writeLife : ℕ) → encode (fresh readLife writeLife) ≡ encHead (freshHead readLife writeLife) ++ zeros behindHead
 unfolding encode fresh
 fresh-bytes readLife writeLife =
-    zeros-join (encHead (freshHead readLife writeLife)) (tabOf encKey (replicate keyCount blank)) (tabOf encRow (replicate rowCount noRow)) (tabOf encSession (replicate sessionCount noSession)) (keyCount * keyWidth) (rowCount * rowWidth) (sessionCount * sessionWidth) restSize free-keys free-rows free-sessions
+    let keys = tabOf encKey (replicate keyCount blank) in
+    let rows = tabOf encRow (replicate rowCount noRow) in
+    let sessions = tabOf encSession (replicate sessionCount noSession) in
+    zeros-join (encHead (freshHead readLife writeLife)) keys rows sessions (keyCount * keyWidth) (rowCount * rowWidth) (sessionCount * sessionWidth) restSize
+    free-keys free-rows free-sessions
 
 -- four numbers written into zeros, whatever stands behind the header
 head-written : (readLife writeLife : ℕ) (q : List ℕ)

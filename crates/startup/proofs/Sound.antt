@@ -31,7 +31,7 @@ module _ (b : List ℕ) (readLife writeLife : ℕ) where
   ready-not-refused : (e : ℕ) → startOf b readLife writeLife ≡ record { answer = Answer.Refused e; bytes = b } → startOf b readLife writeLife .answer ≡ Answer.Ready → {A : Type 0} → A
   ready-not-refused e p q = answers-differ (Answer.Refused e) Answer.Ready refl (sym (ap (λ (r : Reply). r .answer) p) ∙ q)
 
-  pub ready-started : startOf b readLife writeLife .answer ≡ Answer.Ready → Started b readLife writeLife
+  ready-started : startOf b readLife writeLife .answer ≡ Answer.Ready → Started b readLife writeLife
   ready-started q = sized (case-of (eqb (length b) stateSize))
     where
       told : length b ≡ stateSize → (lifetime readLife ≡ true) ⊎ (lifetime readLife ≡ false) → (lifetime writeLife ≡ true) ⊎ (lifetime writeLife ≡ false) → Started b readLife writeLife
@@ -44,7 +44,7 @@ module _ (b : List ℕ) (readLife writeLife : ℕ) where
       sized (inr e) = ready-not-refused STATE (started-size b readLife writeLife (eqb-false (length b) stateSize e)) q
 
   module _ (ready : startOf b readLife writeLife .answer ≡ Answer.Ready) where
-    pub ready-bytes : startOf b readLife writeLife .bytes ≡ encode (fresh readLife writeLife)
+    ready-bytes : startOf b readLife writeLife .bytes ≡ encode (fresh readLife writeLife)
     ready-bytes = let x = ready-started ready in ap (λ (r : Reply). r .bytes) (started-ready b readLife writeLife (x .size) (x .read) (x .write))
 
     fresh-is-sound : sound (fresh readLife writeLife) ≡ true

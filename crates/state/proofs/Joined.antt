@@ -97,7 +97,15 @@ module _ (s : List ℕ) where
     rows-join : rowsLive σ && (rowsOnce σ && (rowsAlone σ && rowsLeaseless σ)) ≡ every (joinOk s) rowCount
     unfolding rowsLive rowsOnce rowsAlone rowsLeaseless
     rows-join =
-        rw (every-both (λ i. every (λ j. shares (rowAt σ j) (rowAt σ i)) i) (λ i. leaseless σ (rowAt σ i)) rowCount, every-both (λ i. every (λ j. once (rowAt σ j) (rowAt σ i)) i) (λ i. every (λ j. shares (rowAt σ j) (rowAt σ i)) i && leaseless σ (rowAt σ i)) rowCount, every-both (λ i. liveRow σ (rowAt σ i)) (λ i. every (λ j. once (rowAt σ j) (rowAt σ i)) i && (every (λ j. shares (rowAt σ j) (rowAt σ i)) i && leaseless σ (rowAt σ i))) rowCount)
+        let live : ℕ → Bool = λ i. liveRow σ (rowAt σ i) in
+        let only : ℕ → Bool = λ i. every (λ j. once (rowAt σ j) (rowAt σ i)) i in
+        let alone : ℕ → Bool = λ i. every (λ j. shares (rowAt σ j) (rowAt σ i)) i in
+        let unleased : ℕ → Bool = λ i. leaseless σ (rowAt σ i) in
+        rw (
+          every-both alone unleased rowCount,
+          every-both only (λ i. alone i && unleased i) rowCount,
+          every-both live (λ i. only i && (alone i && unleased i)) rowCount,
+        )
         (every-cong (λ i. agrees i (rowAt σ i)) (joinOk s) rowCount row-joins)
 
     pub joined-by-bytes : joined σ ≡ distinct (sessionNumbers s) sessionCount && (distinct (tokens s) keyCount && every (joinOk s) rowCount)

@@ -65,7 +65,13 @@ module _ (s : List ℕ) (h : length s ≡ stateSize) (f : Bytes s) where
       let q1 : List ℕ = tabOf encRow (readTab decRow rowWidth rowCount (drop rowsFrom s)) ++ q2 in
       let q0 : List ℕ = tabOf encKey (readTab decKey keyWidth keyCount (drop keysFrom s)) ++ q1 in
       same-split s (encHead hd) q0 headSize head-long (omega arith)
-      ∙ rw (front, same-tab-at encKey decKey keyWidth key-wide keyCount s keysFrom q1 (omega arith), same-tab-at encRow decRow rowWidth row-wide rowCount s rowsFrom q2 (omega arith), same-tab-at encSession decSession sessionWidth session-wide sessionCount s sessionsFrom (zeros restSize) (omega arith), rest-zero)
+      ∙ rw (
+        front,
+        same-tab-at encKey decKey keyWidth key-wide keyCount s keysFrom q1 (omega arith),
+        same-tab-at encRow decRow rowWidth row-wide rowCount s rowsFrom q2 (omega arith),
+        same-tab-at encSession decSession sessionWidth session-wide sessionCount s sessionsFrom (zeros restSize) (omega arith),
+        rest-zero,
+      )
 
   -- ---- sound, record by record
   sized-yes : sized σ ≡ true

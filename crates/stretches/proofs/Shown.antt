@@ -50,7 +50,7 @@ module _ {b : List ℕ} {s : State} (h : Holds b s) (k : ℕ) (l : k < keyCount)
       stands-is (record { at = stagedAt i; value = v }) x (staged-stands h i (row-inside s i n j d (staged v) (h .fits .rows) q) v (ap stagedIn q)) e
   row-stands i (row n j d DROP) q x e = no-some x e
 
-  pub sight-stands : (n : ℕ) (x : Seen) → sight s n k ≡ some x → Stands b (x .at) (x .value)
+  sight-stands : (n : ℕ) (x : Seen) → sight s n k ≡ some x → Stands b (x .at) (x .value)
   unfolding sight
   sight-stands n x e = row-stands (rowPlace s n k) (rowOf s n k) refl x e
 

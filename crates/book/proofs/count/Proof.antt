@@ -32,7 +32,15 @@ same-length-2 : tie.Need-same-length-2
 same-length-2 c = search needs
 
 returns-2 : tie.Need-returns-2
-returns-2 c = counted-broken _ _ _ _ _ (c .before .before .before .before .before .before .before .before .before .before .before .before .before .lines .ensures) (c .before .before .before .before .before .before .before .before .before .before .before .before .wrapping-add-u64 .ensures) (c .before .before .before .before .before .before .before .before .before .before .store-u64 .ensures) _ _ _ (c .before .before .before .before .before .broken .ensures) (c .before .before .before .before .wrapping-add-u642 .ensures) (c .before .before .store-u642 .ensures) (c .before .before .before .before .before .before .before .if1 .left)
+returns-2 c =
+    let wrapping-add-u642 = c .before .before .before .before .wrapping-add-u642 in
+    let broken = c .before .before .before .before .before .broken in
+    let if1 = c .before .before .before .before .before .before .before .if1 in
+    let store-u64 = c .before .before .before .before .before .before .before .before .before .before .store-u64 in
+    let wrapping-add-u64 = c .before .before .before .before .before .before .before .before .before .before .before .before .wrapping-add-u64 in
+    let lines = c .before .before .before .before .before .before .before .before .before .before .before .before .before .lines in
+    counted-broken _ _ _ _ _ (lines .ensures) (wrapping-add-u64 .ensures) (store-u64 .ensures) _ _ _ (broken .ensures) (wrapping-add-u642 .ensures)
+    (c .before .before .store-u642 .ensures) (if1 .left)
 
 pub count-spec : {M : Type 1} → statement M
 count-spec =

@@ -31,7 +31,12 @@ same-length-2 : tie.Need-same-length-2
 same-length-2 c = search needs
 
 returns-2 : tie.Need-returns-2
-returns-2 c = λ σ h ok. accepted-expired σ _ _ _ (sym (c .before .before .before .before .before .before .before .before .before .before .find .ensures σ h ok) ∙ c .before .before .before .before .before .before .before .before .enum-told .given .1) (c .before .before .still .ensures _ (c .before .before .before .before .before .before .sweep .ensures σ h ok) (expire-sound σ _ ok))
+returns-2 c =
+    let sweep = c .before .before .before .before .before .before .sweep in
+    let enum-told = c .before .before .before .before .before .before .before .before .enum-told in
+    let find = c .before .before .before .before .before .before .before .before .before .before .find in
+    λ σ h ok. accepted-expired σ _ _ _ (sym (find .ensures σ h ok) ∙ enum-told .given .1)
+    (c .before .before .still .ensures _ (sweep .ensures σ h ok) (expire-sound σ _ ok))
 
 pub lapsing-spec : {M : Type 1} → statement M
 lapsing-spec =

@@ -30,7 +30,12 @@ same-length-3 : tie.Need-same-length-3
 same-length-3 c = search needs
 
 returns-3 : tie.Need-returns-3
-returns-3 c = λ σ h ok. refused-still σ _ _ _ (rw (← c .before .before .before .before .before .before .before .before .clock .ensures σ h) (c .before .before .before .before .before .before .before .if1 .left)) (c .before .before .before .before .before .before .if2 .left) (sym (c .before .is-refused .ensures) ∙ c .if3 .taken) (c .before .before .before .before .act .ensures σ h ok)
+returns-3 c =
+    let act = c .before .before .before .before .act in
+    let if2 = c .before .before .before .before .before .before .if2 in
+    let if1 = c .before .before .before .before .before .before .before .if1 in
+    let clock = c .before .before .before .before .before .before .before .before .clock in
+    λ σ h ok. refused-still σ _ _ _ (rw (← clock .ensures σ h) (if1 .left)) (if2 .left) (sym (c .before .is-refused .ensures) ∙ c .if3 .taken) (act .ensures σ h ok)
 
 store-clock-requires : tie.Need-store-clock-requires
 store-clock-requires c κs = search needs
@@ -40,11 +45,15 @@ same-length-4 c = search needs
 
 returns-4 : tie.Need-returns-4
 returns-4 c =
-    λ σ h ok.
-    let g = c .before .before .before .before .before .before .before .before .act .ensures σ h ok in
-    let accepted = sym (c .before .before .before .before .before .is-refused .ensures) ∙ c .before .before .before .before .if3 .left in
-    accepted-still σ _ _ _ (rw (← c .before .before .before .before .before .before .before .before .before .before .before .before .clock .ensures σ h) (c .before .before .before .before .before .before .before .before .before .before .before .if1 .left)) (c .before .before .before .before .before .before .before .before .before .before .if2 .left)
-    accepted g (c .before .before .store-clock .ensures _ (g .holds))
+    let if3 = c .before .before .before .before .if3 in
+    let is-refused = c .before .before .before .before .before .is-refused in
+    let act = c .before .before .before .before .before .before .before .before .act in
+    let if2 = c .before .before .before .before .before .before .before .before .before .before .if2 in
+    let if1 = c .before .before .before .before .before .before .before .before .before .before .before .if1 in
+    let clock = c .before .before .before .before .before .before .before .before .before .before .before .before .clock in
+    let accepted = sym (is-refused .ensures) ∙ if3 .left in
+    λ σ h ok. let g = act .ensures σ h ok in
+    accepted-still σ _ _ _ (rw (← clock .ensures σ h) (if1 .left)) (if2 .left) accepted g (c .before .before .store-clock .ensures _ (g .holds))
 
 pub still-spec : {M : Type 1} → statement M
 still-spec =

@@ -37,7 +37,9 @@ enum-told : tie.Need-enum-told Inv-loop μ-loop
 enum-told c = search needs
 
 returns-3 : tie.Need-returns-3 Inv-loop μ-loop
-returns-3 c = sym (read-turn _ (c .before .before .before .before .before .loop .a) (c .before .before .before .before .before .loop .i) (search needs) (c .before .before .before .before .before .loop .inv .1 .1) ∙ rw (← c .before .before .extend .ensures, c .enum-told .given .1) refl)
+returns-3 c =
+    let loop = c .before .before .before .before .before .loop in
+    sym (read-turn _ (loop .a) (loop .i) (search needs) (loop .inv .1 .1) ∙ rw (← c .before .before .extend .ensures, c .enum-told .given .1) refl)
 
 add-i : tie.Need-add-i Inv-loop μ-loop
 add-i c = search needs
@@ -46,7 +48,10 @@ loop-less : tie.Need-loop-less Inv-loop μ-loop
 loop-less c = search needs
 
 loop-again : tie.Need-loop-again Inv-loop μ-loop
-loop-again c = (search needs, (search needs, read-turn _ (c .before .before .before .before .before .before .loop .a) (c .before .before .before .before .before .before .loop .i) (search needs) (c .before .before .before .before .before .before .loop .inv .1 .1) ∙ rw (← c .before .before .before .extend .ensures, c .before .next .given .1) refl))
+loop-again c =
+    let extend = c .before .before .before .extend in
+    let loop = c .before .before .before .before .before .before .loop in
+    (search needs, (search needs, read-turn _ (loop .a) (loop .i) (search needs) (loop .inv .1 .1) ∙ rw (← extend .ensures, c .before .next .given .1) refl))
 
 returns-4 : tie.Need-returns-4 Inv-loop μ-loop
 returns-4 c = sym (read-end _ (c .before .loop .a) (c .before .loop .i) (search needs) (search needs) (c .before .loop .inv .1 .1))

@@ -24,7 +24,10 @@ digit-requires : tie.Need-digit-requires Inv-loop μ-loop
 digit-requires c κs = search needs
 
 returns : tie.Need-returns Inv-loop μ-loop
-returns c = digits-stop (c .before .before .before .before .before .before .args .text .now) (c .before .before .before .before .loop .i) (search needs) (allDigits (c .before .before .before .before .before .before .args .text .now)) (c .before .before .before .before .loop .inv .1) (search needs)
+returns c =
+    let loop = c .before .before .before .before .loop in
+    let args = c .before .before .before .before .before .before .args in
+    digits-stop (args .text .now) (loop .i) (search needs) (allDigits (args .text .now)) (loop .inv .1) (search needs)
 
 add-i : tie.Need-add-i Inv-loop μ-loop
 add-i c = search needs
@@ -33,7 +36,10 @@ loop-less : tie.Need-loop-less Inv-loop μ-loop
 loop-less c = search needs
 
 loop-again : tie.Need-loop-again Inv-loop μ-loop
-loop-again c = (search needs, digits-on (c .before .before .before .before .before .before .args .text .now) (c .before .before .before .before .loop .i) (search needs) (allDigits (c .before .before .before .before .before .before .args .text .now)) (c .before .before .before .before .loop .inv .1) (search needs))
+loop-again c =
+    let loop = c .before .before .before .before .loop in
+    let args = c .before .before .before .before .before .before .args in
+    (search needs, digits-on (args .text .now) (loop .i) (search needs) (allDigits (args .text .now)) (loop .inv .1) (search needs))
 
 returns-2 : tie.Need-returns-2 Inv-loop μ-loop
 returns-2 c = sym (c .before .loop .inv .1 ∙ digits-end (c .before .before .before .args .text .now) (c .before .loop .i) (search needs))

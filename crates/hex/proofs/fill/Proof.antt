@@ -41,10 +41,19 @@ digit-requires-2 : tie.Need-digit-requires-2 Inv-loop μ-loop
 digit-requires-2 c κs = search needs
 
 mul-out : tie.Need-mul-out Inv-loop μ-loop
-mul-out c = omega (arith, c .before .before .digit .ensures, pair-digits (c .before .before .before .before .before .before .before .before .args .text .now) (c .before .before .before .before .before .loop .i) (c .before .before .before .before .before .before .before .before .pre .0) (omega arith) .0)
+mul-out c =
+    let loop = c .before .before .before .before .before .loop in
+    let args = c .before .before .before .before .before .before .before .before .args in
+    let pre = c .before .before .before .before .before .before .before .before .pre in
+    omega (arith, c .before .before .digit .ensures, pair-digits (args .text .now) (loop .i) (pre .0) (omega arith) .0)
 
 add-out : tie.Need-add-out Inv-loop μ-loop
-add-out c = let p = pair-digits (c .before .before .before .before .before .before .before .before .args .text .now) (c .before .before .before .before .before .loop .i) (c .before .before .before .before .before .before .before .before .pre .0) (omega arith) in omega (arith, c .before .before .digit .ensures, c .digit2 .ensures, p .0, p .1)
+add-out c =
+    let loop = c .before .before .before .before .before .loop in
+    let args = c .before .before .before .before .before .before .before .before .args in
+    let pre = c .before .before .before .before .before .before .before .before .pre in
+    let p = pair-digits (args .text .now) (loop .i) (pre .0) (omega arith) in
+    omega (arith, c .before .before .digit .ensures, c .digit2 .ensures, p .0, p .1)
 
 slice-write-out : tie.Need-slice-write-out Inv-loop μ-loop
 slice-write-out c = search needs
@@ -56,7 +65,11 @@ loop-less : tie.Need-loop-less Inv-loop μ-loop
 loop-less c = search needs
 
 loop-again : tie.Need-loop-again Inv-loop μ-loop
-loop-again c = (search needs, (simp length-set (search needs), rw (c .before .before .digit .ensures, c .digit2 .ensures) (fill-turn (c .before .before .before .before .before .before .before .before .args .text .now) _ (c .before .before .before .before .before .loop .out) (c .before .before .before .before .before .loop .i) (omega arith) (omega arith) (c .before .before .before .before .before .loop .inv .1 .1))))
+loop-again c =
+    let loop = c .before .before .before .before .before .loop in
+    let args = c .before .before .before .before .before .before .before .before .args in
+    let turn = fill-turn (args .text .now) _ (loop .out) (loop .i) (omega arith) (omega arith) (loop .inv .1 .1) in
+    (search needs, (simp length-set (search needs), rw (c .before .before .digit .ensures, c .digit2 .ensures) turn))
 
 same-length : tie.Need-same-length Inv-loop μ-loop
 same-length c = search needs

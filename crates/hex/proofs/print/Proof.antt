@@ -54,7 +54,11 @@ loop-less : tie.Need-loop-less Inv-loop μ-loop
 loop-less c = search needs
 
 loop-again : tie.Need-loop-again Inv-loop μ-loop
-loop-again c = (search needs, (simp length-set (search needs), rw (c .before .before .digit-of .ensures, c .digit-of2 .ensures) (print-turn (c .before .before .before .before .before .before .before .before .args .v .now) (c .before .before .before .before .before .before .before .before .args .out .now) (c .before .before .before .before .before .loop .out) (c .before .before .before .before .before .loop .i) (omega arith) (omega arith) (omega arith) (c .before .before .before .before .before .loop .inv .1 .1))))
+loop-again c =
+    let loop = c .before .before .before .before .before .loop in
+    let args = c .before .before .before .before .before .before .before .before .args in
+    let turn = print-turn (args .v .now) (args .out .now) (loop .out) (loop .i) (omega arith) (omega arith) (omega arith) (loop .inv .1 .1) in
+    (search needs, (simp length-set (search needs), rw (c .before .before .digit-of .ensures, c .digit-of2 .ensures) turn))
 
 same-length : tie.Need-same-length Inv-loop μ-loop
 same-length c = search needs

@@ -17,7 +17,11 @@ is-hex-requires : tie.Need-is-hex-requires
 is-hex-requires c κs = search needs
 
 returns-2 : tie.Need-returns-2
-returns-2 c = rw (read-none (c .before .before .before .before .before .before .args .text .now) (sym (c .before .before .before .is-dash .ensures) ∙ c .before .before .if1 .left) (test-failed (c .before .is-hex .ensures) (c .if2 .taken))) (refl, sym (splice-none _ _))
+returns-2 c =
+    let is-dash = c .before .before .before .is-dash in
+    let args = c .before .before .before .before .before .before .args in
+    rw (read-none (args .text .now) (sym (is-dash .ensures) ∙ c .before .before .if1 .left) (test-failed (c .before .is-hex .ensures) (c .if2 .taken)))
+    (refl, sym (splice-none _ _))
 
 fill-requires : tie.Need-fill-requires
 fill-requires c κs = (test-passed (c .before .before .is-hex .ensures) (c .before .if2 .left), search needs)
@@ -26,7 +30,14 @@ same-length : tie.Need-same-length
 same-length c = search needs
 
 returns-3 : tie.Need-returns-3
-returns-3 c = rw (read-pairs (c .before .before .before .before .before .before .before .before .before .before .args .text .now) (sym (c .before .before .before .before .before .before .before .is-dash .ensures) ∙ c .before .before .before .before .before .before .if1 .left) (test-passed (c .before .before .before .before .before .is-hex .ensures) (c .before .before .before .before .if2 .left)), length-bytes) (refl, c .before .before .fill .ensures)
+returns-3 c =
+    let if2 = c .before .before .before .before .if2 in
+    let is-hex = c .before .before .before .before .before .is-hex in
+    let if1 = c .before .before .before .before .before .before .if1 in
+    let is-dash = c .before .before .before .before .before .before .before .is-dash in
+    let args = c .before .before .before .before .before .before .before .before .before .before .args in
+    rw (read-pairs (args .text .now) (sym (is-dash .ensures) ∙ if1 .left) (test-passed (is-hex .ensures) (if2 .left)), length-bytes)
+    (refl, c .before .before .fill .ensures)
 
 pub read-spec : {M : Type 1} → statement M
 read-spec =

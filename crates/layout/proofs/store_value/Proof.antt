@@ -21,7 +21,10 @@ same-length : tie.Need-same-length
 same-length c = search needs
 
 returns : tie.Need-returns
-returns c = c .before .before .clear .ensures ∙ rw (c .before .before .before .before .before .before .copy-in .ensures) (padded-put (c .before .before .before .before .before .before .before .before .before .before .args .s .now) (c .before .before .before .before .before .before .before .before .before .before .args .v .now) (c .before .before .before .before .before .before .before .before .before .before .args .at) (search needs) (search needs))
+returns c =
+    let copy-in = c .before .before .before .before .before .before .copy-in in
+    let args = c .before .before .before .before .before .before .before .before .before .before .args in
+    c .before .before .clear .ensures ∙ rw (copy-in .ensures) (padded-put (args .s .now) (args .v .now) (args .at) (search needs) (search needs))
 
 pub store-value-spec : {M : Type 1} → statement M
 store-value-spec =

@@ -31,7 +31,10 @@ loop-less : tie.Need-loop-less Inv-loop μ-loop
 loop-less c = search needs
 
 loop-again : tie.Need-loop-again Inv-loop μ-loop
-loop-again c = (search needs, (search needs, end-turn (c .before .before .before .before .args .line .now) (c .before .before .before .before .args .at) (c .before .before .before .loop .e) (c .before .before .before .loop .inv .0) (c .before .before .before .loop .inv .1 .1) (search needs) (c .if1 .left)))
+loop-again c =
+    let loop = c .before .before .before .loop in
+    let args = c .before .before .before .before .args in
+    (search needs, (search needs, end-turn (args .line .now) (args .at) (loop .e) (loop .inv .0) (loop .inv .1 .1) (search needs) (c .if1 .left)))
 
 returns-2 : tie.Need-returns-2 Inv-loop μ-loop
 returns-2 c = end-line (c .before .before .args .line .now) (c .before .before .args .at) (c .before .loop .e) (c .before .loop .inv .0) (c .before .loop .inv .1 .1) (c .before .loop .inv .1 .0) (search needs)

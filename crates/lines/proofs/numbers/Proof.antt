@@ -41,7 +41,12 @@ enum-told-3 c = search needs
 
 returns-3 : tie.Need-returns-3
 unfolding numbers
-returns-3 c = rw (c .before .before .before .before .before .before .before .before .before .before .number-at .ensures, c .before .before .before .before .before .before .before .before .a .given .1, c .before .before .before .before .before .before .number-at2 .ensures, c .before .before .before .before .b .given .1, c .before .before .number-at3 .ensures, c .enum-told3 .given .1)
+returns-3 c =
+    let second = c .before .before .before .before .b in
+    let number-at2 = c .before .before .before .before .before .before .number-at2 in
+    let first = c .before .before .before .before .before .before .before .before .a in
+    let number-at = c .before .before .before .before .before .before .before .before .before .before .number-at in
+    rw (number-at .ensures, first .given .1, number-at2 .ensures, second .given .1, c .before .before .number-at3 .ensures, c .enum-told3 .given .1)
 
 number-at-requires-4 : tie.Need-number-at-requires-4
 number-at-requires-4 c κs = search needs
@@ -54,11 +59,35 @@ enum-told-4 c = search needs
 
 returns-4 : tie.Need-returns-4
 unfolding numbers
-returns-4 c = rw (c .before .before .before .before .before .before .before .before .before .before .before .before .before .before .number-at .ensures, c .before .before .before .before .before .before .before .before .before .before .before .before .a .given .1, c .before .before .before .before .before .before .before .before .before .before .number-at2 .ensures, c .before .before .before .before .before .before .before .before .b .given .1, c .before .before .before .before .before .before .number-at3 .ensures, c .before .before .before .before .c .given .1, c .before .before .number-at4 .ensures, c .enum-told4 .given .1)
+returns-4 c =
+    let third = c .before .before .before .before .c in
+    let number-at3 = c .before .before .before .before .before .before .number-at3 in
+    let second = c .before .before .before .before .before .before .before .before .b in
+    let number-at2 = c .before .before .before .before .before .before .before .before .before .before .number-at2 in
+    let first = c .before .before .before .before .before .before .before .before .before .before .before .before .a in
+    let number-at = c .before .before .before .before .before .before .before .before .before .before .before .before .before .before .number-at in
+    rw (
+      number-at .ensures,
+      first .given .1,
+      number-at2 .ensures,
+      second .given .1,
+      number-at3 .ensures,
+      third .given .1,
+      c .before .before .number-at4 .ensures,
+      c .enum-told4 .given .1,
+    )
 
 returns-5 : tie.Need-returns-5
 unfolding numbers
-returns-5 c = rw (c .before .before .before .before .before .before .before .before .before .before .before .before .before .before .before .number-at .ensures, c .before .before .before .before .before .before .before .before .before .before .before .before .before .a .given .1, c .before .before .before .before .before .before .before .before .before .before .before .number-at2 .ensures, c .before .before .before .before .before .before .before .before .before .b .given .1, c .before .before .before .before .before .before .before .number-at3 .ensures, c .before .before .before .before .before .c .given .1, c .before .before .before .number-at4 .ensures, c .before .d .given .1)
+returns-5 c =
+    let number-at4 = c .before .before .before .number-at4 in
+    let third = c .before .before .before .before .before .c in
+    let number-at3 = c .before .before .before .before .before .before .before .number-at3 in
+    let second = c .before .before .before .before .before .before .before .before .before .b in
+    let number-at2 = c .before .before .before .before .before .before .before .before .before .before .before .number-at2 in
+    let first = c .before .before .before .before .before .before .before .before .before .before .before .before .before .a in
+    let number-at = c .before .before .before .before .before .before .before .before .before .before .before .before .before .before .before .number-at in
+    rw (number-at .ensures, first .given .1, number-at2 .ensures, second .given .1, number-at3 .ensures, third .given .1, number-at4 .ensures, c .before .d .given .1)
 
 pub numbers-spec : {M : Type 1} → statement M
 numbers-spec =

@@ -32,14 +32,30 @@ same-length c = search needs
 
 returns-2 : tie.Need-returns-2
 unfolding readLine
-returns-2 c = rw (le-ltb lineMax (length (c .before .before .before .before .before .before .before .before .before .before .args .line .now)) (search needs), sym (fields-in (c .before .before .before .before .before .before .before .before .before .before .args .line .now) 0 (omega arith)), c .before .before .before .before .before .before .letter-at .ensures, c .before .before .before .before .enum-told .given .1) (c .before .before .timed .ensures)
+returns-2 c =
+    let enum-told = c .before .before .before .before .enum-told in
+    let letter-at = c .before .before .before .before .before .before .letter-at in
+    let args = c .before .before .before .before .before .before .before .before .before .before .args in
+    rw (le-ltb lineMax (length (args .line .now)) (search needs), sym (fields-in (args .line .now) 0 (omega arith)), letter-at .ensures, enum-told .given .1)
+    (c .before .before .timed .ensures)
 
 start-requires : tie.Need-start-requires
 start-requires c κs = search needs
 
 returns-3 : tie.Need-returns-3
 unfolding readLine
-returns-3 c = rw (le-ltb lineMax (length (c .before .before .before .before .before .before .before .before .before .args .line .now)) (search needs), sym (fields-in (c .before .before .before .before .before .before .before .before .before .args .line .now) 0 (omega arith)), c .before .before .before .before .before .letter-at .ensures, c .before .before .before .first .given .1, eq-eqb (c .before .before .before .first .given .0 .0) startLetter (c .before .if2 .taken)) (gives-unvalued _ _ _ (c .start .ensures))
+returns-3 c =
+    let first = c .before .before .before .first in
+    let letter-at = c .before .before .before .before .before .letter-at in
+    let args = c .before .before .before .before .before .before .before .before .before .args in
+    rw (
+      le-ltb lineMax (length (args .line .now)) (search needs),
+      sym (fields-in (args .line .now) 0 (omega arith)),
+      letter-at .ensures,
+      first .given .1,
+      eq-eqb (first .given .0 .0) startLetter (c .before .if2 .taken),
+    )
+    (gives-unvalued _ _ _ (c .start .ensures))
 
 timed-requires-2 : tie.Need-timed-requires-2
 timed-requires-2 c κs = search needs
@@ -49,7 +65,19 @@ same-length-2 c = search needs
 
 returns-4 : tie.Need-returns-4
 unfolding readLine
-returns-4 c = rw (le-ltb lineMax (length (c .before .before .before .before .before .before .before .before .before .before .before .before .args .line .now)) (search needs), sym (fields-in (c .before .before .before .before .before .before .before .before .before .before .before .before .args .line .now) 0 (omega arith)), c .before .before .before .before .before .before .before .before .letter-at .ensures, c .before .before .before .before .before .before .first .given .1, ne-eqb (c .before .before .before .before .before .before .first .given .0 .0) startLetter (c .before .before .before .before .if2 .left)) (c .before .before .timed2 .ensures)
+returns-4 c =
+    let if2 = c .before .before .before .before .if2 in
+    let first = c .before .before .before .before .before .before .first in
+    let letter-at = c .before .before .before .before .before .before .before .before .letter-at in
+    let args = c .before .before .before .before .before .before .before .before .before .before .before .before .args in
+    rw (
+      le-ltb lineMax (length (args .line .now)) (search needs),
+      sym (fields-in (args .line .now) 0 (omega arith)),
+      letter-at .ensures,
+      first .given .1,
+      ne-eqb (first .given .0 .0) startLetter (if2 .left),
+    )
+    (c .before .before .timed2 .ensures)
 
 pub read-spec : {M : Type 1} → statement M
 read-spec =

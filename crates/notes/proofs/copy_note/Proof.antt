@@ -38,7 +38,13 @@ same-length : tie.Need-same-length
 same-length c = search needs
 
 returns : tie.Need-returns
-returns c = note-copied (c .before .before .before .before .before .before .before .before .before .before .before .args .b .now) (c .before .before .before .before .before .before .before .before .before .before .before .args .i) (c .before .before .before .before .before .before .before .before .before .before .before .args .j) _ _ _ (c .before .before .before .before .before .before .before .before .before .before .before .pre .0) (c .before .before .before .before .before .before .before .before .before .before .before .pre .1 .0) (c .before .before .before .before .before .before .before .before .before .before .before .pre .1 .1) (c .before .before .before .before .before .before .before .before .note-length .ensures .0) (c .before .before .before .before .before .before .store-u8 .ensures) (c .before .before .copy-within .ensures)
+returns c =
+    let store-u8 = c .before .before .before .before .before .before .store-u8 in
+    let note-length = c .before .before .before .before .before .before .before .before .note-length in
+    let args = c .before .before .before .before .before .before .before .before .before .before .before .args in
+    let pre = c .before .before .before .before .before .before .before .before .before .before .before .pre in
+    note-copied (args .b .now) (args .i) (args .j) _ _ _ (pre .0) (pre .1 .0) (pre .1 .1) (note-length .ensures .0) (store-u8 .ensures)
+    (c .before .before .copy-within .ensures)
 
 pub copy-note-spec : {M : Type 1} → statement M
 copy-note-spec =

@@ -31,7 +31,10 @@ same-length c = search needs
 
 returns : tie.Need-returns
 unfolding withNote
-returns c = splice-then (c .before .before .before .before .before .before .before .before .before .before .args .b .now) _ _ (length (c .before .before .before .before .before .before .before .before .before .before .args .v .now) ∷ []) (c .before .before .before .before .before .before .before .before .before .before .args .v .now) _ 1 (c .before .before .before .before .before .before .store-u8 .ensures) (c .before .before .copy-in .ensures) refl (search needs)
+returns c =
+    let store-u8 = c .before .before .before .before .before .before .store-u8 in
+    let args = c .before .before .before .before .before .before .before .before .before .before .args in
+    splice-then (args .b .now) _ _ (length (args .v .now) ∷ []) (args .v .now) _ 1 (store-u8 .ensures) (c .before .before .copy-in .ensures) refl (search needs)
 
 pub put-note-spec : {M : Type 1} → statement M
 put-note-spec =

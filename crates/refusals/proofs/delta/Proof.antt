@@ -26,7 +26,12 @@ staging-requires : tie.Need-staging-requires
 staging-requires c κs = search needs
 
 returns-5 : tie.Need-returns-5
-returns-5 c = λ σ h ok. c .staging .ensures σ h ok ∙ meets (delta-staging _ _ _ _ _ _ (c .before .before .before .before .before .if1 .left) (test-passed (c .before .before .before .before .is-operation .ensures) (c .before .before .before .if2 .left)) (c .before .before .if3 .left) (c .before .if4 .left))
+returns-5 c =
+    let if2 = c .before .before .before .if2 in
+    let is-operation = c .before .before .before .before .is-operation in
+    let if1 = c .before .before .before .before .before .if1 in
+    λ σ h ok. c .staging .ensures σ h ok
+    ∙ meets (delta-staging _ _ _ _ _ _ (if1 .left) (test-passed (is-operation .ensures) (if2 .left)) (c .before .before .if3 .left) (c .before .if4 .left))
 
 pub delta-spec : {M : Type 1} → statement M
 delta-spec =

@@ -32,7 +32,11 @@ returns-4 c =
     meets (get-numbers _ _ _ _ (c .before .before .before .before .before .before .if1 .left) known (sym (c .before .would-lease .ensures σ h ok _) ∙ c .if4 .taken) (rw (head-expired σ _, ← c .before .before .before .next-token .ensures σ h) (c .before .before .if3 .left)))
 
 returns-5 : tie.Need-returns-5
-returns-5 c = λ σ h ok. meets (get-unleased _ _ _ _ (c .before .before .before .before .before .before .if1 .left) (sym (c .before .before .before .before .before .is-unknown .ensures σ h ok) ∙ c .before .before .before .before .if2 .left) (sym (c .before .would-lease .ensures σ h ok _) ∙ c .if4 .left))
+returns-5 c =
+    let if2 = c .before .before .before .before .if2 in
+    let is-unknown = c .before .before .before .before .before .is-unknown in
+    let if1 = c .before .before .before .before .before .before .if1 in
+    λ σ h ok. meets (get-unleased _ _ _ _ (if1 .left) (sym (is-unknown .ensures σ h ok) ∙ if2 .left) (sym (c .before .would-lease .ensures σ h ok _) ∙ c .if4 .left))
 
 pub get-spec : {M : Type 1} → statement M
 get-spec =

@@ -21,10 +21,22 @@ enum-told-2 : tie.Need-enum-told-2
 enum-told-2 c = search needs
 
 returns-2 : tie.Need-returns-2
-returns-2 c = λ σ h ok. rw (ne-eqb (c .before .before .before .before .before .args .session) 0 (c .before .before .before .if1 .left), left-is (sessionOf (expire (c .before .before .before .before .before .args .time) σ) (c .before .before .before .before .before .args .session)) _ (sym (c .before .before .session .ensures σ h ok) ∙ c .enum-told .given .1))
+returns-2 c =
+    let if1 = c .before .before .before .if1 in
+    let args = c .before .before .before .before .before .args in
+    λ σ h ok. rw (
+      ne-eqb (args .session) 0 (if1 .left),
+      left-is (sessionOf (expire (args .time) σ) (args .session)) _ (sym (c .before .before .session .ensures σ h ok) ∙ c .enum-told .given .1),
+    )
 
 returns-3 : tie.Need-returns-3
-returns-3 c = λ σ h ok. rw (ne-eqb (c .before .before .before .before .before .args .session) 0 (c .before .before .before .if1 .left), left-nobody (sessionOf (expire (c .before .before .before .before .before .args .time) σ) (c .before .before .before .before .before .args .session)) (sym (c .before .before .session .ensures σ h ok) ∙ c .enum-told2 .given .1))
+returns-3 c =
+    let if1 = c .before .before .before .if1 in
+    let args = c .before .before .before .before .before .args in
+    λ σ h ok. rw (
+      ne-eqb (args .session) 0 (if1 .left),
+      left-nobody (sessionOf (expire (args .time) σ) (args .session)) (sym (c .before .before .session .ensures σ h ok) ∙ c .enum-told2 .given .1),
+    )
 
 pub is-unknown-spec : {M : Type 1} → statement M
 is-unknown-spec =

@@ -68,10 +68,19 @@ cast-would-grant : tie.Need-cast-would-grant
 cast-would-grant c = search needs
 
 cast-would-grant-2 : tie.Need-cast-would-grant-2
-cast-would-grant-2 c = omega (arith, is-kind (c .before .before .before .before .before .before .before .before .before .before .before .before .args .kind) (test-passed (c .before .before .before .before .before .before .before .before .before .is-kind .ensures) (c .before .before .before .before .before .before .before .before .if2 .left)) .1)
+cast-would-grant-2 c =
+    let if2 = c .before .before .before .before .before .before .before .before .if2 in
+    let the-is-kind = c .before .before .before .before .before .before .before .before .before .is-kind in
+    let args = c .before .before .before .before .before .before .before .before .before .before .before .before .args in
+    omega (arith, is-kind (args .kind) (test-passed (the-is-kind .ensures) (if2 .left)) .1)
 
 would-grant-requires : tie.Need-would-grant-requires
-would-grant-requires c κs = let d = is-kind (c .before .before .before .before .before .before .before .before .before .before .before .before .args .kind) (test-passed (c .before .before .before .before .before .before .before .before .before .is-kind .ensures) (c .before .before .before .before .before .before .before .before .if2 .left)) in (search needs, (d .0, omega (arith, d .1)))
+would-grant-requires c κs =
+    let if2 = c .before .before .before .before .before .before .before .before .if2 in
+    let the-is-kind = c .before .before .before .before .before .before .before .before .before .is-kind in
+    let args = c .before .before .before .before .before .before .before .before .before .before .before .before .args in
+    let d = is-kind (args .kind) (test-passed (the-is-kind .ensures) (if2 .left)) in
+    (search needs, (d .0, omega (arith, d .1)))
 
 -- where the rows are full, what would be granted is refused
 by-grant : (c : tie.After-would-grant) {t : Bool} → c .would-grant .result ≡ t

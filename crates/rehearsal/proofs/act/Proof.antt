@@ -25,13 +25,28 @@ enum-known-read-2 : tie.Need-enum-known-read-2
 enum-known-read-2 c = search needs
 
 slice-reshare-prefix-write : tie.Need-slice-reshare-prefix-write
-slice-reshare-prefix-write c = let g = write-size (c .before .before .before .before .before .before .before .before .before .before .before .before .before .args .line .now) _ (c .before .before .before .before .before .before .before .read .ensures .line) _ _ _ (c .before .before .before .read3 .given .1) .1 .1 in omega (arith, g)
+slice-reshare-prefix-write c =
+    let read3 = c .before .before .before .read3 in
+    let read = c .before .before .before .before .before .before .before .read in
+    let args = c .before .before .before .before .before .before .before .before .before .before .before .before .before .args in
+    let g = write-size (args .line .now) _ (read .ensures .line) _ _ _ (read3 .given .1) .1 .1 in
+    omega (arith, g)
 
 slice-aggregate-write : tie.Need-slice-aggregate-write
-slice-aggregate-write c = let g = write-size (c .before .before .before .before .before .before .before .before .before .before .before .before .before .before .args .line .now) _ (c .before .before .before .before .before .before .before .before .read .ensures .line) _ _ _ (c .before .before .before .before .read3 .given .1) .1 .1 in simp length-take (omega (arith, g))
+slice-aggregate-write c =
+    let read3 = c .before .before .before .before .read3 in
+    let read = c .before .before .before .before .before .before .before .before .read in
+    let args = c .before .before .before .before .before .before .before .before .before .before .before .before .before .before .args in
+    let g = write-size (args .line .now) _ (read .ensures .line) _ _ _ (read3 .given .1) .1 .1 in
+    simp length-take (omega (arith, g))
 
 write-requires : tie.Need-write-requires
-write-requires c κs = let g = write-size (c .before .before .before .before .before .before .before .before .before .before .before .before .before .before .args .line .now) _ (c .before .before .before .before .before .before .before .before .read .ensures .line) _ _ _ (c .before .before .before .before .read3 .given .1) .1 .0 in (search needs, simp length-take (omega (arith, g)))
+write-requires c κs =
+    let read3 = c .before .before .before .before .read3 in
+    let read = c .before .before .before .before .before .before .before .before .read in
+    let args = c .before .before .before .before .before .before .before .before .before .before .before .before .before .before .args in
+    let g = write-size (args .line .now) _ (read .ensures .line) _ _ _ (read3 .given .1) .1 .0 in
+    (search needs, simp length-take (omega (arith, g)))
 
 enum-known-read-3 : tie.Need-enum-known-read-3
 enum-known-read-3 c = search needs
@@ -40,10 +55,20 @@ command-of-requires : tie.Need-command-of-requires
 command-of-requires c κs = search needs
 
 slice-reshare-prefix-command : tie.Need-slice-reshare-prefix-command
-slice-reshare-prefix-command c = let g = command-size (c .before .before .before .before .before .before .before .before .before .before .before .before .before .before .args .line .now) _ (c .before .before .before .before .before .before .before .before .read .ensures .line) _ _ _ _ _ _ _ (c .before .before .before .before .read4 .given .1) .1 in omega (arith, g)
+slice-reshare-prefix-command c =
+    let read4 = c .before .before .before .before .read4 in
+    let read = c .before .before .before .before .before .before .before .before .read in
+    let args = c .before .before .before .before .before .before .before .before .before .before .before .before .before .before .args in
+    let g = command-size (args .line .now) _ (read .ensures .line) _ _ _ _ _ _ _ (read4 .given .1) .1 in
+    omega (arith, g)
 
 slice-aggregate-command : tie.Need-slice-aggregate-command
-slice-aggregate-command c = let g = command-size (c .before .before .before .before .before .before .before .before .before .before .before .before .before .before .before .args .line .now) _ (c .before .before .before .before .before .before .before .before .before .read .ensures .line) _ _ _ _ _ _ _ (c .before .before .before .before .before .read4 .given .1) .1 in simp length-take (omega (arith, g))
+slice-aggregate-command c =
+    let read4 = c .before .before .before .before .before .read4 in
+    let read = c .before .before .before .before .before .before .before .before .before .read in
+    let args = c .before .before .before .before .before .before .before .before .before .before .before .before .before .before .before .args in
+    let g = command-size (args .line .now) _ (read .ensures .line) _ _ _ _ _ _ _ (read4 .given .1) .1 in
+    simp length-take (omega (arith, g))
 
 command-requires : tie.Need-command-requires
 command-requires c κs = search needs

@@ -18,16 +18,27 @@ lines-requires : tie.Need-lines-requires
 lines-requires c κs = lent-sizes (c .before .before .before .before .before .args .book .now) (c .before .before .before .before .before .args .out .now) (test-passed (c .before .lent-right .ensures) (c .if1 .left)) .0
 
 broken-requires : tie.Need-broken-requires
-broken-requires c κs = lent-sizes (c .before .before .before .before .before .before .args .book .now) (c .before .before .before .before .before .before .args .out .now) (test-passed (c .before .before .lent-right .ensures) (c .before .if1 .left)) .0
+broken-requires c κs =
+    let args = c .before .before .before .before .before .before .args in
+    lent-sizes (args .book .now) (args .out .now) (test-passed (c .before .before .lent-right .ensures) (c .before .if1 .left)) .0
 
 end-requires : tie.Need-end-requires
-end-requires c κs = lent-sizes (c .before .before .before .before .before .before .before .before .args .book .now) (c .before .before .before .before .before .before .before .before .args .out .now) (test-passed (c .before .before .before .before .lent-right .ensures) (c .before .before .before .if1 .left)) .1
+end-requires c κs =
+    let if1 = c .before .before .before .if1 in
+    let lent-right = c .before .before .before .before .lent-right in
+    let args = c .before .before .before .before .before .before .before .before .args in
+    lent-sizes (args .book .now) (args .out .now) (test-passed (lent-right .ensures) (if1 .left)) .1
 
 same-length-2 : tie.Need-same-length-2
 same-length-2 c = search needs
 
 returns-2 : tie.Need-returns-2
-returns-2 c = end-printed _ _ (test-passed (c .before .before .before .before .before .before .before .lent-right .ensures) (c .before .before .before .before .before .before .if1 .left)) _ _ _ _ (c .before .before .before .before .before .lines .ensures) (c .before .before .before .before .broken .ensures) (c .before .before .end .ensures)
+returns-2 c =
+    let broken = c .before .before .before .before .broken in
+    let lines = c .before .before .before .before .before .lines in
+    let if1 = c .before .before .before .before .before .before .if1 in
+    let lent-right = c .before .before .before .before .before .before .before .lent-right in
+    end-printed _ _ (test-passed (lent-right .ensures) (if1 .left)) _ _ _ _ (lines .ensures) (broken .ensures) (c .before .before .end .ensures)
 
 pub end-spec : {M : Type 1} → statement M
 end-spec =

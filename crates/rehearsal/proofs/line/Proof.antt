@@ -21,11 +21,20 @@ slice-aggregate-act : tie.Need-slice-aggregate-act
 slice-aggregate-act c = search needs
 
 act-requires : tie.Need-act-requires
-act-requires c κs = (lent-sizes (c .before .before .before .before .before .before .before .before .before .before .before .args .book .now) (c .before .before .before .before .before .before .before .before .before .before .before .args .out .now) (test-passed (c .before .before .before .before .lent-right .ensures) (c .before .before .before .if1 .left)) .0, search needs)
+act-requires c κs =
+    let if1 = c .before .before .before .if1 in
+    let lent-right = c .before .before .before .before .lent-right in
+    let args = c .before .before .before .before .before .before .before .before .before .before .before .args in
+    (lent-sizes (args .book .now) (args .out .now) (test-passed (lent-right .ensures) (if1 .left)) .0, search needs)
 
 say-requires : tie.Need-say-requires
-say-requires c κs = let l = lent-sizes (c .before .before .before .before .before .before .before .before .before .before .before .before .before .before .before .before .before .before .before .before .args .book .now) (c .before .before .before .before .before .before .before .before .before .before .before .before .before .before .before .before .before .before .before .before .args .out .now) (test-passed (c .before .before .before .before .before .before .before .before .before .before .before .before .before .lent-right .ensures) (c .before .before .before .before .before .before .before .before .before .before .before .before .if1 .left)) in
-    (search (needs, l), (search (needs, l), said-within _ _ _ _ _ _ (c .before .before .before .before .before .before .before .before .act .ensures) (search needs)))
+say-requires c κs =
+    let act = c .before .before .before .before .before .before .before .before .act in
+    let if1 = c .before .before .before .before .before .before .before .before .before .before .before .before .if1 in
+    let lent-right = c .before .before .before .before .before .before .before .before .before .before .before .before .before .lent-right in
+    let args = c .before .before .before .before .before .before .before .before .before .before .before .before .before .before .before .before .before .before .before .before .args in
+    let l = lent-sizes (args .book .now) (args .out .now) (test-passed (lent-right .ensures) (if1 .left)) in
+    (search (needs, l), (search (needs, l), said-within _ _ _ _ _ _ (act .ensures) (search needs)))
 
 same-length-3 : tie.Need-same-length-3
 same-length-3 c = search needs
@@ -37,7 +46,12 @@ same-length-5 : tie.Need-same-length-5
 same-length-5 c = search needs
 
 returns-2 : tie.Need-returns-2
-returns-2 c = line-printed _ _ _ _ (test-passed (c .before .before .before .before .before .before .before .before .before .before .before .before .before .before .before .before .before .before .lent-right .ensures) (c .before .before .before .before .before .before .before .before .before .before .before .before .before .before .before .before .before .if1 .left)) _ _ _ _ _ _ (c .before .before .before .before .before .before .before .before .before .before .before .before .before .act .ensures) (c .before .before .before .before .say .ensures)
+returns-2 c =
+    let say = c .before .before .before .before .say in
+    let act = c .before .before .before .before .before .before .before .before .before .before .before .before .before .act in
+    let if1 = c .before .before .before .before .before .before .before .before .before .before .before .before .before .before .before .before .before .if1 in
+    let lent-right = c .before .before .before .before .before .before .before .before .before .before .before .before .before .before .before .before .before .before .lent-right in
+    line-printed _ _ _ _ (test-passed (lent-right .ensures) (if1 .left)) _ _ _ _ _ _ (act .ensures) (say .ensures)
 
 pub line-spec : {M : Type 1} → statement M
 line-spec =

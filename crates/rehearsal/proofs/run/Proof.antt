@@ -21,8 +21,11 @@ same-length-2 c = search needs
 
 returns : tie.Need-returns
 returns c =
-    let a = c .before .before .before .before .before .before .before .before .before .before .before .before .before .before .args in
-    command-says (a .cache .now) (a .book .now) (a .time) (a .command) (a .value .now) _ _ _ (c .before .before .before .before .before .before .before .before .risk .result) _ (c .before .before .before .before .before .before .before .before .risk .ensures) (c .before .before .before .before .before .before .run .ensures) (c .before .before .conclude .ensures)
+    let run = c .before .before .before .before .before .before .run in
+    let risk = c .before .before .before .before .before .before .before .before .risk in
+    let args = c .before .before .before .before .before .before .before .before .before .before .before .before .before .before .args in
+    command-says (args .cache .now) (args .book .now) (args .time) (args .command) (args .value .now) _ _ _ (risk .result) _ (risk .ensures) (run .ensures)
+    (c .before .before .conclude .ensures)
 
 pub run-spec : {M : Type 1} → statement M
 run-spec =

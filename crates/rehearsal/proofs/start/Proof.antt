@@ -27,7 +27,12 @@ same-length-3 : tie.Need-same-length-3
 same-length-3 c = search needs
 
 returns-2 : tie.Need-returns-2
-returns-2 c = rw (start-first (c .before .before .before .before .before .before .before .before .before .before .before .before .args .cache .now) (c .before .before .before .before .before .before .before .before .before .before .before .before .args .book .now) (c .before .before .before .before .before .before .before .before .before .before .before .before .args .read) (c .before .before .before .before .before .before .before .before .before .before .before .before .args .write) (sym (c .before .before .before .before .before .before .before .before .started .ensures) ∙ c .before .before .before .before .before .before .before .if1 .left)) (says-here (c .before .before .before .before .begin .ensures))
+returns-2 c =
+    let begin = c .before .before .before .before .begin in
+    let if1 = c .before .before .before .before .before .before .before .if1 in
+    let started = c .before .before .before .before .before .before .before .before .started in
+    let args = c .before .before .before .before .before .before .before .before .before .before .before .before .args in
+    rw (start-first (args .cache .now) (args .book .now) (args .read) (args .write) (sym (started .ensures) ∙ if1 .left)) (says-here (begin .ensures))
 
 pub start-spec : {M : Type 1} → statement M
 start-spec =

@@ -27,7 +27,12 @@ same-length-3 : tie.Need-same-length-3
 same-length-3 c = search needs
 
 returns-2 : tie.Need-returns-2
-returns-2 c = λ l. rw (write-started (c .before .before .before .before .before .before .before .before .before .before .before .args .cache .now) (c .before .before .before .before .before .before .before .before .before .before .before .args .book .now) (c .before .before .before .before .before .before .before .before .before .before .before .args .session) (c .before .before .before .before .before .before .before .before .before .before .before .args .key) l (c .before .before .before .before .before .before .before .before .before .before .before .args .value .now) (test-passed (c .before .before .before .before .before .before .started .ensures) (c .before .before .before .before .before .if1 .left))) (says-here (c .before .before .write .ensures))
+returns-2 c =
+    let if1 = c .before .before .before .before .before .if1 in
+    let started = c .before .before .before .before .before .before .started in
+    let args = c .before .before .before .before .before .before .before .before .before .before .before .args in
+    λ l. rw (write-started (args .cache .now) (args .book .now) (args .session) (args .key) l (args .value .now) (test-passed (started .ensures) (if1 .left)))
+    (says-here (c .before .before .write .ensures))
 
 pub write-spec : {M : Type 1} → statement M
 write-spec =

@@ -15,22 +15,33 @@ use Rattle.rehearse.proofs.pour.Statement.{statement}
 use Rattle.rehearse.proofs.pour.Tie as tie
 
 abbrev Inv-loop : tie.InvT-loop
-Inv-loop cache₀ book₀ line₀ held chunk out₀ held₀ from₀ cache book line out held' from = (length cache ≡ length cache₀) × ((length book ≡ length book₀) × ((length out ≡ length out₀) × ((from ≤ length chunk) × (HeldFits line held' × (opened cache book line held' ≡ fed answerLine (opened cache₀ book₀ line₀ held) (take from chunk) .world)))))
+Inv-loop cache₀ book₀ line₀ held chunk out₀ held₀ from₀ cache book line out held' from =
+    (length cache ≡ length cache₀) × ((length book ≡ length book₀) × ((length out ≡ length out₀) × ((from ≤ length chunk)
+    × (HeldFits line held' × (opened cache book line held' ≡ fed answerLine (opened cache₀ book₀ line₀ held) (take from chunk) .world)))))
 
 abbrev μ-loop : tie.MeasureT-loop
 μ-loop cache₀ book₀ line₀ held chunk out₀ held₀ from₀ cache book line out held' from = length chunk - from
 
 loop-holds : tie.Need-loop-holds Inv-loop μ-loop
-loop-holds c = (refl, (refl, (refl, (search needs, (c .before .before .before .before .before .pre .1, rw (fed-none answerLine (opened (c .before .before .before .before .before .args .cache .now) (c .before .before .before .before .before .args .book .now) (c .before .before .before .before .before .args .line .now) (c .before .before .before .before .before .args .held))))))))
+loop-holds c =
+    let args = c .before .before .before .before .before .args in
+    let none-fed = fed-none answerLine (opened (args .cache .now) (args .book .now) (args .line .now) (args .held)) in
+    (refl, (refl, (refl, (search needs, (c .before .before .before .before .before .pre .1, rw none-fed)))))
 
 stretch-requires : tie.Need-stretch-requires Inv-loop μ-loop
 stretch-requires c κs = (c .before .before .before .before .before .loop .inv .1 .1 .1 .0, c .before .before .before .before .before .loop .inv .1 .1 .1 .1 .0)
 
 slice-reshare-prefix-write-all : tie.Need-slice-reshare-prefix-write-all Inv-loop μ-loop
-slice-reshare-prefix-write-all c = let l = printed-length (c .before .before .before .before .before .before .before .before .stretch .ensures .0 .reaches .answered .printed) in omega (arith, c .before .before .before .before .before .before .before .before .stretch .ensures .0 .reaches .answered .printed .fits)
+slice-reshare-prefix-write-all c =
+    let printed = c .before .before .before .before .before .before .before .before .stretch .ensures .0 .reaches .answered .printed in
+    let l = printed-length printed in
+    omega (arith, printed .fits)
 
 slice-aggregate-write-all : tie.Need-slice-aggregate-write-all Inv-loop μ-loop
-slice-aggregate-write-all c = let l = printed-length (c .before .before .before .before .before .before .before .before .before .stretch .ensures .0 .reaches .answered .printed) in sym (length-take-le _ _ (omega (arith, c .before .before .before .before .before .before .before .before .before .stretch .ensures .0 .reaches .answered .printed .fits)))
+slice-aggregate-write-all c =
+    let printed = c .before .before .before .before .before .before .before .before .before .stretch .ensures .0 .reaches .answered .printed in
+    let l = printed-length printed in
+    sym (length-take-le _ _ (omega (arith, printed .fits)))
 
 write-all-requires : tie.Need-write-all-requires Inv-loop μ-loop
 write-all-requires c κs = search needs
@@ -42,7 +53,10 @@ same-length-2 : tie.Need-same-length-2 Inv-loop μ-loop
 same-length-2 c = search needs
 
 same-length-3 : tie.Need-same-length-3 Inv-loop μ-loop
-same-length-3 c = c .before .before .before .before .before .before .before .before .before .before .before .stretch .ensures .1 .0 .size ∙ sym (c .before .before .before .before .before .before .before .before .before .before .before .before .before .before .before .before .before .before .before .before .before .before .before .pre .1 .size)
+same-length-3 c =
+    let stretch = c .before .before .before .before .before .before .before .before .before .before .before .stretch in
+    let pre = c .before .before .before .before .before .before .before .before .before .before .before .before .before .before .before .before .before .before .before .before .before .before .before .pre in
+    stretch .ensures .1 .0 .size ∙ sym (pre .1 .size)
 
 same-length-4 : tie.Need-same-length-4 Inv-loop μ-loop
 same-length-4 c = search needs
@@ -51,10 +65,22 @@ returns : tie.Need-returns Inv-loop μ-loop
 returns c = tt
 
 loop-less : tie.Need-loop-less Inv-loop μ-loop
-loop-less c = let l = c .before .before .before .before .before .before .before .before .before .before .before .before .before .before .before .before .before .loop .inv .1 .1 .0 in omega (arith, stretched-on _ _ _ _ (c .before .before .before .before .before .before .before .before .before .before .before .stretch .ensures .0) (c .before .before .before .before .before .before .before .before .before .before .before .before .before .before .before .before .loop-test .taken) (omega (arith, c .before .before .before .before .before .before .before .before .before .before .before .before .before .before .before .before .before .before .before .before .before .before .before .pre .0)), c .before .before .before .before .before .before .before .before .before .before .before .stretch .ensures .0 .reaches .within .1)
+loop-less c =
+    let stretch = c .before .before .before .before .before .before .before .before .before .before .before .stretch in
+    let loop-test = c .before .before .before .before .before .before .before .before .before .before .before .before .before .before .before .before .loop-test in
+    let stretched = stretch .ensures .0 in
+    let looped = c .before .before .before .before .before .before .before .before .before .before .before .before .before .before .before .before .before in
+    let l = looped .loop .inv .1 .1 .0 in
+    let room = looped .before .before .before .before .before .before .pre .0 in
+    omega (arith, stretched-on _ _ _ _ stretched (loop-test .taken) (omega (arith, room)), stretched .reaches .within .1)
 
 loop-again : tie.Need-loop-again Inv-loop μ-loop
-loop-again c = (search needs, (search needs, (search needs, (c .before .before .before .before .before .before .before .before .before .before .before .stretch .ensures .0 .reaches .within .1, (record { size = c .before .before .before .before .before .before .before .before .before .before .before .stretch .ensures .1 .0 .size; most = omega (arith, c .before .before .before .before .before .before .before .before .before .before .before .stretch .ensures .1 .0 .most) }, poured-on _ _ _ _ _ _ _ _ _ (c .before .before .before .before .before .before .before .before .before .before .before .before .before .before .before .before .before .loop .inv .1 .1 .1 .1 .1) (c .before .before .before .before .before .before .before .before .before .before .before .stretch .ensures .0))))))
+loop-again c =
+    let stretch = c .before .before .before .before .before .before .before .before .before .before .before .stretch .ensures in
+    let held = stretch .1 .0 in
+    let inv = c .before .before .before .before .before .before .before .before .before .before .before .before .before .before .before .before .before .loop .inv in
+    let fed = poured-on _ _ _ _ _ _ _ _ _ (inv .1 .1 .1 .1 .1) (stretch .0) in
+    (search needs, (search needs, (search needs, (stretch .0 .reaches .within .1, (record { size = held .size; most = omega (arith, held .most) }, fed)))))
 
 same-length-5 : tie.Need-same-length-5 Inv-loop μ-loop
 same-length-5 c = c .before .loop .inv .0

@@ -16,16 +16,25 @@ use Rattle.rehearse.proofs.rehearse.Statement.{statement}
 use Rattle.rehearse.proofs.rehearse.Tie as tie
 
 abbrev Inv-loop : tie.InvT-loop
-Inv-loop cache₀ book₀ line₀ chunk₀ out₀ held₀ turns₀ cache book line chunk out held turns = (length cache ≡ length cache₀) × ((length book ≡ length book₀) × ((length chunk ≡ length chunk₀) × ((length out ≡ length out₀) × (HeldFits line held × ReadSoFar (opened cache₀ book₀ [] 0) (opened cache book line held)))))
+Inv-loop cache₀ book₀ line₀ chunk₀ out₀ held₀ turns₀ cache book line chunk out held turns =
+    (length cache ≡ length cache₀) × ((length book ≡ length book₀) × ((length chunk ≡ length chunk₀) × ((length out ≡ length out₀)
+    × (HeldFits line held × ReadSoFar (opened cache₀ book₀ [] 0) (opened cache book line held)))))
 
 abbrev μ-loop : tie.MeasureT-loop
 μ-loop cache₀ book₀ line₀ chunk₀ out₀ held₀ turns₀ cache book line chunk out held turns = turns
 
 loop-holds : tie.Need-loop-holds Inv-loop μ-loop
-loop-holds c = (refl, (refl, (refl, (refl, (record { size = c .before .before .before .before .before .pre .1; most = search needs }, ([], rw (fed-none answerLine (opened (c .before .before .before .before .before .args .cache .now) (c .before .before .before .before .before .args .book .now) [] 0))))))))
+loop-holds c =
+    let args = c .before .before .before .before .before .args in
+    let pre = c .before .before .before .before .before .pre in
+    let none-read = fed-none answerLine (opened (args .cache .now) (args .book .now) [] 0) in
+    (refl, (refl, (refl, (refl, (record { size = pre .1; most = search needs }, ([], rw none-read))))))
 
 turn-requires : tie.Need-turn-requires Inv-loop μ-loop
-turn-requires c κs = let l = c .before .before .before .before .before .before .loop .inv .1 .1 .1 .0 in (omega (arith, c .before .before .before .before .before .before .before .before .before .before .before .before .pre .0), c .before .before .before .before .before .before .loop .inv .1 .1 .1 .1 .0)
+turn-requires c κs =
+    let inv = c .before .before .before .before .before .before .loop .inv in
+    let l = inv .1 .1 .1 .0 in
+    (omega (arith, c .before .before .before .before .before .before .before .before .before .before .before .before .pre .0), inv .1 .1 .1 .1 .0)
 
 enum-known-went : tie.Need-enum-known-went Inv-loop μ-loop
 enum-known-went c = search needs
@@ -34,13 +43,21 @@ enum-told : tie.Need-enum-told Inv-loop μ-loop
 enum-told c = search needs
 
 finish-requires : tie.Need-finish-requires Inv-loop μ-loop
-finish-requires c κs = (search needs, record { size = search needs; most = omega (arith, c .before .before .before .before .before .before .before .before .before .before .before .before .before .before .before .before .before .before .before .before .before .before .before .loop .inv .1 .1 .1 .1 .0 .most) })
+finish-requires c κs =
+    let loop = c .before .before .before .before .before .before .before .before .before .before .before .before .before .before .before .before .before .before .before .before .before .before .before .loop in
+    (search needs, record { size = search needs; most = omega (arith, loop .inv .1 .1 .1 .1 .0 .most) })
 
 slice-reshare-prefix-write-all : tie.Need-slice-reshare-prefix-write-all Inv-loop μ-loop
-slice-reshare-prefix-write-all c = let l = printed-length (c .before .before .before .before .before .before .finish .ensures .printed) in omega (arith, c .before .before .before .before .before .before .finish .ensures .printed .fits)
+slice-reshare-prefix-write-all c =
+    let printed = c .before .before .before .before .before .before .finish .ensures .printed in
+    let l = printed-length printed in
+    omega (arith, printed .fits)
 
 slice-aggregate-write-all : tie.Need-slice-aggregate-write-all Inv-loop μ-loop
-slice-aggregate-write-all c = let l = printed-length (c .before .before .before .before .before .before .before .finish .ensures .printed) in sym (length-take-le _ _ (omega (arith, c .before .before .before .before .before .before .before .finish .ensures .printed .fits)))
+slice-aggregate-write-all c =
+    let printed = c .before .before .before .before .before .before .before .finish .ensures .printed in
+    let l = printed-length printed in
+    sym (length-take-le _ _ (omega (arith, printed .fits)))
 
 write-all-requires : tie.Need-write-all-requires Inv-loop μ-loop
 write-all-requires c κs = search needs
@@ -62,14 +79,18 @@ same-length-5 c = search needs
 
 returns : tie.Need-returns Inv-loop μ-loop
 returns c =
-    let a = c .before .before .before .before .before .before .before .before .before .before .before .before .before .before .before .before .before .before .before .before .before .before .before .before .before .before .before .before .before .before .before .before .before .before .before .before .before .before .args in
-    let loop = c .before .before .before .before .before .before .before .before .before .before .before .before .before .before .before .before .before .before .before .before .before .before .before .before .before .before .before .before .before .before .before .before .loop in
-    let turn = c .before .before .before .before .before .before .before .before .before .before .before .before .before .before .before .before .before .before .before .before .before .before .before .before .before .turn in
+    let finish = c .before .before .before .before .before .before .before .before .finish in
+    let enum-told = c .before .before .before .before .before .before .before .before .before .before .before .before .before .enum-told in
+    let turned = c .before .before .before .before .before .before .before .before .before .before .before .before .before .before .before .before .before .before .before .before .before .before .before .before .before in
+    let looped = turned .before .before .before .before .before .before .before in
+    let args = looped .before .before .before .before .before .before .args in
+    let loop = looped .loop in
+    let turn = turned .turn in
     let now = opened (turn .last .0) (turn .last .1 .0) (turn .last .1 .1 .0) in
     let q = loop .inv .1 .1 .1 .1 .1 in
     let t = turned-ended (opened (loop .cache) (loop .book) (loop .line) (loop .held)) (loop .held) (turn .last .1 .1 .1 .1 .0) now (turn .result)
-    (c .before .before .before .before .before .before .before .before .before .before .before .before .before .enum-told .given .1) (turn .ensures) in
-    read-ends (memoryOf (a .cache .now) (a .book .now)) (now (loop .held)) _ _ _ _ (c .write-all .result) (q .0, t ∙ q .1) (c .before .before .before .before .before .before .before .before .finish .ensures)
+    (enum-told .given .1) (turn .ensures) in
+    read-ends (memoryOf (args .cache .now) (args .book .now)) (now (loop .held)) _ _ _ _ (c .write-all .result) (q .0, t ∙ q .1) (finish .ensures)
 
 enum-told-2 : tie.Need-enum-told-2 Inv-loop μ-loop
 enum-told-2 c = search needs

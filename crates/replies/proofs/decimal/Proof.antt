@@ -18,7 +18,11 @@ write-requires : tie.Need-write-requires
 write-requires c κs = search needs
 
 add-result : tie.Need-add-result
-add-result c = let p = number-put (c .before .before .before .before .before .args .out .now) (c .before .before .write .last .1 .0) (c .before .before .before .before .before .args .at) (c .before .before .before .before .before .args .n) (c .before .before .write .result) (search needs) (c .before .before .write .ensures .0) (c .before .before .write .ensures .1) in omega (arith, printed-most (c .before .before .before .before .before .args .n))
+add-result c =
+    let write = c .before .before .write in
+    let args = c .before .before .before .before .before .args in
+    let p = number-put (args .out .now) (write .last .1 .0) (args .at) (args .n) (write .result) (search needs) (write .ensures .0) (write .ensures .1) in
+    omega (arith, printed-most (args .n))
 
 same-length : tie.Need-same-length
 same-length c = search needs

@@ -31,7 +31,12 @@ same-length-2 c = search needs
 
 returns-2 : tie.Need-returns-2
 unfolding detailed
-returns-2 c = let e = sym (c .before .before .before .before .before .before .numbered .ensures) ∙ c .before .before .before .before .before .if1 .left in rw (e, eq-eqb _ HIT (c .before .before .before .before .if2 .taken)) (c .before .before .hexed .ensures)
+returns-2 c =
+    let if2 = c .before .before .before .before .if2 in
+    let if1 = c .before .before .before .before .before .if1 in
+    let numbered = c .before .before .before .before .before .before .numbered in
+    let e = sym (numbered .ensures) ∙ if1 .left in
+    rw (e, eq-eqb _ HIT (if2 .taken)) (c .before .before .hexed .ensures)
 
 byte-requires : tie.Need-byte-requires
 byte-requires c κs = search needs
@@ -41,7 +46,12 @@ same-length-3 c = search needs
 
 returns-3 : tie.Need-returns-3
 unfolding detailed
-returns-3 c = let e = sym (c .before .before .before .before .before .before .numbered .ensures) ∙ c .before .before .before .before .before .if1 .left in rw (e, ne-eqb _ HIT (c .before .before .before .before .if2 .left)) (c .before .before .byte .ensures)
+returns-3 c =
+    let if2 = c .before .before .before .before .if2 in
+    let if1 = c .before .before .before .before .before .if1 in
+    let numbered = c .before .before .before .before .before .before .numbered in
+    let e = sym (numbered .ensures) ∙ if1 .left in
+    rw (e, ne-eqb _ HIT (if2 .left)) (c .before .before .byte .ensures)
 
 pub details-spec : {M : Type 1} → statement M
 details-spec =

@@ -23,8 +23,11 @@ same-length c = search needs
 
 returns : tie.Need-returns
 returns c =
-    end-put (c .before .before .before .before .before .before .before .before .before .before .before .before .before .before .args .lines) (c .before .before .before .before .before .before .before .before .before .before .before .before .before .before .args .broken) (c .before .before .before .before .before .before .before .before .before .before .before .before .before .before .pre)
-    (c .before .before .before .before .before .before .before .before .before .before .text .ensures) (c .before .before .before .before .before .before .number .ensures) (c .before .before .number2 .ensures)
+    let number = c .before .before .before .before .before .before .number in
+    let text = c .before .before .before .before .before .before .before .before .before .before .text in
+    let args = c .before .before .before .before .before .before .before .before .before .before .before .before .before .before .args in
+    let pre = c .before .before .before .before .before .before .before .before .before .before .before .before .before .before .pre in
+    end-put (args .lines) (args .broken) pre (text .ensures) (number .ensures) (c .before .before .number2 .ensures)
 
 pub end-spec : {M : Type 1} → statement M
 end-spec =

@@ -29,7 +29,12 @@ same-length : tie.Need-same-length
 same-length c = search needs
 
 returns : tie.Need-returns
-returns c = let e = front-is _ _ _ (c .before .before .before .before .before .name-length .ensures .0) (c .before .before .before .before .before .before .padded .ensures) ∙ c .before .before .before .before .before .before .before .listed .ensures .1 in rw (← e) (c .before .before .text .ensures)
+returns c =
+    let name-length = c .before .before .before .before .before .name-length in
+    let padded = c .before .before .before .before .before .before .padded in
+    let listed = c .before .before .before .before .before .before .before .listed in
+    let e = front-is _ _ _ (name-length .ensures .0) (padded .ensures) ∙ listed .ensures .1 in
+    rw (← e) (c .before .before .text .ensures)
 
 pub name-spec : {M : Type 1} → statement M
 name-spec =

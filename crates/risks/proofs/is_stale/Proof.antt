@@ -19,13 +19,17 @@ cast-if1 : tie.Need-cast-if1
 cast-if1 c = search needs
 
 returns : tie.Need-returns
-returns c = λ σ h. sym (differs-other (registered (c .before .before .before .before .args .book .now)) (c .before .before .before .before .args .session) (rowAt σ (c .before .before .before .before .args .i)) (λ e. c .if1 .taken (c .before .session .ensures σ h ∙ e)))
+returns c =
+    let args = c .before .before .before .before .args in
+    λ σ h. sym (differs-other (registered (args .book .now)) (args .session) (rowAt σ (args .i)) (λ e. c .if1 .taken (c .before .session .ensures σ h ∙ e)))
 
 mark-requires : tie.Need-mark-requires
 mark-requires c κs = search needs
 
 returns-2 : tie.Need-returns-2
-returns-2 c = λ σ h. sym (differs-unstaged (registered (c .before .before .before .before .before .before .args .book .now)) (c .before .before .before .before .before .before .args .session) (rowAt σ (c .before .before .before .before .before .before .args .i)) (λ e. c .if2 .taken (c .before .mark .ensures σ h ∙ e)))
+returns-2 c =
+    let args = c .before .before .before .before .before .before .args in
+    λ σ h. sym (differs-unstaged (registered (args .book .now)) (args .session) (rowAt σ (args .i)) (λ e. c .if2 .taken (c .before .mark .ensures σ h ∙ e)))
 
 key-requires : tie.Need-key-requires
 key-requires c κs = search needs
@@ -58,8 +62,20 @@ is-registered-requires : tie.Need-is-registered-requires
 is-registered-requires c κs = search needs
 
 returns-3 : tie.Need-returns-3
-returns-3 c = λ σ h. let t : c .is-registered .result ≡ same (win (c .before .before .before .before .before .before .before .before .before .before .args .cache .now) (stagedAt (c .before .before .before .before .before .before .before .before .before .before .args .i)) (c .before .before .staged-length .result)) (registered (c .before .before .before .before .before .before .before .before .before .before .args .book .now) (c .before .before .before .key .result)) = c .is-registered .ensures ∙ rw (part-win (c .before .before .before .before .before .before .before .before .before .before .args .cache .now) (stagedAt (c .before .before .before .before .before .before .before .before .before .before .args .i)) (c .before .before .staged-length .result)) in
-    ap not t ∙ sym (differs-row (registered (c .before .before .before .before .before .before .before .before .before .before .args .book .now)) (c .before .before .before .before .before .before .before .before .before .before .args .session) h (c .before .before .before .before .before .before .before .before .before .before .args .i) (c .before .before .before .before .before .before .before .before .before .before .pre .1 .1) (c .before .before .staged-length .result) (c .before .before .before .key .result) (sym (c .before .before .before .before .before .before .before .session .ensures σ h) ∙ c .before .before .before .before .before .before .if1 .left) (sym (c .before .before .before .before .before .mark .ensures σ h) ∙ c .before .before .before .before .if2 .left) (c .before .before .staged-length .ensures .0 σ h) (c .before .before .before .key .ensures .0 σ h))
+returns-3 c =
+    let staged-length = c .before .before .staged-length in
+    let key = c .before .before .before .key in
+    let mark = c .before .before .before .before .before .mark in
+    let session = c .before .before .before .before .before .before .before .session in
+    let args = c .before .before .before .before .before .before .before .before .before .before .args in
+    let register = registered (args .book .now) in
+    let value = win (args .cache .now) (stagedAt (args .i)) (staged-length .result) in
+    let t : c .is-registered .result ≡ same value (register (key .result)) =
+    c .is-registered .ensures ∙ rw (part-win (args .cache .now) (stagedAt (args .i)) (staged-length .result)) in
+    λ σ h. ap not t
+    ∙ sym (differs-row register (args .session) h (args .i) (c .before .before .before .before .before .before .before .before .before .before .pre .1 .1) (staged-length .result) (key .result)
+    (sym (session .ensures σ h) ∙ c .before .before .before .before .before .before .if1 .left) (sym (mark .ensures σ h) ∙ c .before .before .before .before .if2 .left)
+    (staged-length .ensures .0 σ h) (key .ensures .0 σ h))
 
 pub is-stale-spec : {M : Type 1} → statement M
 is-stale-spec =

@@ -30,7 +30,10 @@ is-stale-requires : tie.Need-is-stale-requires Inv-loop μ-loop
 is-stale-requires c κs = search needs
 
 returns : tie.Need-returns Inv-loop μ-loop
-returns c = λ σ h. sym (any-at (differs (registered (c .before .before .before .before .before .before .args .book .now)) (c .before .before .before .before .before .before .args .session)) noRow (σ .rows) (c .before .before .before .loop .i) refl (sym (c .before .is-stale .ensures σ h) ∙ c .if1 .taken))
+returns c =
+    let args = c .before .before .before .before .before .before .args in
+    let stale = differs (registered (args .book .now)) (args .session) in
+    λ σ h. sym (any-at stale noRow (σ .rows) (c .before .before .before .loop .i) refl (sym (c .before .is-stale .ensures σ h) ∙ c .if1 .taken))
 
 add-i : tie.Need-add-i Inv-loop μ-loop
 add-i c = search needs
@@ -39,10 +42,18 @@ loop-less : tie.Need-loop-less Inv-loop μ-loop
 loop-less c = search needs
 
 loop-again : tie.Need-loop-again Inv-loop μ-loop
-loop-again c = (search needs, λ σ h. some-more (λ j. differs (registered (c .before .before .before .before .before .before .args .book .now)) (c .before .before .before .before .before .before .args .session) (rowAt σ j)) (c .before .before .before .loop .i) (c .before .before .before .loop .inv .1 σ h) (sym (c .before .is-stale .ensures σ h) ∙ c .if1 .left))
+loop-again c =
+    let loop = c .before .before .before .loop in
+    let args = c .before .before .before .before .before .before .args in
+    let stale = differs (registered (args .book .now)) (args .session) in
+    (search needs, λ σ h. some-more (λ j. stale (rowAt σ j)) (loop .i) (loop .inv .1 σ h) (sym (c .before .is-stale .ensures σ h) ∙ c .if1 .left))
 
 returns-2 : tie.Need-returns-2 Inv-loop μ-loop
-returns-2 c = λ σ h. sym (none-stale (differs (registered (c .before .before .before .before .args .book .now)) (c .before .before .before .before .args .session)) σ (c .before .loop .i) (h .fits .rows) (omega arith) (c .before .loop .inv .1 σ h))
+returns-2 c =
+    let loop = c .before .loop in
+    let args = c .before .before .before .before .args in
+    let stale = differs (registered (args .book .now)) (args .session) in
+    λ σ h. sym (none-stale stale σ (loop .i) (h .fits .rows) (omega arith) (loop .inv .1 σ h))
 
 pub stale-for-spec : {M : Type 1} → statement M
 stale-for-spec =

@@ -19,7 +19,11 @@ same-length : tie.Need-same-length
 same-length c = search needs
 
 returns : tie.Need-returns
-returns c = rw (c .tell .ensures, c .before .before .before .as-numbers .ensures) (begin-refused _ _ _ _ _ _ (c .before .before .before .before .before .before .start .ensures .0) (c .before .before .before .before .before .before .start .ensures .1) (λ q. c .before .if1 .taken (ap (λ (n : Numbers). n .word) (c .before .before .before .as-numbers .ensures) ∙ q)))
+returns c =
+    let as-numbers = c .before .before .before .as-numbers in
+    let start = c .before .before .before .before .before .before .start in
+    rw (c .tell .ensures, as-numbers .ensures)
+    (begin-refused _ _ _ _ _ _ (start .ensures .0) (start .ensures .1) (λ q. c .before .if1 .taken (ap (λ (n : Numbers). n .word) (as-numbers .ensures) ∙ q)))
 
 set-started-requires : tie.Need-set-started-requires
 set-started-requires c κs = search needs
@@ -34,7 +38,13 @@ same-length-3 : tie.Need-same-length-3
 same-length-3 c = search needs
 
 returns-2 : tie.Need-returns-2
-returns-2 c = rw (c .tell2 .ensures, c .before .before .before .before .before .before .before .as-numbers .ensures) (begin-ready _ _ _ _ _ _ (c .before .before .before .before .before .before .before .before .before .before .start .ensures .0) (c .before .before .before .before .before .before .before .before .before .before .start .ensures .1) (sym (ap (λ (n : Numbers). n .word) (c .before .before .before .before .before .before .before .as-numbers .ensures)) ∙ c .before .before .before .before .before .if1 .left) _ (c .before .before .before .set-started .ensures))
+returns-2 c =
+    let set-started = c .before .before .before .set-started in
+    let if1 = c .before .before .before .before .before .if1 in
+    let as-numbers = c .before .before .before .before .before .before .before .as-numbers in
+    let start = c .before .before .before .before .before .before .before .before .before .before .start in
+    rw (c .tell2 .ensures, as-numbers .ensures)
+    (begin-ready _ _ _ _ _ _ (start .ensures .0) (start .ensures .1) (sym (ap (λ (n : Numbers). n .word) (as-numbers .ensures)) ∙ if1 .left) _ (set-started .ensures))
 
 pub begin-spec : {M : Type 1} → statement M
 begin-spec =

@@ -20,8 +20,13 @@ same-length : tie.Need-same-length
 same-length c = search needs
 
 returns : tie.Need-returns
-returns c = let a = c .before .before .before .before .before .before .before .before .args in
-    concluded (a .book .now) _ (a .command) (a .answer) _ (a .risk) (c .before .rule-of .result) _ (c .before .before .before .before .before .before .as-numbers .ensures) (c .before .before .before .before .note-grant .ensures) (c .before .rule-of .ensures) (c .tell .ensures)
+returns c =
+    let rule-of = c .before .rule-of in
+    let note-grant = c .before .before .before .before .note-grant in
+    let as-numbers = c .before .before .before .before .before .before .as-numbers in
+    let args = c .before .before .before .before .before .before .before .before .args in
+    concluded (args .book .now) _ (args .command) (args .answer) _ (args .risk) (rule-of .result) _ (as-numbers .ensures) (note-grant .ensures) (rule-of .ensures)
+    (c .tell .ensures)
 
 pub conclude-spec : {M : Type 1} → statement M
 conclude-spec =

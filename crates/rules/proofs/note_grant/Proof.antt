@@ -18,7 +18,11 @@ same-length : tie.Need-same-length
 same-length c = search needs
 
 returns-2 : tie.Need-returns-2
-returns-2 c = c .before .before .grant .ensures ∙ noted-grant (c .before .before .before .before .before .before .before .args .book .now) (c .before .before .before .before .before .before .before .args .command) (c .before .before .before .before .before .before .before .args .word) _ (c .before .before .before .before .before .if1 .left) (c .before .before .before .asks-for .ensures)
+returns-2 c =
+    let asks-for = c .before .before .before .asks-for in
+    let if1 = c .before .before .before .before .before .if1 in
+    let args = c .before .before .before .before .before .before .before .args in
+    c .before .before .grant .ensures ∙ noted-grant (args .book .now) (args .command) (args .word) _ (if1 .left) (asks-for .ensures)
 
 pub note-grant-spec : {M : Type 1} → statement M
 note-grant-spec =

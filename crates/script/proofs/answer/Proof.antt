@@ -21,7 +21,11 @@ line-requires : tie.Need-line-requires
 line-requires c κs = search needs
 
 add-result : tie.Need-add-result
-add-result c = let p = line-delivered _ _ _ (c .before .before .before .before .before .before .before .before .before .before .before .before .before .before .pre) _ _ (search needs) _ _ _ _ (c .before .before .before .before .before .before .line .ensures) in omega (arith, c .before .before .before .before .before .before .before .before .before .before .before .before .before .before .pre, p .1)
+add-result c =
+    let line = c .before .before .before .before .before .before .line in
+    let pre = c .before .before .before .before .before .before .before .before .before .before .before .before .before .before .pre in
+    let p = line-delivered _ _ _ pre _ _ (search needs) _ _ _ _ (line .ensures) in
+    omega (arith, pre, p .1)
 
 same-length : tie.Need-same-length
 same-length c = search needs
@@ -33,7 +37,11 @@ same-length-3 : tie.Need-same-length-3
 same-length-3 c = search needs
 
 returns : tie.Need-returns
-returns c = let p = line-delivered _ _ _ (c .before .before .before .before .before .before .before .before .before .before .before .before .before .before .pre) _ _ (search needs) _ _ _ _ (c .before .before .before .before .before .before .line .ensures) in (p .0, omega (arith, p .1))
+returns c =
+    let line = c .before .before .before .before .before .before .line in
+    let pre = c .before .before .before .before .before .before .before .before .before .before .before .before .before .before .pre in
+    let p = line-delivered _ _ _ pre _ _ (search needs) _ _ _ _ (line .ensures) in
+    (p .0, omega (arith, p .1))
 
 pub answer-spec : {M : Type 1} → statement M
 answer-spec =

@@ -27,7 +27,10 @@ answer-requires : tie.Need-answer-requires
 answer-requires c κs = search needs
 
 end-requires-2 : tie.Need-end-requires-2
-end-requires-2 c κs = let l = printed-length (c .before .before .before .before .before .before .before .before .answer .ensures .0 .printed) in omega (arith, c .before .before .before .before .before .before .before .before .answer .ensures .1)
+end-requires-2 c κs =
+    let answer = c .before .before .before .before .before .before .before .before .answer in
+    let l = printed-length (answer .ensures .0 .printed) in
+    omega (arith, answer .ensures .1)
 
 same-length-3 : tie.Need-same-length-3
 same-length-3 c = search needs
@@ -39,7 +42,11 @@ same-length-5 : tie.Need-same-length-5
 same-length-5 c = search needs
 
 returns-2 : tie.Need-returns-2
-returns-2 c = finish-line _ _ _ _ _ (c .before .before .before .before .before .before .before .before .before .before .before .before .before .before .before .before .before .before .before .before .before .pre .1) _ _ _ _ _ _ (c .before .before .before .before .before .before .before .before .before .before .before .before .before .before .before .before .if1 .left) (c .before .before .before .before .before .before .before .before .before .before .before .answer .ensures .0) (c .before .before .end2 .ensures)
+returns-2 c =
+    let answer = c .before .before .before .before .before .before .before .before .before .before .before .answer in
+    let if1 = c .before .before .before .before .before .before .before .before .before .before .before .before .before .before .before .before .if1 in
+    let pre = c .before .before .before .before .before .before .before .before .before .before .before .before .before .before .before .before .before .before .before .before .before .pre in
+    finish-line _ _ _ _ _ (pre .1) _ _ _ _ _ _ (if1 .left) (answer .ensures .0) (c .before .before .end2 .ensures)
 
 pub finish-spec : {M : Type 1} → statement M
 finish-spec =

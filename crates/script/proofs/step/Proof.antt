@@ -16,10 +16,18 @@ enum-known-taken-2 : tie.Need-enum-known-taken-2
 enum-known-taken-2 c = search needs
 
 slice-reshare-prefix-answer : tie.Need-slice-reshare-prefix-answer
-slice-reshare-prefix-answer c = line-within _ _ _ _ (c .before .before .before .before .before .before .before .before .before .before .before .before .before .pre .1) (c .before .before .before .before .before .before .before .push .ensures .1) _ (sym (c .before .before .before .before .before .before .before .push .ensures .0) ∙ c .before .before .before .taken2 .given .1)
+slice-reshare-prefix-answer c =
+    let taken2 = c .before .before .before .taken2 in
+    let push = c .before .before .before .before .before .before .before .push in
+    let pre = c .before .before .before .before .before .before .before .before .before .before .before .before .before .pre in
+    line-within _ _ _ _ (pre .1) (push .ensures .1) _ (sym (push .ensures .0) ∙ taken2 .given .1)
 
 slice-aggregate-answer : tie.Need-slice-aggregate-answer
-slice-aggregate-answer c = sym (length-take-le _ _ (line-within _ _ _ _ (c .before .before .before .before .before .before .before .before .before .before .before .before .before .before .pre .1) (c .before .before .before .before .before .before .before .before .push .ensures .1) _ (sym (c .before .before .before .before .before .before .before .before .push .ensures .0) ∙ c .before .before .before .before .taken2 .given .1)))
+slice-aggregate-answer c =
+    let taken2 = c .before .before .before .before .taken2 in
+    let push = c .before .before .before .before .before .before .before .before .push in
+    let pre = c .before .before .before .before .before .before .before .before .before .before .before .before .before .before .pre in
+    sym (length-take-le _ _ (line-within _ _ _ _ (pre .1) (push .ensures .1) _ (sym (push .ensures .0) ∙ taken2 .given .1)))
 
 answer-requires : tie.Need-answer-requires
 answer-requires c κs = search needs
@@ -28,7 +36,10 @@ same-length : tie.Need-same-length
 same-length c = search needs
 
 returns : tie.Need-returns
-returns c = step-held _ _ _ _ _ _ _ _ (c .before .before .before .before .before .before .before .before .before .before .before .pre .1) (c .before .before .before .before .before .push .ensures .1) _ (c .before .before .before .before .before .before .before .before .before .before .before .pre .0) (sym (c .before .before .before .before .before .push .ensures .0) ∙ c .before .taken .given .1)
+returns c =
+    let push = c .before .before .before .before .before .push in
+    let pre = c .before .before .before .before .before .before .before .before .before .before .before .pre in
+    step-held _ _ _ _ _ _ _ _ (pre .1) (push .ensures .1) _ (pre .0) (sym (push .ensures .0) ∙ c .before .taken .given .1)
 
 same-length-2 : tie.Need-same-length-2
 same-length-2 c = search needs
@@ -43,7 +54,12 @@ same-length-5 : tie.Need-same-length-5
 same-length-5 c = search needs
 
 returns-2 : tie.Need-returns-2
-returns-2 c = step-line _ _ _ _ _ _ _ _ (c .before .before .before .before .before .before .before .before .before .before .before .before .before .before .before .before .before .before .before .before .before .before .pre .1) (c .before .before .before .before .before .before .before .before .before .before .before .before .before .before .before .before .push .ensures .1) _ _ _ _ _ (sym (c .before .before .before .before .before .before .before .before .before .before .before .before .before .before .before .before .push .ensures .0) ∙ c .before .before .before .before .before .before .before .before .before .before .before .before .taken2 .given .1) (c .before .before .before .before .before .before .answer .ensures .0)
+returns-2 c =
+    let answer = c .before .before .before .before .before .before .answer in
+    let taken2 = c .before .before .before .before .before .before .before .before .before .before .before .before .taken2 in
+    let push = c .before .before .before .before .before .before .before .before .before .before .before .before .before .before .before .before .push in
+    let pre = c .before .before .before .before .before .before .before .before .before .before .before .before .before .before .before .before .before .before .before .before .before .before .pre in
+    step-line _ _ _ _ _ _ _ _ (pre .1) (push .ensures .1) _ _ _ _ _ (sym (push .ensures .0) ∙ taken2 .given .1) (answer .ensures .0)
 
 pub step-spec : {M : Type 1} → statement M
 step-spec =

@@ -14,13 +14,18 @@ use Rattle.script.proofs.stretch.Statement.{statement}
 use Rattle.script.proofs.stretch.Tie as tie
 
 abbrev Inv-loop : tie.InvT-loop
-Inv-loop cache₀ book₀ line₀ held chunk from out₀ at₀ i₀ cache book line out at i = (length cache ≡ length cache₀) × ((length book ≡ length book₀) × ((HeldFits line (at .held) × (buffer line (at .held) ≡ pushedAll (buffer line₀ held) (win chunk from (i - from)))) × Reaches (opened cache₀ book₀ line₀ held) chunk from i (opened cache book line (at .held)) out₀ out (at .put)))
+Inv-loop cache₀ book₀ line₀ held chunk from out₀ at₀ i₀ cache book line out at i =
+    (length cache ≡ length cache₀) × ((length book ≡ length book₀)
+    × ((HeldFits line (at .held) × (buffer line (at .held) ≡ pushedAll (buffer line₀ held) (win chunk from (i - from))))
+    × Reaches (opened cache₀ book₀ line₀ held) chunk from i (opened cache book line (at .held)) out₀ out (at .put)))
 
 abbrev μ-loop : tie.MeasureT-loop
 μ-loop cache₀ book₀ line₀ held chunk from out₀ at₀ i₀ cache book line out at i = length chunk - i
 
 loop-holds : tie.Need-loop-holds Inv-loop μ-loop
-loop-holds c = (refl, (refl, ((record { size = c .before .before .before .before .before .pre .1 .size; most = omega (arith, c .before .before .before .before .before .pre .1 .most) }, buffer-none _ _ _), reaches-none _ _ _ _ (c .before .before .before .before .before .pre .0))))
+loop-holds c =
+    let pre = c .before .before .before .before .before .pre in
+    (refl, (refl, ((record { size = pre .1 .size; most = omega (arith, pre .1 .most) }, buffer-none _ _ _), reaches-none _ _ _ _ (pre .0))))
 
 sub-if1 : tie.Need-sub-if1 Inv-loop μ-loop
 sub-if1 c = let l = printed-length (c .before .loop .inv .1 .1 .1 .answered .printed) in omega (arith, c .before .loop .inv .1 .1 .1 .answered .printed .fits)
@@ -45,7 +50,11 @@ shared-slice-read-step : tie.Need-shared-slice-read-step Inv-loop μ-loop
 shared-slice-read-step c = search needs
 
 step-requires : tie.Need-step-requires Inv-loop μ-loop
-step-requires c κs = let l = printed-length (c .before .before .before .before .before .before .before .loop .inv .1 .1 .1 .answered .printed) in (omega (arith, c .before .before .before .before .before .if1 .left), c .before .before .before .before .before .before .before .loop .inv .1 .1 .0 .0)
+step-requires c κs =
+    let if1 = c .before .before .before .before .before .if1 in
+    let loop = c .before .before .before .before .before .before .before .loop in
+    let l = printed-length (loop .inv .1 .1 .1 .answered .printed) in
+    (omega (arith, if1 .left), loop .inv .1 .1 .0 .0)
 
 add-i : tie.Need-add-i Inv-loop μ-loop
 add-i c = search needs
@@ -54,16 +63,14 @@ loop-less : tie.Need-loop-less Inv-loop μ-loop
 loop-less c = search needs
 
 loop-again : tie.Need-loop-again Inv-loop μ-loop
-loop-again c = let l = printed-length (c .before .before .before .before .before .before .before .before .before .before .before .before .before .before .before .before .loop .inv .1 .1 .1 .answered .printed) in (
-  search needs,
-  (
-    search needs,
-    (
-      (c .before .before .before .before .before .before .before .before .step .ensures .1 .0, buffer-more _ _ _ _ _ _ (c .before .before .before .before .before .before .before .before .before .before .before .before .before .before .before .before .loop .inv .1 .1 .1 .within .0) (c .before .before .before .before .before .before .before .before .before .before .before .before .before .before .before .loop-test .taken) (c .before .before .before .before .before .before .before .before .before .before .before .before .before .before .before .before .loop .inv .1 .1 .0 .1) (c .before .before .before .before .before .before .before .before .step .ensures .1 .1)),
-      reaches-more _ _ _ _ _ _ _ _ _ _ _ (c .before .before .before .before .before .before .before .before .before .before .before .before .before .before .before .before .loop .inv .1 .1 .1) (c .before .before .before .before .before .before .before .before .before .before .before .before .before .before .before .loop-test .taken) (omega (arith, c .before .before .before .before .before .before .before .before .before .before .before .before .before .before .if1 .left)) (c .before .before .before .before .before .before .before .before .step .ensures .0),
-    ),
-  ),
-)
+loop-again c =
+    let step = c .before .before .before .before .before .before .before .before .step .ensures in
+    let test = c .before .before .before .before .before .before .before .before .before .before .before .before .before .before .before .loop-test .taken in
+    let inv = c .before .before .before .before .before .before .before .before .before .before .before .before .before .before .before .before .loop .inv in
+    let l = printed-length (inv .1 .1 .1 .answered .printed) in
+    let held = buffer-more _ _ _ _ _ _ (inv .1 .1 .1 .within .0) test (inv .1 .1 .0 .1) (step .1 .1) in
+    let reached = reaches-more _ _ _ _ _ _ _ _ _ _ _ (inv .1 .1 .1) test (omega (arith, c .before .before .before .before .before .before .before .before .before .before .before .before .before .before .if1 .left)) (step .0) in
+    (search needs, (search needs, ((step .1 .0, held), reached)))
 
 same-length-5 : tie.Need-same-length-5 Inv-loop μ-loop
 same-length-5 c = c .before .loop .inv .0

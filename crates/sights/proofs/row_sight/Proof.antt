@@ -39,8 +39,11 @@ returns-3 c = let kind = c .before .kind in
     let if2 = c .before .before .if2 in
     let if1 = c .before .before .before .if1 in
     let mark = c .before .before .before .before .mark in
-    let args = c .before .before .before .before .before .before .args in
-    (λ σ h. sym (ap placed (row-invalidates (args .i) (args .k) (cached σ (args .k)) (rowAt σ (args .i)) (λ e. if1 .left (mark .ensures σ h ∙ e)) (λ e. if2 .left (mark .ensures σ h ∙ e)) (sym (kind .ensures σ h) ∙ c .if3 .taken))), tt)
+    let args = c .before .before .before .before .before .before .args in (
+      λ σ h. sym (ap placed (row-invalidates (args .i) (args .k) (cached σ (args .k)) (rowAt σ (args .i))
+          (λ e. if1 .left (mark .ensures σ h ∙ e)) (λ e. if2 .left (mark .ensures σ h ∙ e)) (sym (kind .ensures σ h) ∙ c .if3 .taken))),
+      tt,
+    )
 
 cached-sight-requires : tie.Need-cached-sight-requires
 cached-sight-requires c κs = search needs
@@ -51,8 +54,11 @@ returns-4 c = let if3 = c .before .if3 in
     let if2 = c .before .before .before .if2 in
     let if1 = c .before .before .before .before .if1 in
     let mark = c .before .before .before .before .before .mark in
-    let args = c .before .before .before .before .before .before .before .args in
-    (λ σ h. c .cached-sight .ensures .0 σ h ∙ sym (ap placed (row-unstaged (args .i) (args .k) (cached σ (args .k)) (rowAt σ (args .i)) (λ e. if1 .left (mark .ensures σ h ∙ e)) (λ e. if2 .left (mark .ensures σ h ∙ e)) (λ e. if3 .left (kind .ensures σ h ∙ e)))), c .cached-sight .ensures .1)
+    let args = c .before .before .before .before .before .before .before .args in (
+      λ σ h. c .cached-sight .ensures .0 σ h ∙ sym (ap placed (row-unstaged (args .i) (args .k) (cached σ (args .k)) (rowAt σ (args .i))
+          (λ e. if1 .left (mark .ensures σ h ∙ e)) (λ e. if2 .left (mark .ensures σ h ∙ e)) (λ e. if3 .left (kind .ensures σ h ∙ e)))),
+      c .cached-sight .ensures .1,
+    )
 
 pub row-sight-spec : {M : Type 1} → statement M
 row-sight-spec =

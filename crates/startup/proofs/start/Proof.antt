@@ -14,13 +14,17 @@ is-lifetime-requires : tie.Need-is-lifetime-requires
 is-lifetime-requires c κs = search needs
 
 returns-2 : tie.Need-returns-2
-returns-2 c = rw (started-read (c .before .before .before .before .args .s .now) (c .before .before .before .before .args .read) (c .before .before .before .before .args .write) (omega arith) (test-failed (c .before .is-lifetime .ensures) (c .if2 .taken))) (refl, refl)
+returns-2 c =
+    let args = c .before .before .before .before .args in
+    rw (started-read (args .s .now) (args .read) (args .write) (omega arith) (test-failed (c .before .is-lifetime .ensures) (c .if2 .taken))) (refl, refl)
 
 is-lifetime-requires-2 : tie.Need-is-lifetime-requires-2
 is-lifetime-requires-2 c κs = search needs
 
 returns-3 : tie.Need-returns-3
-returns-3 c = rw (started-write (c .before .before .before .before .before .before .args .s .now) (c .before .before .before .before .before .before .args .read) (c .before .before .before .before .before .before .args .write) (omega arith) (test-failed (c .before .is-lifetime2 .ensures) (c .if3 .taken))) (refl, refl)
+returns-3 c =
+    let args = c .before .before .before .before .before .before .args in
+    rw (started-write (args .s .now) (args .read) (args .write) (omega arith) (test-failed (c .before .is-lifetime2 .ensures) (c .if3 .taken))) (refl, refl)
 
 cast-write-fresh : tie.Need-cast-write-fresh
 cast-write-fresh c = omega (arith, lifetime-small (c .before .before .before .before .before .before .before .args .read) (test-passed (c .before .before .before .before .is-lifetime .ensures) (c .before .before .before .if2 .left)))
@@ -35,8 +39,11 @@ same-length : tie.Need-same-length
 same-length c = search needs
 
 returns-4 : tie.Need-returns-4
-returns-4 c = rw (started-ready (c .before .before .before .before .before .before .before .before .before .before .args .s .now) (c .before .before .before .before .before .before .before .before .before .before .args .read) (c .before .before .before .before .before .before .before .before .before .before .args .write) (omega arith) (test-passed (c .before .before .before .before .before .before .before .is-lifetime .ensures) (c .before .before .before .before .before .before .if2 .left)) (test-passed (c .before .before .before .before .before .is-lifetime2 .ensures) (c .before .before .before .before .if3 .left)))
-    (refl, c .before .before .write-fresh .ensures)
+returns-4 c =
+    let read-fits = test-passed (c .before .before .before .before .before .before .before .is-lifetime .ensures) (c .before .before .before .before .before .before .if2 .left) in
+    let write-fits = test-passed (c .before .before .before .before .before .is-lifetime2 .ensures) (c .before .before .before .before .if3 .left) in
+    let args = c .before .before .before .before .before .before .before .before .before .before .args in
+    rw (started-ready (args .s .now) (args .read) (args .write) (omega arith) read-fits write-fits) (refl, c .before .before .write-fresh .ensures)
 
 pub start-spec : {M : Type 1} → statement M
 start-spec =

@@ -23,7 +23,14 @@ same-length : tie.Need-same-length
 same-length c = search needs
 
 returns : tie.Need-returns
-returns c = rw (c .before .before .store-u324 .ensures, c .before .before .before .before .before .before .store-u323 .ensures, c .before .before .before .before .before .before .before .before .before .before .store-u322 .ensures, c .before .before .before .before .before .before .before .before .before .before .before .before .before .before .store-u32 .ensures, c .before .before .before .before .before .before .before .before .before .before .before .before .before .before .before .before .before .before .clear .ensures) (fresh-written (c .before .before .before .before .before .before .before .before .before .before .before .before .before .before .before .before .before .before .before .before .before .args .s .now) (c .before .before .before .before .before .before .before .before .before .before .before .before .before .before .before .before .before .before .before .before .before .args .read) (c .before .before .before .before .before .before .before .before .before .before .before .before .before .before .before .before .before .before .before .before .before .args .write) (search needs))
+returns c =
+    let store-u323 = c .before .before .before .before .before .before .store-u323 in
+    let store-u322 = c .before .before .before .before .before .before .before .before .before .before .store-u322 in
+    let store-u32 = c .before .before .before .before .before .before .before .before .before .before .before .before .before .before .store-u32 in
+    let clear = c .before .before .before .before .before .before .before .before .before .before .before .before .before .before .before .before .before .before .clear in
+    let args = c .before .before .before .before .before .before .before .before .before .before .before .before .before .before .before .before .before .before .before .before .before .args in
+    rw (c .before .before .store-u324 .ensures, store-u323 .ensures, store-u322 .ensures, store-u32 .ensures, clear .ensures)
+    (fresh-written (args .s .now) (args .read) (args .write) (search needs))
 
 pub write-fresh-spec : {M : Type 1} → statement M
 write-fresh-spec =

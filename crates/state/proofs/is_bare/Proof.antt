@@ -43,7 +43,16 @@ loop-less : tie.Need-loop-less Inv-loop μ-loop
 loop-less c = search needs
 
 loop-again : tie.Need-loop-again Inv-loop μ-loop
-loop-again c = (search needs, mask-turn (c .before .before .before .before .args .r .now) (c .before .before .before .before .args .at) (c .before .before .before .before .args .n) (c .before .before .before .loop .i) (c .before .before .before .loop .seen) _ (search needs) (c .before .shared-slice-known .given (c .before .before .before .before .args .at + c .before .before .before .loop .i) .fits) (λ h. c .before .before .before .before .pre .1 .1 .zeros (valueMax - c .before .before .before .before .args .n + c .before .before .before .loop .i) (omega arith)) (λ h. c .before .before .before .before .pre .1 .1 .ones (valueMax - c .before .before .before .before .args .n + c .before .before .before .loop .i) (omega arith) (omega arith)) (c .before .before .before .loop .inv .1))
+loop-again c =
+    let loop = c .before .before .before .loop in
+    let args = c .before .before .before .before .args in
+    let masks = c .before .before .before .before .pre .1 .1 in
+    let place = valueMax - args .n + loop .i in
+    let byte = c .before .shared-slice-known .given (args .at + loop .i) .fits in (
+      search needs,
+      mask-turn (args .r .now) (args .at) (args .n) (loop .i) (loop .seen) _ (search needs) byte
+          (λ h. masks .zeros place (omega arith)) (λ h. masks .ones place (omega arith) (omega arith)) (loop .inv .1),
+    )
 
 returns : tie.Need-returns Inv-loop μ-loop
 returns c = let e : c .before .loop .i ≡ valueMax = omega arith in rw e at (c .before .loop .inv .1)

@@ -26,7 +26,10 @@ returns-2 c = let x = c .before .before .before .before .before .args .r .now in
 
 returns-3 : tie.Need-returns-3
 unfolding leaseFormed
-returns-3 c = let x = c .before .before .before .before .before .args .r .now in rw (ne-eqb (le32 x 4) 0 (omega arith), lt-ltb (le32 x 4) (c .before .before .before .before .before .args .next) (omega arith)) (ap (λ (v : ℕ). leb v (c .before .before .before .before .before .args .limit)) (c .before .before .load-u64 .ensures))
+returns-3 c =
+    let args = c .before .before .before .before .before .args in
+    let x = args .r .now in
+    rw (ne-eqb (le32 x 4) 0 (omega arith), lt-ltb (le32 x 4) (args .next) (omega arith)) (ap (λ (v : ℕ). leb v (args .limit)) (c .before .before .load-u64 .ensures))
 
 pub lease-formed-spec : {M : Type 1} → statement M
 lease-formed-spec =

@@ -29,7 +29,11 @@ returns-2 c = let x = c .before .before .before .before .before .before .args .r
 
 returns-3 : tie.Need-returns-3
 unfolding lifeFormed
-returns-3 c = let x = c .before .before .before .before .before .before .args .r .now in rw (ne-eqb (getD x 4 0) 2 (omega arith), eq-eqb (getD x 4 0) 1 (omega arith)) (ap (λ (v : ℕ). leb v (c .before .before .before .before .before .before .args .limit)) (c .before .before .before .before .load-u64 .ensures))
+returns-3 c =
+    let load-u64 = c .before .before .before .before .load-u64 in
+    let args = c .before .before .before .before .before .before .args in
+    let x = args .r .now in
+    rw (ne-eqb (getD x 4 0) 2 (omega arith), eq-eqb (getD x 4 0) 1 (omega arith)) (ap (λ (v : ℕ). leb v (args .limit)) (load-u64 .ensures))
 
 pub life-formed-spec : {M : Type 1} → statement M
 life-formed-spec =

@@ -46,14 +46,31 @@ load-u16-requires c κs = search needs
 
 returns-5 : tie.Need-returns-5
 unfolding sessionFormed
-returns-5 c = let x = c .before .before .before .before .before .before .before .before .args .r .now in rw (ne-eqb (le32 x 0) 0 (omega arith), lt-ltb (le32 x 0) (c .before .before .before .before .before .before .before .before .args .next) (omega arith), eq-eqb (getD x 5 0) 0 (omega arith), lt-leb (le16 x 6) stepMax (omega arith))
+returns-5 c =
+    let args = c .before .before .before .before .before .before .before .before .args in
+    let x = args .r .now in
+    rw (
+      ne-eqb (le32 x 0) 0 (omega arith),
+      lt-ltb (le32 x 0) (args .next) (omega arith),
+      eq-eqb (getD x 5 0) 0 (omega arith),
+      lt-leb (le16 x 6) stepMax (omega arith),
+    )
 
 life-formed-requires : tie.Need-life-formed-requires
 life-formed-requires c κs = search needs
 
 returns-6 : tie.Need-returns-6
 unfolding sessionFormed
-returns-6 c = let x = c .before .before .before .before .before .before .before .before .before .args .r .now in rw (ne-eqb (le32 x 0) 0 (omega arith), lt-ltb (le32 x 0) (c .before .before .before .before .before .before .before .before .before .args .next) (omega arith), eq-eqb (getD x 5 0) 0 (omega arith), le-leb (le16 x 6) stepMax (omega arith)) (c .life-formed .ensures)
+returns-6 c =
+    let args = c .before .before .before .before .before .before .before .before .before .args in
+    let x = args .r .now in
+    rw (
+      ne-eqb (le32 x 0) 0 (omega arith),
+      lt-ltb (le32 x 0) (args .next) (omega arith),
+      eq-eqb (getD x 5 0) 0 (omega arith),
+      le-leb (le16 x 6) stepMax (omega arith),
+    )
+    (c .life-formed .ensures)
 
 pub session-formed-spec : {M : Type 1} → statement M
 session-formed-spec =

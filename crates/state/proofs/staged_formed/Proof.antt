@@ -39,14 +39,29 @@ is-marked-requires c κs = search needs
 
 returns-3 : tie.Need-returns-3
 unfolding stagedFormed
-returns-3 c = let x = c .before .before .before .before .before .args .r .now in rw (ne-eqb (getD x 6 0) 1 (omega arith), if-both (eqb (getD x 6 0) 2) (eqb (c .before .before .before .before .before .args .kind) INCREMENTAL) (eqb (getD x 6 0) 0) (allZero (win x 7 (1 + valueMax))), test-failed (c .before .is-marked .ensures) (c .if3 .taken))
+returns-3 c =
+    let args = c .before .before .before .before .before .args in
+    let x = args .r .now in
+    rw (
+      ne-eqb (getD x 6 0) 1 (omega arith),
+      if-both (eqb (getD x 6 0) 2) (eqb (args .kind) INCREMENTAL) (eqb (getD x 6 0) 0) (allZero (win x 7 (1 + valueMax))),
+      test-failed (c .before .is-marked .ensures) (c .if3 .taken),
+    )
 
 is-plain-requires : tie.Need-is-plain-requires
 is-plain-requires c κs = search needs
 
 returns-4 : tie.Need-returns-4
 unfolding stagedFormed
-returns-4 c = let x = c .before .before .before .before .before .before .args .r .now in rw (ne-eqb (getD x 6 0) 1 (omega arith), if-both (eqb (getD x 6 0) 2) (eqb (c .before .before .before .before .before .before .args .kind) INCREMENTAL) (eqb (getD x 6 0) 0) (allZero (win x 7 (1 + valueMax))), test-passed (c .before .before .is-marked .ensures) (c .before .if3 .left)) (c .is-plain .ensures)
+returns-4 c =
+    let args = c .before .before .before .before .before .before .args in
+    let x = args .r .now in
+    rw (
+      ne-eqb (getD x 6 0) 1 (omega arith),
+      if-both (eqb (getD x 6 0) 2) (eqb (args .kind) INCREMENTAL) (eqb (getD x 6 0) 0) (allZero (win x 7 (1 + valueMax))),
+      test-passed (c .before .before .is-marked .ensures) (c .before .if3 .left),
+    )
+    (c .is-plain .ensures)
 
 pub staged-formed-spec : {M : Type 1} → statement M
 staged-formed-spec =

@@ -28,7 +28,11 @@ is-bare-requires : tie.Need-is-bare-requires
 is-bare-requires c κs = (search needs, (omega (arith, c .before .before .load-u32 .ensures), c .before .before .before .before .pre .1))
 
 returns-3 : tie.Need-returns-3
-returns-3 c = c .is-bare .ensures ∙ sym (value-fits (c .before .before .before .before .before .args .r .now) (λ i. c .before .before .before .before .shared-slice-known .given i .fits) (c .before .before .before .load-u32 .result) (c .before .before .before .load-u32 .ensures) (omega arith) (omega arith))
+returns-3 c =
+    let load-u32 = c .before .before .before .load-u32 in
+    let shared-slice-known = c .before .before .before .before .shared-slice-known in
+    let args = c .before .before .before .before .before .args in
+    c .is-bare .ensures ∙ sym (value-fits (args .r .now) (λ i. shared-slice-known .given i .fits) (load-u32 .result) (load-u32 .ensures) (omega arith) (omega arith))
 
 pub value-formed-spec : {M : Type 1} → statement M
 value-formed-spec =

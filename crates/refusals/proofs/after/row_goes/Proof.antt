@@ -29,7 +29,13 @@ session-due-requires : tie.Need-session-due-requires
 session-due-requires c κs = (c .before .before .before .before .before .before .pre .0, rw (c .before .j .given .1) at (c .before .before .before .find .ensures .1))
 
 returns-2 : tie.Need-returns-2
-returns-2 c = λ σ h. rw (← c .before .before .before .before .before .session .ensures σ h, found-entry (numbered (c .before .before .before .before .before .session .result)) noSession (σ .sessions) sessionCount (c .before .before .j .given .0 .0) (sym (c .before .before .before .before .find .ensures .0 σ h) ∙ c .before .before .j .given .1)) (c .session-due .ensures σ h)
+returns-2 c =
+    let j = c .before .before .j in
+    let find = c .before .before .before .before .find in
+    let session = c .before .before .before .before .before .session in
+    λ σ h.
+    let found = found-entry (numbered (session .result)) noSession (σ .sessions) sessionCount (j .given .0 .0) (sym (find .ensures .0 σ h) ∙ j .given .1) in
+    rw (← session .ensures σ h, found) (c .session-due .ensures σ h)
 
 pub row-goes-spec : {M : Type 1} → statement M
 row-goes-spec =

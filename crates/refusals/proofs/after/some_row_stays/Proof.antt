@@ -27,7 +27,10 @@ row-stays-requires : tie.Need-row-stays-requires Inv-loop μ-loop
 row-stays-requires c κs = search needs
 
 returns : tie.Need-returns Inv-loop μ-loop
-returns c = λ σ h. sym (any-hit (staysOn (c .before .before .before .before .before .args .time) σ (c .before .before .before .before .before .args .k)) noRow (σ .rows) (c .before .before .before .loop .i) (omega (arith, h .fits .rows)) (sym (c .before .row-stays .ensures σ h) ∙ c .if1 .taken))
+returns c =
+    let loop = c .before .before .before .loop in
+    let args = c .before .before .before .before .before .args in
+    λ σ h. sym (any-hit (staysOn (args .time) σ (args .k)) noRow (σ .rows) (loop .i) (omega (arith, h .fits .rows)) (sym (c .before .row-stays .ensures σ h) ∙ c .if1 .taken))
 
 add-i : tie.Need-add-i Inv-loop μ-loop
 add-i c = search needs
@@ -36,7 +39,10 @@ loop-less : tie.Need-loop-less Inv-loop μ-loop
 loop-less c = search needs
 
 loop-again : tie.Need-loop-again Inv-loop μ-loop
-loop-again c = (search needs, λ σ h. below-more (λ j. staysOn (c .before .before .before .before .before .args .time) σ (c .before .before .before .before .before .args .k) (rowAt σ j) ≡ false) _ (c .before .before .before .loop .inv .1 σ h) (sym (c .before .row-stays .ensures σ h) ∙ c .if1 .left))
+loop-again c =
+    let loop = c .before .before .before .loop in
+    let args = c .before .before .before .before .before .args in
+    (search needs, λ σ h. below-more (λ j. staysOn (args .time) σ (args .k) (rowAt σ j) ≡ false) _ (loop .inv .1 σ h) (sym (c .before .row-stays .ensures σ h) ∙ c .if1 .left))
 
 returns-2 : tie.Need-returns-2 Inv-loop μ-loop
 returns-2 c = λ σ h. let e : c .before .loop .i ≡ rowCount = omega arith in sym (none-any (staysOn (c .before .before .before .args .time) σ (c .before .before .before .args .k)) noRow (σ .rows) (rw (h .fits .rows, ← e) (c .before .loop .inv .1 σ h)))
