@@ -7,7 +7,7 @@ mod plans;
 mod works;
 
 use compare::proved;
-use plans::{named, state, PLANS};
+use plans::{named, state, Plan, PLANS};
 use std::hint::black_box;
 use std::time::Instant;
 use works::{Trial, PARTS, WORKS};
@@ -50,8 +50,8 @@ fn judged(state: &[u8], judge: fn(&[u8]) -> bool, calls: u64) {
 }
 
 /// For each state, the check's time; the judges take turns, so that what disturbs one disturbs all.
-fn times() {
-    for plan in &PLANS {
+fn times(plans: &[Plan]) {
+    for plan in plans {
         let state = state(plan);
         let mut best = [f64::MAX; JUDGES.len()];
         for _ in 0..ROUNDS {
@@ -108,7 +108,8 @@ fn main() {
     let words: Vec<String> = std::env::args().skip(1).collect();
     let words: Vec<&str> = words.iter().map(String::as_str).collect();
     let done = match words[..] {
-        ["times"] => Some(times()),
+        ["times"] => Some(times(&PLANS)),
+        ["times", ref names @ ..] => names.iter().map(|name| named(name)).collect::<Option<Vec<_>>>().map(|plans| times(&plans)),
         ["commands"] => Some(commands()),
         ["call", who, plan, count] => call(who, plan, count),
         ["work", part, plan, name, count] => work(part, plan, name, count),

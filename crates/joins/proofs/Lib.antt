@@ -4,5 +4,5 @@ pub mod Marks
 pub mod Seats
 pub mod Loose
 pub mod Lookup
-pub mod Pairs
+pub mod Holders
 pub mod Joins
