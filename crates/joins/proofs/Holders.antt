@@ -5,11 +5,11 @@ use mathlib.Core.Logic.{_⊎_, ⊎-elim, inl, inr}
 use mathlib.Core.List.{List}
 use Prim.Native.Nat.{ℕ, _+_, _*_, _/_, _%_, _<_}
 use native.Mathlib.Omega.{arith}
-use lib.ListN.{length, set, replicate, length-set, length-replicate}
+use lib.ListN.{length, set, replicate, length-set}
 use lib.Seq.{getD-set-same, getD-set-other}
 use lib.Dec.{eqb}
 use borrow.Author.Tests.{eq-eqb, ne-eqb, eqb-true}
-use Rattle.joins.specs.Bits.{wordBits, hasBit, withBit}
+use Rattle.joins.specs.Bits.{wordBits, hasBit}
 use Rattle.lent.specs.Tables.{every}
 use Rattle.lent.proofs.Choices.{and-yes, or-yes, clash}
 use Rattle.lent.proofs.Walks.{every-all}

@@ -1,20 +1,18 @@
 -- One pass over the rows: the bits of a row's key tell of it what comparing it with each row before it tells. A row of kind INVALIDATE has the bit of
 -- its session, and the bit at a session's place is that session's, since a place has one number; a row of another kind has all bits of its key.
 use mathlib.Core.Path.{_≡_, refl, sym, ap, _∙_}
-use mathlib.Core.Bool.{Bool, true, false, not, _&&_, and-false, or-true}
+use mathlib.Core.Bool.{Bool, true, false, not, _&&_, and-false}
 use mathlib.Core.Logic.{_⊎_, ⊎-elim, inl, inr}
 use mathlib.Core.List.{List}
 use Prim.Native.Nat.{ℕ, _+_, _*_, _-_, _/_, _<_}
 use native.Mathlib.Omega.{arith}
-use lib.ListN.{length, set, length-set, length-replicate, replicate}
-use lib.Seq.{getD-set-same, getD-set-other}
+use lib.ListN.{length-replicate, replicate}
 use lib.Dec.{eqb}
-use borrow.Author.Tests.{eq-eqb, ne-eqb, eqb-true}
+use borrow.Author.Tests.{eq-eqb, ne-eqb}
 use Rattle.lent.specs.Bytes.{le32}
 use Rattle.lent.specs.Tables.{if_then_else_, every}
-use Rattle.lent.proofs.Choices.{and-yes, or-yes, if-ind, if-same, clash}
-use Rattle.lent.proofs.Walks.{all-every, every-all, every-fails}
-use Rattle.machine.proofs.Views.{getD-same}
+use Rattle.lent.proofs.Choices.{if-same, clash}
+use Rattle.lent.proofs.Walks.{all-every, every-fails}
 use Rattle.machine.specs.Words.{INVALIDATE}
 use Rattle.machine.specs.Sizes.{keyCount, keysFrom, keyWidth}
 use Rattle.order.specs.Order.{item}

@@ -1,6 +1,7 @@
 pub mod Bits
 pub mod Gathered
 pub mod Marks
+pub mod Chains
 pub mod Seats
 pub mod Loose
 pub mod Lookup

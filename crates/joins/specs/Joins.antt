@@ -96,14 +96,29 @@ pub record Met (f : ℕ → ℕ) (k : ℕ) (r : Bool) (marks : List ℕ) : Type 
   pub marked : Marked f (k + 1) marks
   pub new : r ≡ false → newAt f k ≡ true
 
--- what n has above its low twelve bits, plus 1; 0 for 0
-abbrev pub upper : ℕ → ℕ
-upper n = if eqb n 0 then 0 else n / (markWords * wordBits) + 1
+-- Chains: a number is on one of them, by bits of a product that depend on all of its bits. The head of a chain and what is next to a place on it are
+-- places; the last place stands for none
 
--- each of the first k numbers has a mark by its low bits and one by those above
-pub record TwiceMarked (nums : List ℕ) (k : ℕ) (low high : List ℕ) : Type 0 where
-  pub lows : Marked (item nums) k low
-  pub highs : Marked (λ j. upper (item nums j)) k high
+abbrev pub chainCount : ℕ
+chainCount = 1024
+
+abbrev pub chainOf : ℕ → ℕ
+chainOf n = n * 2654435769 / 4194304 % chainCount
+
+-- place j is reached from place q, along places below b
+pub data Linked (next : List ℕ) (b j : ℕ) : ℕ → Type 0 where
+  here : {q : ℕ} → q < b → q ≡ j → Linked next b j q
+  there : {q : ℕ} → q < b → Linked next b j (item next q) → Linked next b j q
+
+-- each of the first k numbers that is not 0 is reached from the head of its chain
+pub record Chained (nums : List ℕ) (k : ℕ) (heads next : List ℕ) : Type 0 where
+  pub heads-are : length heads ≡ chainCount
+  pub next-are : length next ≡ side
+  pub linked : (j : ℕ) → j < k → (item nums j ≡ 0 → ⊥) → Linked next k j (item heads (chainOf (item nums j)))
+
+-- n is at no place that is reached from q
+abbrev pub Passed : List ℕ → List ℕ → ℕ → ℕ → Type 0
+Passed nums next q n = (k j : ℕ) → k < side → Linked next k j q → item nums j ≡ n → ⊥
 
 -- Seats: each has a place, plus 1, or 0 if it is free
 
