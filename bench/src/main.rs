@@ -13,11 +13,11 @@ use std::time::Instant;
 use works::{Trial, PARTS, WORKS};
 
 const USAGE: &str = "usage:
-  bench times                         ns of the check
+  bench times [STATE ...]             ns of the check
   bench commands                      commands a second
   bench call WHO STATE TIMES          the check alone; WHO is plain, proved or second, STATE fresh, light, full, random, climbing,
-                                      falling, mixed, pair, idle, leases, squared, squared-leases, or any-N, the Nth of
-                                      many made by chance
+                                      falling, mixed, pair, idle, leases, squared, squared-leases, chained, chained-leases,
+                                      or any-N, the Nth of many made by chance
   bench work PART STATE WORK TIMES    PART is proved, second, proved-check, second-check or nothing, STATE light or full,
                                       WORK get-hit, get-miss, session or sweep";
 
