@@ -7,17 +7,17 @@ mod plans;
 mod works;
 
 use compare::proved;
-use plans::{named, state, PLANS};
+use plans::{named, state, Plan, PLANS};
 use std::hint::black_box;
 use std::time::Instant;
 use works::{Trial, PARTS, WORKS};
 
 const USAGE: &str = "usage:
-  bench times                         ns of the check
+  bench times [STATE ...]             ns of the check
   bench commands                      commands a second
   bench call WHO STATE TIMES          the check alone; WHO is plain, proved or second, STATE fresh, light, full, random, climbing,
-                                      falling, mixed, pair, idle, leases, squared, squared-leases, or any-N, the Nth of
-                                      many made by chance
+                                      falling, mixed, pair, idle, leases, squared, squared-leases, chained, chained-leases,
+                                      or any-N, the Nth of many made by chance
   bench work PART STATE WORK TIMES    PART is proved, second, proved-check, second-check or nothing, STATE light or full,
                                       WORK get-hit, get-miss, session or sweep";
 
@@ -50,8 +50,8 @@ fn judged(state: &[u8], judge: fn(&[u8]) -> bool, calls: u64) {
 }
 
 /// For each state, the check's time; the judges take turns, so that what disturbs one disturbs all.
-fn times() {
-    for plan in &PLANS {
+fn times(plans: &[Plan]) {
+    for plan in plans {
         let state = state(plan);
         let mut best = [f64::MAX; JUDGES.len()];
         for _ in 0..ROUNDS {
@@ -108,7 +108,8 @@ fn main() {
     let words: Vec<String> = std::env::args().skip(1).collect();
     let words: Vec<&str> = words.iter().map(String::as_str).collect();
     let done = match words[..] {
-        ["times"] => Some(times()),
+        ["times"] => Some(times(&PLANS)),
+        ["times", ref names @ ..] => names.iter().map(|name| named(name)).collect::<Option<Vec<_>>>().map(|plans| times(&plans)),
         ["commands"] => Some(commands()),
         ["call", who, plan, count] => call(who, plan, count),
         ["work", part, plan, name, count] => work(part, plan, name, count),

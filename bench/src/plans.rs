@@ -37,6 +37,8 @@ enum Numbers {
     Alike(Order),
     /// Few low parts and few high parts, each with each: every number is like others in its low bits and like others in those above.
     Squared,
+    /// Alike in their low bits, and in those of the product by which the proved check tells such tokens apart; in no order.
+    Chained,
     /// One after the other, but for the last two, which are alike in their low bits, the greater first.
     Pair,
 }
@@ -48,7 +50,7 @@ enum Order {
     Mixed,
 }
 
-use Numbers::{Alike, Near, Pair, Random, Squared};
+use Numbers::{Alike, Chained, Near, Pair, Random, Squared};
 use Order::{Climbing, Falling, Mixed};
 use Rows::{Alone, Shared};
 
@@ -60,6 +62,9 @@ pub const SESSIONS_END: u64 = 5_000;
 /// Numbers that are alike are so in as many low bits as any of the checks looks at first.
 const LOW_BITS: u32 = 14;
 
+/// What undoes the product by which the proved check mixes a token's bits.
+const UNMIX: u64 = 340_573_321;
+
 const FULL: Plan = Plan { name: "full", sessions: 128, session_numbers: Near, rows: Shared(384, 128), values: 256, leases: 256, tokens: Near };
 
 /// A full state with its session numbers and its tokens alike.
@@ -67,7 +72,7 @@ const fn alike(name: &'static str, order: Order) -> Plan {
     Plan { name, session_numbers: Alike(order), tokens: Alike(order), ..FULL }
 }
 
-pub const PLANS: [Plan; 12] = [
+pub const PLANS: [Plan; 14] = [
     Plan { name: "fresh", sessions: 0, session_numbers: Near, rows: Alone(0), values: 0, leases: 0, tokens: Near },
     Plan { name: "light", sessions: 10, session_numbers: Near, rows: Alone(20), values: 100, leases: 10, tokens: Near },
     FULL,
@@ -80,6 +85,8 @@ pub const PLANS: [Plan; 12] = [
     Plan { name: "leases", sessions: 0, rows: Shared(0, 1), ..alike("leases", Mixed) },
     Plan { name: "squared", tokens: Squared, ..alike("squared", Mixed) },
     Plan { name: "squared-leases", sessions: 0, rows: Shared(0, 1), tokens: Squared, ..alike("squared-leases", Mixed) },
+    Plan { name: "chained", tokens: Chained, ..alike("chained", Mixed) },
+    Plan { name: "chained-leases", sessions: 0, rows: Shared(0, 1), tokens: Chained, ..alike("chained-leases", Mixed) },
 ];
 
 /// The plan of a name; "any-N" is the Nth of many made by chance.
@@ -110,7 +117,7 @@ impl Chance {
     }
 
     fn numbers(&mut self) -> Numbers {
-        [Near, Random, Alike(Climbing), Alike(Falling), Alike(Mixed), Squared, Pair][self.below(7) as usize]
+        [Near, Random, Alike(Climbing), Alike(Falling), Alike(Mixed), Squared, Chained, Pair][self.below(8) as usize]
     }
 }
 
@@ -157,6 +164,7 @@ fn numbers(kind: Numbers, count: usize) -> Vec<u64> {
             high.into_iter().map(|n| (n << LOW_BITS) + 7).collect()
         }
         Squared => (0..count as u64).map(|n| ((n * 37 % 256) << 24) + ((n / 16 * 5 % 16) << 12) + 1 + n * 7 % 16).collect(),
+        Chained => (0..count as u64).map(|n| ((n * 37 % 1024 << 12) + 1) * UNMIX % (1 << 32)).collect(),
         Pair => {
             let mut found: Vec<u64> = (3..count as u64 + 1).chain([(1 << LOW_BITS) + 2, 2]).collect();
             found.drain(..found.len() - count);

@@ -1,28 +1,26 @@
--- One pass over the rows: what stands on a row's key and the mark of its session tell of it what comparing it with each row before it tells.
--- What stands there is the same for every row before on the key, since rows that do not share it were refused; the mark at a session's place
--- is that session's, since a place has one number.
+-- One pass over the rows: the bits of a row's key tell of it what comparing it with each row before it tells. A row of kind INVALIDATE has the bit of
+-- its session, and the bit at a session's place is that session's, since a place has one number; a row of another kind has all bits of its key.
 use mathlib.Core.Path.{_≡_, refl, sym, ap, _∙_}
-use mathlib.Core.Bool.{Bool, true, false, not, _&&_, and-false, or-true}
+use mathlib.Core.Bool.{Bool, true, false, not, _&&_, and-false}
 use mathlib.Core.Logic.{_⊎_, ⊎-elim, inl, inr}
 use mathlib.Core.List.{List}
-use Prim.Native.Nat.{ℕ, _+_, _*_, _-_, _<_}
+use Prim.Native.Nat.{ℕ, _+_, _*_, _-_, _/_, _<_}
 use native.Mathlib.Omega.{arith}
-use lib.ListN.{length, set, length-set, length-replicate, replicate}
-use lib.Seq.{getD-set-same, getD-set-other}
+use lib.ListN.{length-replicate, replicate}
 use lib.Dec.{eqb}
-use borrow.Author.Tests.{eq-eqb, ne-eqb, eqb-true}
+use borrow.Author.Tests.{eq-eqb, ne-eqb}
 use Rattle.lent.specs.Bytes.{le32}
 use Rattle.lent.specs.Tables.{if_then_else_, every}
-use Rattle.lent.proofs.Choices.{and-yes, or-yes, if-ind, if-same, clash}
-use Rattle.lent.proofs.Walks.{all-every, every-all, every-fails}
-use Rattle.machine.proofs.Views.{getD-same}
+use Rattle.lent.proofs.Choices.{if-same, clash}
+use Rattle.lent.proofs.Walks.{all-every, every-fails}
 use Rattle.machine.specs.Words.{INVALIDATE}
 use Rattle.machine.specs.Sizes.{keyCount, keysFrom, keyWidth}
 use Rattle.order.specs.Order.{item}
-use Rattle.joins.specs.Joins.{rowSession, rowKey, rowKind, isLive, pairOk, joinOk, firstPlace, pairBit, Noted, SHARED, ALONE, standing, mayShare, On, Seen, Sessions, Ready, Joined}
+use Rattle.joins.specs.Bits.{wordBits}
+use Rattle.joins.specs.Joins.{rowSession, rowKey, rowKind, isLive, pairOk, joinOk, firstPlace, keyWords, holderWords, holds, withHolder, Taken, On, Holder, Seen, Sessions, Ready, Joined}
 use Rattle.joins.proofs.Lookup.{Stands, place-dead, place-live}
 use Rattle.order.proofs.Numbers.{last-or, same-or}
-use Rattle.joins.proofs.Pairs.{sized-none, no-pairs}
+use Rattle.joins.proofs.Holders.{Grown, grown-one, grown-all, no-bit, no-word}
 
 -- ---- rows before another
 
@@ -33,15 +31,6 @@ on-last : {s : List ℕ} {i k j : ℕ} → On s (i + 1) k j → (j ≡ i) ⊎ On
 on-last {s} {i} {k} {j} o = ⊎-elim (λ e. inl e) (λ l. inr (record { before = l; used = o .used; key = o .key })) (last-or j i (o .before))
 
 -- ---- two rows
-
-standing-used : (d : ℕ) → standing d ≡ 0 → ⊥
-standing-used d e = if-ind (λ x. x ≡ 0 → ⊥) (eqb d INVALIDATE) (λ t z. omega arith) (λ t z. omega arith) e
-
-standing-shared : (d : ℕ) → standing d ≡ SHARED → d ≡ INVALIDATE
-standing-shared d e = ⊎-elim (λ q. q) (λ q. absurd (let z : standing d ≡ ALONE = rw (ne-eqb d INVALIDATE q) in omega (arith, z, e))) (same-or d INVALIDATE)
-
-shared-standing : (d : ℕ) → d ≡ INVALIDATE → standing d ≡ SHARED
-shared-standing d e = rw (eq-eqb d INVALIDATE e)
 
 module _ (s : List ℕ) (n k d j : ℕ) where
   pair-free : rowSession s j ≡ 0 → pairOk s n k d j ≡ true
@@ -65,54 +54,47 @@ module _ (s : List ℕ) (n k d j : ℕ) where
       pair-on i o ∙ rw (ne-eqb (rowSession s j) n (x .0), eq-eqb (rowKind s j) INVALIDATE (x .1), eq-eqb d INVALIDATE (x .2))) pair-off (same-or (rowKey s j) k))
       (same-or (rowSession s j) 0)
 
-  pair-kinds : (i : ℕ) → On s i k j → pairOk s n k d j ≡ true → (rowKind s j ≡ INVALIDATE) × (d ≡ INVALIDATE)
-  pair-kinds i o p =
-      let b = and-yes (not (eqb (rowSession s j) n)) _ (sym (pair-on i o) ∙ p) .1 in
-      let q = and-yes (eqb (rowKind s j) INVALIDATE) _ b in
-      (eqb-true (rowKind s j) INVALIDATE (q .0), eqb-true d INVALIDATE (q .1))
-
 -- ---- row i beside those before it
 
-pub seen-none : (s : List ℕ) (place : ℕ → ℕ) (bit : ℕ → ℕ → Bool) → ((k q : ℕ) → bit k q ≡ false) → Seen s place 0 (replicate keyCount 0) bit
-seen-none s place bit f = record {
-  wide = length-replicate {A = ℕ} keyCount 0;
-  kinds = λ k j o. absurd (omega (arith, o .before));
-  found = λ k u. absurd (u (getD-same {A = ℕ} keyCount k 0));
-  placed = λ k j o. absurd (omega (arith, o .before));
-  marks = λ k j o. absurd (omega (arith, o .before));
-  left = λ k q e. clash (bit k q) e (f k q);
+pub ready-none : {s nums : List ℕ} → Sessions s nums → Ready s 0 nums (replicate holderWords 0)
+ready-none y = record {
+  sessions = y;
+  rows = record {
+    wide = length-replicate {A = ℕ} holderWords 0;
+    placed = λ k j o. absurd (omega (arith, o .before));
+    set-by = λ k j q o. absurd (omega (arith, o .before));
+    found = λ k h l u. absurd (u (no-word (k * keyWords + h)));
+    left = λ k q l e. clash (holds (replicate holderWords 0) k q) e (no-bit (replicate holderWords 0) k q (no-word (k * keyWords + q / wordBits)));
+  };
 }
 
-pub ready-none : {s nums : List ℕ} → Sessions s nums → Ready s 0 nums (replicate keyCount 0) (replicate keyCount 0) (replicate keyCount 0)
-ready-none y = record { sessions = y; sized = sized-none; rows = seen-none _ _ _ no-pairs }
-
-module _ {s nums seen near far : List ℕ} {i : ℕ} (y : Ready s i nums seen near far) where
+module _ {s nums words : List ℕ} {i : ℕ} (y : Ready s i nums words) where
   abbrev P : ℕ → ℕ
   P = firstPlace nums
 
-  abbrev bit : ℕ → ℕ → Bool
-  bit = pairBit near far
-
   -- a free row
-  seen-skip : rowSession s i ≡ 0 → Seen s P (i + 1) seen bit
+  seen-skip : rowSession s i ≡ 0 → Seen s P (i + 1) words
   seen-skip e =
       let h = y .rows in
       let past : (k j : ℕ) → On s (i + 1) k j → On s i k j = λ k j o. ⊎-elim (λ q. absurd (o .used (ap (rowSession s) q ∙ e))) (λ b. b) (on-last o) in
       record {
         wide = h .wide;
-        kinds = λ k j o. h .kinds k j (past k j o);
-        found = λ k u. let w = h .found k u in (w .0, on-more (w .1));
         placed = λ k j o. h .placed k j (past k j o);
-        marks = λ k j o. h .marks k j (past k j o);
-        left = λ k q u. let w = h .left k q u in (w .0, on-more (w .1), w .2);
+        set-by = λ k j q o. h .set-by k j q (past k j o);
+        found = λ k x l u. let w = h .found k x l u in (w .0, on-more (w .1));
+        left = λ k q l u. let w = h .left k q l u in (w .0, on-more (w .1), w .2);
       }
 
-  pub join-free : rowSession s i ≡ 0 → Joined s i true nums seen near far
+  pub join-free : rowSession s i ≡ 0 → Joined s i true nums words
   unfolding joinOk
   join-free e = record {
     is = rw (eq-eqb (rowSession s i) 0 e);
-    next = λ r. record { sessions = y .sessions; sized = y .sized; rows = seen-skip e };
+    next = λ r. record { sessions = y .sessions; rows = seen-skip e };
   }
+
+  -- the session of a row before it stands at its place
+  placed-at : (k j : ℕ) → On s i k j → Stands s nums (rowSession s j) (P (rowSession s j))
+  placed-at k j o = place-live s nums (y .sessions .gathered) (rowSession s j) (y .rows .placed k j o)
 
   -- row i of session n on key k
   module _ {n k : ℕ} (isn : n ≡ rowSession s i) (isk : k ≡ rowKey s i) (used : n ≡ 0 → ⊥) where
@@ -126,105 +108,98 @@ module _ {s nums seen near far : List ℕ} {i : ℕ} (y : Ready s i nums seen ne
     unfolding joinOk
     join-is = rw (isk, isn, ne-eqb (rowSession s i) 0 (λ e. used (isn ∙ e)))
 
-    refused : {seen′ near′ far′ : List ℕ} → joinOk s i ≡ false → Joined s i false nums seen′ near′ far′
+    refused : {words′ : List ℕ} → joinOk s i ≡ false → Joined s i false nums words′
     refused e = record { is = sym e; next = λ r. clash false r refl }
 
-    pub join-leased : (token ≡ 0 → ⊥) → Joined s i false nums seen near far
+    pub join-leased : (token ≡ 0 → ⊥) → Joined s i false nums words
     join-leased e = refused (join-is ∙ rw (ne-eqb token 0 e))
 
     module _ {p : ℕ} (isp : p ≡ P n) (free : token ≡ 0) where
-      pub join-dead : p ≡ 0 → Joined s i false nums seen near far
+      pub join-dead : p ≡ 0 → Joined s i false nums words
       join-dead l = refused (join-is ∙ rw (eq-eqb token 0 free, place-dead s nums (y .sessions .gathered) n (sym isp ∙ l)))
 
-      module _ (live : p ≡ 0 → ⊥) where
+      module _ (live : p ≡ 0 → ⊥) (b : k < keyCount) where
         stands : Stands s nums n p
         stands = rw isp (place-live s nums (y .sessions .gathered) n (λ e. live (isp ∙ e)))
 
-        -- that stands as d
-        module _ {d : ℕ} (isd : d ≡ standing (rowKind s i)) where
-          -- a row before it on the key, and not both of kind INVALIDATE
-          not-both : (item seen k ≡ 0 → ⊥) → (item seen k ≡ SHARED → d ≡ SHARED → ⊥) → every pairs i ≡ false
-          not-both z x =
-              let w = y .rows .found k z in
-              let j : ℕ = w .0 in
-              let kd : item seen k ≡ standing (rowKind s j) = y .rows .kinds k j (w .1) in
-              let no : eqb (rowKind s j) INVALIDATE && eqb (rowKind s i) INVALIDATE ≡ false = ⊎-elim
-              (λ a. rw (eq-eqb (rowKind s j) INVALIDATE a) (ne-eqb (rowKind s i) INVALIDATE (λ b. x (kd ∙ shared-standing (rowKind s j) a) (isd ∙ shared-standing (rowKind s i) b))))
-              (λ a. rw (ne-eqb (rowKind s j) INVALIDATE a))
-              (same-or (rowKind s j) INVALIDATE) in
-              every-fails pairs i j (w .1 .before) (pair-on s n k (rowKind s i) j i (w .1) ∙ rw no (and-false (not (eqb (rowSession s j) n))))
+        mine : P (rowSession s i) ≡ p
+        mine = ap P (sym isn) ∙ sym isp
 
-          -- the mark is that of a row of the session on the key
-          twice : bit k (p - 1) ≡ true → every pairs i ≡ false
+        here : On s (i + 1) k i
+        here = record { before = omega arith; used = λ z. used (isn ∙ z); key = sym isk }
+
+        -- the pass goes on if the row has its bits
+        seen-next : {words′ : List ℕ} → Grown words k (Holder s P i) words′ → Seen s P (i + 1) words′
+        seen-next g =
+            let h = y .rows in
+            let on-key : (v j : ℕ) → On s (i + 1) v j → j ≡ i → v ≡ k = λ v j o e. sym (o .key) ∙ (ap (rowKey s) e ∙ sym isk) in
+            record {
+              wide = g .wide;
+              placed = λ v j o. ⊎-elim (λ e z. live (sym mine ∙ (ap (λ (x : ℕ). P (rowSession s x)) (sym e) ∙ z))) (λ w. h .placed v j w) (on-last o);
+              set-by = λ v j q o l a. ⊎-elim (λ e. rw (on-key v j o e) (g .own q l (rw e at a))) (λ w. g .kept v q l (h .set-by v j q w l a)) (on-last o);
+              found = λ v x l u. ⊎-elim (λ e. (i, rw e here)) (λ z. let w = h .found v x l z in (w .0, on-more (w .1))) (g .word-back v x l u);
+              left = λ v q l e. ⊎-elim (λ z. (i, rw (z .0) here, z .1)) (λ z. let w = h .left v q l z in (w .0, on-more (w .1), w .2)) (g .back v q l e);
+            }
+
+        -- what is said of the row is what comparing it with each row before it says
+        joined : {r : Bool} {words′ : List ℕ} → r ≡ every pairs i → (r ≡ true → Grown words k (Holder s P i) words′) → Joined s i r nums words′
+        joined e g = record {
+          is = e ∙ sym (join-is ∙ rw (eq-eqb token 0 free, stands .live));
+          next = λ t. record { sessions = y .sessions; rows = seen-next (g t) };
+        }
+
+        -- a row before it on the key that may not stand beside it
+        pair-fails : (j : ℕ) → On s i k j → not (eqb (rowSession s j) n) && (eqb (rowKind s j) INVALIDATE && eqb (rowKind s i) INVALIDATE) ≡ false → every pairs i ≡ false
+        pair-fails j o e = every-fails pairs i j (o .before) (pair-on s n k (rowKind s i) j i o ∙ e)
+
+        -- ---- a row of kind INVALIDATE
+
+        module _ (kind : rowKind s i ≡ INVALIDATE) where
+          -- the bit is that of a row of the session on the key, or of one of another kind
+          twice : holds words k (p - 1) ≡ true → every pairs i ≡ false
           twice e =
-              let w = y .rows .left k (p - 1) e in
+              let w = y .rows .left k (p - 1) (stands .low) e in
               let j : ℕ = w .0 in
-              let v = place-live s nums (y .sessions .gathered) (rowSession s j) (y .rows .placed k j (w .1)) .here in
-              let o : rowSession s j ≡ n = sym v ∙ (ap (item nums) (w .2) ∙ stands .here) in
-              every-fails pairs i j (w .1 .before) (pair-on s n k (rowKind s i) j i (w .1) ∙ rw (eq-eqb (rowSession s j) n o))
+              pair-fails j (w .1)
+              (⊎-elim
+              (λ a. let o : rowSession s j ≡ n = sym (placed-at k j (w .1) .here) ∙ (ap (item nums) (w .2 a) ∙ stands .here) in rw (eq-eqb (rowSession s j) n o))
+              (λ a. rw (ne-eqb (rowKind s j) INVALIDATE a) (and-false (not (eqb (rowSession s j) n))))
+              (same-or (rowKind s j) INVALIDATE))
 
-          new : bit k (p - 1) ≡ false → (j : ℕ) → On s i k j → rowSession s j ≡ n → ⊥
-          new z j o e =
-              let pq : P (rowSession s j) ≡ p = ap P e ∙ sym isp in
-              clash (bit k (p - 1)) (rw pq at (y .rows .marks k j o)) z
+          -- no such row: else the bit would be set
+          once : holds words k (p - 1) ≡ false → every pairs i ≡ true
+          once e =
+              let no : (j : ℕ) → On s i k j → Holder s P j (p - 1) → ⊥ = λ j o a. clash (holds words k (p - 1)) (y .rows .set-by k j (p - 1) o (stands .low) a) e in
+              all-every pairs i
+              (λ j l. pair-if s n k (rowKind s i) j i l
+              (λ o. ((λ a. no j o (λ t. ap (λ (x : ℕ). x - 1) (ap P a ∙ sym isp))), ⊎-elim (λ t. t) (λ t. absurd (no j o (λ u. absurd (t u)))) (same-or (rowKind s j) INVALIDATE), kind)))
 
-          -- all rows on the key are of kind INVALIDATE
-          all-share : (t : Bool) → bit k (p - 1) ≡ t → item seen k ≡ SHARED → d ≡ SHARED → not t ≡ every pairs i
-          all-share true m e x = sym (twice m)
-          all-share false m e x = sym (all-every pairs i (λ j l. pair-if s n k (rowKind s i) j i l (λ o. (new m j o, standing-shared (rowKind s j) (sym (y .rows .kinds k j o) ∙ e), standing-shared (rowKind s i) (sym isd ∙ x)))))
+          pub join-shared : {r : Bool} {words′ : List ℕ} → r ≡ not (holds words k (p - 1)) → words′ ≡ withHolder words k (p - 1) → Joined s i r nums words′
+          join-shared e o =
+              joined (e ∙ by (holds words k (p - 1)) refl)
+              (λ t. grown-one words (y .rows .wide) k b (p - 1) (stands .low) o (λ v a. sym (a kind) ∙ ap (λ (x : ℕ). x - 1) mine) (λ u. ap (λ (x : ℕ). x - 1) mine))
+            where
+              by : (t : Bool) → holds words k (p - 1) ≡ t → not t ≡ every pairs i
+              by true a = sym (twice a)
+              by false a = sym (once a)
 
-          share-is : mayShare (item seen k) d (bit k (p - 1)) ≡ every pairs i
-          share-is =
-              ⊎-elim
-              (λ e. rw (eq-eqb (item seen k) 0 e) (sym (all-every pairs i (λ j l. pair-if s n k (rowKind s i) j i l (λ o. absurd (standing-used (rowKind s j) (sym (y .rows .kinds k j o) ∙ e)))))))
-              (λ z. ⊎-elim
-              (λ e. ⊎-elim
-              (λ x. rw (ne-eqb (item seen k) 0 z, eq-eqb (item seen k) SHARED e, eq-eqb d SHARED x) (all-share (bit k (p - 1)) refl e x))
-              (λ x. rw (ne-eqb (item seen k) 0 z, eq-eqb (item seen k) SHARED e, ne-eqb d SHARED x) (sym (not-both z (λ a b. x b))))
-              (same-or d SHARED))
-              (λ e. rw (ne-eqb (item seen k) 0 z, ne-eqb (item seen k) SHARED e) (sym (not-both z (λ a b. e a))))
-              (same-or (item seen k) SHARED))
-              (same-or (item seen k) 0)
+        -- ---- a row of another kind
 
-          here : On s (i + 1) k i
-          here = record { before = omega arith; used = λ z. used (isn ∙ z); key = sym isk }
+        module _ (kind : rowKind s i ≡ INVALIDATE → ⊥) where
+          -- no row is on a key without a bit
+          no-row : ((h : ℕ) → h < keyWords → item words (k * keyWords + h) ≡ 0) → (j : ℕ) → On s i k j → ⊥
+          no-row z j o =
+              let q : ℕ = P (rowSession s j) - 1 in
+              let l = placed-at k j o .low in
+              clash (holds words k q) (y .rows .set-by k j q o l (λ t. refl)) (no-bit words k q (z (q / wordBits) (omega (arith, l))))
 
-          seen-next : k < keyCount → every pairs i ≡ true → {m : Bool} {near′ far′ : List ℕ} → Noted near far k (p - 1) m near′ far′ → Seen s P (i + 1) (set seen k d) (pairBit near′ far′)
-          seen-next b all note =
-              let h = y .rows in
-              let c : k < length seen = omega (arith, h .wide) in
-              let same : item (set seen k d) k ≡ d = getD-set-same seen k d 0 c in
-              let mine : P (rowSession s i) ≡ p = ap P (sym isn) ∙ sym isp in
-              record {
-                wide = length-set seen k d ∙ h .wide;
-                kinds = λ v j o. ⊎-elim
-                    (λ e. let x : v ≡ k = sym (o .key) ∙ (ap (rowKey s) e ∙ sym isk) in rw (x, e) (same ∙ isd))
-                    (λ w. ⊎-elim
-                    (λ e. let z = pair-kinds s n k (rowKind s i) j i (rw e at w) (every-all pairs i j all (w .before)) in rw e (same ∙ (isd ∙ ap standing (z .1 ∙ sym (z .0)))))
-                    (λ e. getD-set-other seen k v d 0 e ∙ h .kinds v j w)
-                    (same-or v k))
-                    (on-last o);
-                found = λ v u. ⊎-elim
-                    (λ e. (i, rw e here))
-                    (λ e. let w = h .found v (λ z. u (getD-set-other seen k v d 0 e ∙ z)) in (w .0, on-more (w .1)))
-                    (same-or v k);
-                placed = λ v j o. ⊎-elim (λ e z. live (sym mine ∙ (ap (λ (x : ℕ). P (rowSession s x)) (sym e) ∙ z))) (λ w. h .placed v j w) (on-last o);
-                marks = λ v j o. ⊎-elim
-                    (λ e. let x : v ≡ k = sym (o .key) ∙ (ap (rowKey s) e ∙ sym isk) in
-                    rw (x, e, mine) (note .bits k (p - 1) ∙ rw (eq-eqb k k refl, eq-eqb (p - 1) (p - 1) refl) (or-true (bit k (p - 1)))))
-                    (λ w. note .bits v (P (rowSession s j) - 1) ∙ rw (h .marks v j w))
-                    (on-last o);
-                left = λ v q e. ⊎-elim
-                    (λ z. let w = h .left v q z in (w .0, on-more (w .1), w .2))
-                    (λ z. let a = and-yes (eqb v k) (eqb q (p - 1)) z in
-                    (i, rw (eqb-true v k (a .0)) here, ap (λ (x : ℕ). x - 1) mine ∙ sym (eqb-true q (p - 1) (a .1))))
-                    (or-yes (bit v q) (eqb v k && eqb q (p - 1)) (sym (note .bits v q) ∙ e));
-              }
-
-          pub join-shared : k < keyCount → {r m : Bool} {near′ far′ : List ℕ} → Noted near far k (p - 1) m near′ far′ → r ≡ mayShare (item seen k) d m → Joined s i r nums (set seen k d) near′ far′
-          join-shared b {r} note t =
-              let all : r ≡ every pairs i = t ∙ (ap (mayShare (item seen k) d) (note .is) ∙ share-is) in
-              record {
-                is = all ∙ sym (join-is ∙ rw (eq-eqb token 0 free, stands .live));
-                next = λ e. record { sessions = y .sessions; sized = note .sized; rows = seen-next b (sym all ∙ e) note };
-              }
+          pub join-alone : {r : Bool} {words′ : List ℕ} → Taken words k r words′ → Joined s i r nums words′
+          join-alone {r} {words′} t =
+              joined (by r refl) (λ e. grown-all words (y .rows .wide) k b (t .then-all e) (λ v u. absurd (kind u)))
+            where
+              by : (x : Bool) → r ≡ x → r ≡ every pairs i
+              by true e = e ∙ sym (all-every pairs i (λ j l. pair-if s n k (rowKind s i) j i l (λ o. absurd (no-row (t .free e) j o))))
+              by false e =
+                  let h = t .held e in
+                  let w = y .rows .found k (h .0) (h .1) (h .2) in
+                  e ∙ sym (pair-fails (w .0) (w .1) (rw (ne-eqb (rowKind s i) INVALIDATE kind, and-false (eqb (rowKind s (w .0)) INVALIDATE), and-false (not (eqb (rowSession s (w .0)) n)))))

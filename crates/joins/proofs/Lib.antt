@@ -1,8 +1,9 @@
 pub mod Bits
 pub mod Gathered
 pub mod Marks
+pub mod Chains
 pub mod Seats
 pub mod Loose
 pub mod Lookup
-pub mod Pairs
+pub mod Holders
 pub mod Joins

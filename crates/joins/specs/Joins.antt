@@ -1,10 +1,10 @@
 -- The conditions that join records, as tests of the bytes where they lie.
-use Prim.Native.Nat.{ℕ, _+_, _*_, _-_, _/_, _%_, _≤_, _<_}
+use Prim.Native.Nat.{ℕ, _+_, _*_, _-_, _/_, _%_, _^_, _≤_, _<_}
 use mathlib.Core.Path.{_≡_}
-use mathlib.Core.Bool.{Bool, true, false, not, _&&_, _||_}
+use mathlib.Core.Bool.{Bool, true, false, not, _&&_}
 use mathlib.Core.List.{List}
 use lib.ListN.{length, getD, set}
-use lib.Dec.{eqb, ltb}
+use lib.Dec.{eqb}
 use Rattle.joins.specs.Bits.{wordBits, hasBit, withBit}
 use Rattle.lent.specs.Bytes.{le32}
 use Rattle.lent.specs.Tables.{if_then_else_, every, some, first}
@@ -96,14 +96,29 @@ pub record Met (f : ℕ → ℕ) (k : ℕ) (r : Bool) (marks : List ℕ) : Type 
   pub marked : Marked f (k + 1) marks
   pub new : r ≡ false → newAt f k ≡ true
 
--- what n has above its low twelve bits, plus 1; 0 for 0
-abbrev pub upper : ℕ → ℕ
-upper n = if eqb n 0 then 0 else n / (markWords * wordBits) + 1
+-- Chains: a number is on one of them, by bits of a product that depend on all of its bits. The head of a chain and what is next to a place on it are
+-- places; the last place stands for none
 
--- each of the first k numbers has a mark by its low bits and one by those above
-pub record TwiceMarked (nums : List ℕ) (k : ℕ) (low high : List ℕ) : Type 0 where
-  pub lows : Marked (item nums) k low
-  pub highs : Marked (λ j. upper (item nums j)) k high
+abbrev pub chainCount : ℕ
+chainCount = 1024
+
+abbrev pub chainOf : ℕ → ℕ
+chainOf n = n * 2654435769 / 4194304 % chainCount
+
+-- place j is reached from place q, along places below b
+pub data Linked (next : List ℕ) (b j : ℕ) : ℕ → Type 0 where
+  here : {q : ℕ} → q < b → q ≡ j → Linked next b j q
+  there : {q : ℕ} → q < b → Linked next b j (item next q) → Linked next b j q
+
+-- each of the first k numbers that is not 0 is reached from the head of its chain
+pub record Chained (nums : List ℕ) (k : ℕ) (heads next : List ℕ) : Type 0 where
+  pub heads-are : length heads ≡ chainCount
+  pub next-are : length next ≡ side
+  pub linked : (j : ℕ) → j < k → (item nums j ≡ 0 → ⊥) → Linked next k j (item heads (chainOf (item nums j)))
+
+-- n is at no place that is reached from q
+abbrev pub Passed : List ℕ → List ℕ → ℕ → ℕ → Type 0
+Passed nums next q n = (k j : ℕ) → k < side → Linked next k j q → item nums j ≡ n → ⊥
 
 -- Seats: each has a place, plus 1, or 0 if it is free
 
@@ -146,39 +161,32 @@ pub record Loosened (nums seats : List ℕ) (i : ℕ) (loose : List ℕ) : Type 
   pub stands : (j : ℕ) → j < i → Stand nums seats j (item loose j)
   pub rest : (j : ℕ) → i ≤ j → item loose j ≡ 0
 
--- One pass over the rows
+-- One pass over the rows: a key has a bit for each session's place. A row of kind INVALIDATE has that of its session, any other has all of them
 
--- the mark of key k and session place q: bit q of the key's word in `near`, or bit q - wordBits of that in `far`
-abbrev pub pairBit : List ℕ → List ℕ → ℕ → ℕ → Bool
-pairBit near far k q = if ltb q wordBits then hasBit (item near k) q else hasBit (item far k) (q - wordBits)
+-- the words of a key
+abbrev pub keyWords : ℕ
+keyWords = 2
 
--- a word for each key
-pub record Sized (near far : List ℕ) : Type 0 where
-  pub near-is : length near ≡ keyCount
-  pub far-is : length far ≡ keyCount
+abbrev pub holderWords : ℕ
+holderWords = keyCount * keyWords
 
--- the mark was r, and is set; no other changes
-pub record Noted (near far : List ℕ) (k q : ℕ) (r : Bool) (near′ far′ : List ℕ) : Type 0 where
-  pub sized : Sized near′ far′
-  pub is : r ≡ pairBit near far k q
-  pub bits : (a v : ℕ) → pairBit near′ far′ a v ≡ (pairBit near far a v || (eqb a k && eqb v q))
+-- the bit of the session at place q on key k
+abbrev pub holds : List ℕ → ℕ → ℕ → Bool
+holds words k q = hasBit (item words (k * keyWords + q / wordBits)) (q % wordBits)
 
--- what stands on a key where a row is of kind d: rows of kind INVALIDATE, or this row alone
-abbrev pub SHARED : ℕ
-SHARED = 1
+abbrev pub withHolder : List ℕ → ℕ → ℕ → List ℕ
+withHolder words k q = setBit words (k * keyWords + q / wordBits) (q % wordBits)
 
-abbrev pub ALONE : ℕ
-ALONE = 2
+-- every bit of a word
+abbrev pub allBits : ℕ
+allBits = 2 ^ wordBits - 1
 
-abbrev pub standing : ℕ → ℕ
-standing d = if eqb d INVALIDATE then SHARED else ALONE
-
--- what stands as d may come to a key on which `was` stands, or nothing if that is 0: both are of kind INVALIDATE, and the session has no mark there
-abbrev pub mayShare : ℕ → ℕ → Bool → Bool
-mayShare was d marked =
-    if eqb was 0 then true
-    else if eqb was SHARED then (if eqb d SHARED then not marked else false)
-    else false
+-- r says that key k has no bit, and then it has all
+pub record Taken (words : List ℕ) (k : ℕ) (r : Bool) (words′ : List ℕ) : Type 0 where
+  pub free : r ≡ true → (h : ℕ) → h < keyWords → item words (k * keyWords + h) ≡ 0
+  pub held : r ≡ false → (h : ℕ) × (h < keyWords) × (item words (k * keyWords + h) ≡ 0 → ⊥)
+  pub then-all : r ≡ true → words′ ≡ set (set words (k * keyWords) allBits) (k * keyWords + 1) allBits
+  pub else-same : r ≡ false → words′ ≡ words
 
 -- row j is before row i, used, and on key k
 pub record On (s : List ℕ) (i k j : ℕ) : Type 0 where
@@ -186,14 +194,17 @@ pub record On (s : List ℕ) (i k j : ℕ) : Type 0 where
   pub used : rowSession s j ≡ 0 → ⊥
   pub key : rowKey s j ≡ k
 
--- what stands on the keys, `seen`, and the marks say of the rows before i; P is the place of a session's number, plus 1
-pub record Seen (s : List ℕ) (P : ℕ → ℕ) (i : ℕ) (seen : List ℕ) (bit : ℕ → ℕ → Bool) : Type 0 where
-  pub wide : length seen ≡ keyCount
-  pub kinds : (k j : ℕ) → On s i k j → item seen k ≡ standing (rowKind s j)
-  pub found : (k : ℕ) → (item seen k ≡ 0 → ⊥) → (j : ℕ) × On s i k j
+-- q is the place of the session of row j, whose number has place P - 1; of a row that is not of kind INVALIDATE any place is
+abbrev pub Holder : List ℕ → (ℕ → ℕ) → ℕ → ℕ → Type 0
+Holder s P j q = rowKind s j ≡ INVALIDATE → P (rowSession s j) - 1 ≡ q
+
+-- what the bits say of the rows before i
+pub record Seen (s : List ℕ) (P : ℕ → ℕ) (i : ℕ) (words : List ℕ) : Type 0 where
+  pub wide : length words ≡ holderWords
   pub placed : (k j : ℕ) → On s i k j → P (rowSession s j) ≡ 0 → ⊥
-  pub marks : (k j : ℕ) → On s i k j → bit k (P (rowSession s j) - 1) ≡ true
-  pub left : (k q : ℕ) → bit k q ≡ true → (j : ℕ) × On s i k j × (P (rowSession s j) - 1 ≡ q)
+  pub set-by : (k j q : ℕ) → On s i k j → q < sessionCount → Holder s P j q → holds words k q ≡ true
+  pub found : (k h : ℕ) → h < keyWords → (item words (k * keyWords + h) ≡ 0 → ⊥) → (j : ℕ) × On s i k j
+  pub left : (k q : ℕ) → q < sessionCount → holds words k q ≡ true → (j : ℕ) × On s i k j × Holder s P j q
 
 -- the sessions' numbers side by side, each that is not 0 once
 pub record Sessions (s nums : List ℕ) : Type 0 where
@@ -201,12 +212,11 @@ pub record Sessions (s nums : List ℕ) : Type 0 where
   pub once : distinct (item nums) sessionCount ≡ true
 
 -- all that the pass knows at row i
-pub record Ready (s : List ℕ) (i : ℕ) (nums seen near far : List ℕ) : Type 0 where
+pub record Ready (s : List ℕ) (i : ℕ) (nums words : List ℕ) : Type 0 where
   pub sessions : Sessions s nums
-  pub sized : Sized near far
-  pub rows : Seen s (firstPlace nums) i seen (pairBit near far)
+  pub rows : Seen s (firstPlace nums) i words
 
 -- r says of row i what is to be said, and if it is true the pass goes on
-pub record Joined (s : List ℕ) (i : ℕ) (r : Bool) (nums seen near far : List ℕ) : Type 0 where
+pub record Joined (s : List ℕ) (i : ℕ) (r : Bool) (nums words : List ℕ) : Type 0 where
   pub is : r ≡ joinOk s i
-  pub next : r ≡ true → Ready s (i + 1) nums seen near far
+  pub next : r ≡ true → Ready s (i + 1) nums words

@@ -303,15 +303,13 @@ fn rows_fit(
     requires { ⌜ (length (now s) ≡ stateSize) × (Masks (now masks) × (Sessions (now s) (now nums) × Small sessionCount (now seats))) ⌝ }
     ensures { λ r. ⌜ r ≡ rowsFit (now (s .entry)) ⌝ }
 {
-    let mut seen: [u8; layout::KEY_COUNT] = [0; layout::KEY_COUNT];
-    let mut near: [u64; layout::KEY_COUNT] = [0; layout::KEY_COUNT];
-    let mut far: [u64; layout::KEY_COUNT] = [0; layout::KEY_COUNT];
+    let mut words: [u64; joins::HOLDER_WORDS] = [0; joins::HOLDER_WORDS];
     for i in 0..layout::ROW_COUNT {
         let at = layout::ROWS_FROM + i * layout::ROW_WIDTH;
         if !row_formed(&s[at..at + layout::ROW_WIDTH], masks) {
             return false;
         }
-        if !joins::join(s, i, nums, seats, order, &mut seen, &mut near, &mut far) {
+        if !joins::join(s, i, nums, seats, order, &mut words) {
             return false;
         }
     }

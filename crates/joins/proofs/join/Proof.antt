@@ -1,6 +1,6 @@
--- A free row passes; a leased key and a session that is not there fail; else what stands on the key and the marks decide. Each return is a law of `Joins`.
+-- A free row passes; a leased key and a session that is not there fail; else the key's bits decide. Each return is a law of `Joins`.
 use mathlib.Core.Path.{sym, _∙_}
-use Rattle.joins.proofs.Joins.{join-free, join-leased, join-dead, join-shared}
+use Rattle.joins.proofs.Joins.{join-free, join-leased, join-dead, join-shared, join-alone}
 use Rattle.joins.proofs.Lookup.{once-alone}
 use borrow.Author.Needs.{needs}
 use Rattle.joins.proofs.join.Statement.{statement}
@@ -51,33 +51,28 @@ returns-3 : tie.Need-returns-3
 returns-3 c = let a = c .before .before in let b = a .before .before in let e = b .before .before in
     join-dead (e .before .before .before .pre .1 .1 .1) (e .before .load-u32 .ensures) (b .index .ensures .0) (e .if1 .left) (c .before .place .ensures .0) (sym (a .before .load-u322 .ensures) ∙ a .if2 .left) (c .if3 .taken)
 
-add-stands-as : tie.Need-add-stands-as
-add-stands-as c = search needs
+add-if4 : tie.Need-add-if4
+add-if4 c = search needs
 
-shared-slice-read-stands-as : tie.Need-shared-slice-read-stands-as
-shared-slice-read-stands-as c = search needs
+shared-slice-read-if4 : tie.Need-shared-slice-read-if4
+shared-slice-read-if4 c = search needs
 
-stands-as-requires : tie.Need-stands-as-requires
-stands-as-requires c κs = search needs
+sub-shares : tie.Need-sub-shares
+sub-shares c = search needs
 
-element-copy-out-was : tie.Need-element-copy-out-was
-element-copy-out-was c = search needs
-
-element-write-seen : tie.Need-element-write-seen
-element-write-seen c = search needs
-
-sub-note-pair : tie.Need-sub-note-pair
-sub-note-pair c = search needs
-
-note-pair-requires : tie.Need-note-pair-requires
-note-pair-requires c κs = search needs
-
-may-share-requires : tie.Need-may-share-requires
-may-share-requires c κs = search needs
+shares-requires : tie.Need-shares-requires
+shares-requires c κs = search needs
 
 returns-4 : tie.Need-returns-4
-returns-4 c = let d = c .before .before .before .before .before in let p = c .before .before .before .before .before .before .before .before in let a = p .before in let b = a .before .before in let e = b .before .before in
-    join-shared (e .before .before .before .pre .1 .1 .1) (e .before .load-u32 .ensures) (b .index .ensures .0) (e .if1 .left) (p .place .ensures .0) (sym (a .before .load-u322 .ensures) ∙ a .if2 .left) (d .before .before .if3 .left) (d .stands-as .ensures) (b .index .ensures .1) (c .before .note-pair .ensures) (c .may-share .ensures)
+returns-4 c = let t = c .before .before .before .before in let a = t .before .before in let b = a .before .before in let e = b .before .before in
+    join-shared (e .before .before .before .pre .1 .1 .1) (e .before .load-u32 .ensures) (b .index .ensures .0) (e .if1 .left) (t .before .place .ensures .0) (sym (a .before .load-u322 .ensures) ∙ a .if2 .left) (t .if3 .left) (b .index .ensures .1) (c .before .before .if4 .taken) (c .shares .ensures .0) (c .shares .ensures .1)
+
+stands-alone-requires : tie.Need-stands-alone-requires
+stands-alone-requires c κs = search needs
+
+returns-5 : tie.Need-returns-5
+returns-5 c = let t = c .before .before .before .before in let a = t .before .before in let b = a .before .before in let e = b .before .before in
+    join-alone (e .before .before .before .pre .1 .1 .1) (e .before .load-u32 .ensures) (b .index .ensures .0) (e .if1 .left) (t .before .place .ensures .0) (sym (a .before .load-u322 .ensures) ∙ a .if2 .left) (t .if3 .left) (b .index .ensures .1) (c .before .before .if4 .left) (c .stands-alone .ensures)
 
 pub join-spec : {M : Type 1} → statement M
 join-spec =
@@ -97,12 +92,10 @@ join-spec =
     returns-2
     place-requires
     returns-3
-    add-stands-as
-    shared-slice-read-stands-as
-    stands-as-requires
-    element-copy-out-was
-    element-write-seen
-    sub-note-pair
-    note-pair-requires
-    may-share-requires
-    returns-4)
+    add-if4
+    shared-slice-read-if4
+    sub-shares
+    shares-requires
+    returns-4
+    stands-alone-requires
+    returns-5)

@@ -1,4 +1,4 @@
--- After k turns the first k tokens stand side by side; distinct there, by marks or by an order, is distinct in the table.
+-- After k turns the first k tokens stand side by side; distinct there, by chains or by an order, is distinct in the table.
 use Prim.Native.Nat.{_-_, _≤_}
 use mathlib.Core.Path.{_≡_, sym, _∙_}
 use native.Mathlib.Omega.{arith}

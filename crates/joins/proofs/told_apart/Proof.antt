@@ -1,4 +1,4 @@
--- After k turns the first k tokens have their marks and are distinct, and something is left, or the loop has stopped.
+-- After k turns the first k tokens are on their chains and distinct, and something is left, or the loop has stopped.
 use mathlib.Core.Path.{_≡_, refl}
 use mathlib.Core.Bool.{true, false}
 use Prim.Native.Nat.{_-_, _≤_}
@@ -8,23 +8,23 @@ use Rattle.machine.specs.Sizes.{keyCount}
 use Rattle.machine.specs.Sound.{distinct}
 use Rattle.order.specs.Order.{item}
 use Rattle.order.proofs.Numbers.{distinct-none, distinct-more}
-use Rattle.joins.specs.Joins.{TwiceMarked}
-use Rattle.joins.proofs.Marks.{twice-none}
+use Rattle.joins.specs.Joins.{Chained}
+use Rattle.joins.proofs.Chains.{chained-none}
 use borrow.Author.Needs.{needs}
 use Rattle.joins.proofs.told_apart.Statement.{statement}
 use Rattle.joins.proofs.told_apart.Tie as tie
 
 abbrev Inv-loop : tie.InvT-loop
-Inv-loop nums low₀ high₀ left₀ k₀ low high left k = ((k ≤ keyCount) × (1 ≤ left)) × (TwiceMarked nums k low high × (distinct (item nums) k ≡ true))
+Inv-loop nums heads₀ next₀ left₀ k₀ heads next left k = ((k ≤ keyCount) × (1 ≤ left)) × (Chained nums k heads next × (distinct (item nums) k ≡ true))
 
 abbrev μ-loop : tie.MeasureT-loop
-μ-loop nums low₀ high₀ left₀ k₀ low high left k = keyCount - k
+μ-loop nums heads₀ next₀ left₀ k₀ heads next left k = keyCount - k
 
 loop-holds : tie.Need-loop-holds Inv-loop μ-loop
-loop-holds c = (search needs, (twice-none _, distinct-none _))
+loop-holds c = (search needs, (chained-none _, distinct-none _))
 
-told-requires : tie.Need-told-requires Inv-loop μ-loop
-told-requires c κs = (search needs, c .before .before .before .loop .inv .1 .0)
+enters-requires : tie.Need-enters-requires Inv-loop μ-loop
+enters-requires c κs = (search needs, c .before .before .before .loop .inv .1 .0)
 
 returns : tie.Need-returns Inv-loop μ-loop
 returns c = λ r. clash false r refl
@@ -37,7 +37,7 @@ loop-less c = search needs
 
 loop-again : tie.Need-loop-again Inv-loop μ-loop
 loop-again c = let l = c .before .before .before .before .before .loop in
-    ((omega arith, omega (arith, c .if1 .left)), (c .before .told .ensures .0, distinct-more _ _ (l .inv .1 .1) (c .before .told .ensures .1 (c .if1 .left))))
+    ((omega arith, omega (arith, c .if1 .left)), (c .before .enters .ensures .0, distinct-more _ _ (l .inv .1 .1) (c .before .enters .ensures .1 (c .if1 .left))))
 
 returns-2 : tie.Need-returns-2 Inv-loop μ-loop
 returns-2 c = λ r. let e : c .before .loop .k ≡ keyCount = omega arith in rw e at (c .before .loop .inv .1 .1)
@@ -49,7 +49,7 @@ told-apart-spec =
     Inv-loop
     μ-loop
     loop-holds
-    told-requires
+    enters-requires
     returns
     add-k
     loop-less

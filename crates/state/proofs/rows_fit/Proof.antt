@@ -23,10 +23,10 @@ abbrev Formed : List ℕ → ℕ → Bool
 Formed s i = rowFormed (win s (rowsFrom + i * rowWidth) rowWidth)
 
 abbrev Inv-loop : tie.InvT-loop
-Inv-loop s masks nums seats order seen₀ near₀ far₀ i₀ seen near far i = (i ≤ rowCount) × ((every (Formed s) i ≡ true) × ((every (joinOk s) i ≡ true) × Ready s i nums seen near far))
+Inv-loop s masks nums seats order words₀ i₀ words i = (i ≤ rowCount) × ((every (Formed s) i ≡ true) × ((every (joinOk s) i ≡ true) × Ready s i nums words))
 
 abbrev μ-loop : tie.MeasureT-loop
-μ-loop s masks nums seats order seen₀ near₀ far₀ i₀ seen near far i = rowCount - i
+μ-loop s masks nums seats order words₀ i₀ words i = rowCount - i
 
 loop-holds : tie.Need-loop-holds Inv-loop μ-loop
 loop-holds c = (search needs, (every-none _, (every-none _, ready-none (c .before .pre .1 .1 .0))))
@@ -60,11 +60,12 @@ unfolding rowsFit rowsFormed
 returns c = let l = c .before .before .before .before in rw (every-fails (Formed (l .before .before .args .s .now)) rowCount (l .loop .i) (search needs) (test-failed (row-told (c .before)) (c .if1 .taken)))
 
 join-requires : tie.Need-join-requires Inv-loop μ-loop
-join-requires c κs = (search needs, (search needs, (c .before .before .before .before .before .before .before .before .before .pre .1 .1 .1, c .before .before .before .before .before .before .before .loop .inv .1 .1 .1)))
+join-requires c κs = (search needs, (search needs, (c .before .before .before .before .before .before .before .pre .1 .1 .1, c .before .before .before .before .before .loop .inv .1 .1 .1)))
 
 returns-2 : tie.Need-returns-2 Inv-loop μ-loop
 unfolding rowsFit
-returns-2 c = let f = every-fails (joinOk (c .before .before .before .before .before .before .before .before .before .before .before .args .s .now)) rowCount (c .before .before .before .before .before .before .before .before .before .loop .i) (search needs) (test-failed (c .before .join .ensures .is) (c .if2 .taken)) in rw (f, and-false)
+returns-2 c = let l = c .before .before .before .before .before .before .before in
+    let f = every-fails (joinOk (l .before .before .args .s .now)) rowCount (l .loop .i) (search needs) (test-failed (c .before .join .ensures .is) (c .if2 .taken)) in rw (f, and-false)
 
 add-i : tie.Need-add-i Inv-loop μ-loop
 add-i c = search needs
@@ -73,8 +74,8 @@ loop-less : tie.Need-loop-less Inv-loop μ-loop
 loop-less c = search needs
 
 loop-again : tie.Need-loop-again Inv-loop μ-loop
-loop-again c = let l = c .before .before .before .before .before .before .before .before .before in let j = c .before .join .ensures in
-    (search needs, (every-more _ _ (l .loop .inv .1 .0) (test-passed (row-told (c .before .before .before .before .before .before)) (c .before .before .before .before .before .if1 .left)), (every-more _ _ (l .loop .inv .1 .1 .0) (test-passed (j .is) (c .if2 .left)), j .next (not-false _ (c .if2 .left)))))
+loop-again c = let l = c .before .before .before .before .before .before .before in let j = c .before .join .ensures in
+    (search needs, (every-more _ _ (l .loop .inv .1 .0) (test-passed (row-told (c .before .before .before .before)) (c .before .before .before .if1 .left)), (every-more _ _ (l .loop .inv .1 .1 .0) (test-passed (j .is) (c .if2 .left)), j .next (not-false _ (c .if2 .left)))))
 
 returns-3 : tie.Need-returns-3 Inv-loop μ-loop
 unfolding rowsFit rowsFormed
