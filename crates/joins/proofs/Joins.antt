@@ -17,7 +17,7 @@ use Rattle.machine.specs.Words.{INVALIDATE}
 use Rattle.machine.specs.Sizes.{keyCount, keysFrom, keyWidth}
 use Rattle.order.specs.Order.{item}
 use Rattle.joins.specs.Bits.{wordBits}
-use Rattle.joins.specs.Joins.{rowSession, rowKey, rowKind, isLive, pairOk, joinOk, firstPlace, keyWords, holderWords, holds, withHolder, Taken, On, Holder, Seen, Sessions, Ready, Joined}
+use Rattle.joins.specs.Joins.{rowSession, rowKey, rowKind, isLive, pairOk, joinOk, firstPlace, keyWords, holderWords, holds, withHolder, Taken, Came, beside, alone, On, Holder, Seen, Sessions, Ready, Joined}
 use Rattle.joins.proofs.Lookup.{Stands, place-dead, place-live}
 use Rattle.order.proofs.Numbers.{last-or, same-or}
 use Rattle.joins.proofs.Holders.{Grown, grown-one, grown-all, no-bit, no-word}
@@ -174,8 +174,8 @@ module _ {s nums words : List ℕ} {i : ℕ} (y : Ready s i nums words) where
               (λ j l. pair-if s n k (rowKind s i) j i l
               (λ o. ((λ a. no j o (λ t. ap (λ (x : ℕ). x - 1) (ap P a ∙ sym isp))), ⊎-elim (λ t. t) (λ t. absurd (no j o (λ u. absurd (t u)))) (same-or (rowKind s j) INVALIDATE), kind)))
 
-          pub join-shared : {r : Bool} {words′ : List ℕ} → r ≡ not (holds words k (p - 1)) → words′ ≡ withHolder words k (p - 1) → Joined s i r nums words′
-          join-shared e o =
+          join-beside : {r : Bool} {words′ : List ℕ} → r ≡ not (holds words k (p - 1)) → words′ ≡ withHolder words k (p - 1) → Joined s i r nums words′
+          join-beside e o =
               joined (e ∙ by (holds words k (p - 1)) refl)
               (λ t. grown-one words (y .rows .wide) k b (p - 1) (stands .low) o (λ v a. sym (a kind) ∙ ap (λ (x : ℕ). x - 1) mine) (λ u. ap (λ (x : ℕ). x - 1) mine))
             where
@@ -193,7 +193,7 @@ module _ {s nums words : List ℕ} {i : ℕ} (y : Ready s i nums words) where
               let l = placed-at k j o .low in
               clash (holds words k q) (y .rows .set-by k j q o l (λ t. refl)) (no-bit words k q (z (q / wordBits) (omega (arith, l))))
 
-          pub join-alone : {r : Bool} {words′ : List ℕ} → Taken words k r words′ → Joined s i r nums words′
+          join-alone : {r : Bool} {words′ : List ℕ} → Taken words k r words′ → Joined s i r nums words′
           join-alone {r} {words′} t =
               joined (by r refl) (λ e. grown-all words (y .rows .wide) k b (t .then-all e) (λ v u. absurd (kind u)))
             where
@@ -203,3 +203,7 @@ module _ {s nums words : List ℕ} {i : ℕ} (y : Ready s i nums words) where
                   let h = t .held e in
                   let w = y .rows .found k (h .0) (h .1) (h .2) in
                   e ∙ sym (pair-fails (w .0) (w .1) (rw (ne-eqb (rowKind s i) INVALIDATE kind, and-false (eqb (rowKind s (w .0)) INVALIDATE), and-false (not (eqb (rowSession s (w .0)) n)))))
+
+        pub join-came : {kind : ℕ} {r : Bool} {words′ : List ℕ} → kind ≡ rowKind s i → Came words k (p - 1) kind r words′ → Joined s i r nums words′
+        join-came o (beside e a z) = join-beside (sym o ∙ e) a z
+        join-came o (alone e t) = join-alone (λ z. e (o ∙ z)) t

@@ -188,6 +188,11 @@ pub record Taken (words : List ℕ) (k : ℕ) (r : Bool) (words′ : List ℕ) :
   pub then-all : r ≡ true → words′ ≡ set (set words (k * keyWords) allBits) (k * keyWords + 1) allBits
   pub else-same : r ≡ false → words′ ≡ words
 
+-- r says that a row of this kind may come to key k, and then it has its bits
+pub data Came (words : List ℕ) (k q kind : ℕ) (r : Bool) (words′ : List ℕ) : Type 0 where
+  beside : kind ≡ INVALIDATE → r ≡ not (holds words k q) → words′ ≡ withHolder words k q → Came words k q kind r words′
+  alone : (kind ≡ INVALIDATE → ⊥) → Taken words k r words′ → Came words k q kind r words′
+
 -- row j is before row i, used, and on key k
 pub record On (s : List ℕ) (i k j : ℕ) : Type 0 where
   pub before : j < i

@@ -3,3 +3,4 @@ pub mod Ended
 pub mod Due
 pub mod Lapsing
 pub mod Whole
+pub mod Scans

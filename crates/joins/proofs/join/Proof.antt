@@ -1,6 +1,6 @@
 -- A free row passes; a leased key and a session that is not there fail; else the key's bits decide. Each return is a law of `Joins`.
-use mathlib.Core.Path.{sym, _∙_}
-use Rattle.joins.proofs.Joins.{join-free, join-leased, join-dead, join-shared, join-alone}
+use mathlib.Core.Path.{refl, sym, _∙_}
+use Rattle.joins.proofs.Joins.{join-free, join-leased, join-dead, join-came}
 use Rattle.joins.proofs.Lookup.{once-alone}
 use borrow.Author.Needs.{needs}
 use Rattle.joins.proofs.join.Statement.{statement}
@@ -51,28 +51,22 @@ returns-3 : tie.Need-returns-3
 returns-3 c = let a = c .before .before in let b = a .before .before in let e = b .before .before in
     join-dead (e .before .before .before .pre .1 .1 .1) (e .before .load-u32 .ensures) (b .index .ensures .0) (e .if1 .left) (c .before .place .ensures .0) (sym (a .before .load-u322 .ensures) ∙ a .if2 .left) (c .if3 .taken)
 
-add-if4 : tie.Need-add-if4
-add-if4 c = search needs
+sub-comes : tie.Need-sub-comes
+sub-comes c = search needs
 
-shared-slice-read-if4 : tie.Need-shared-slice-read-if4
-shared-slice-read-if4 c = search needs
+add-comes : tie.Need-add-comes
+add-comes c = search needs
 
-sub-shares : tie.Need-sub-shares
-sub-shares c = search needs
+shared-slice-read-comes : tie.Need-shared-slice-read-comes
+shared-slice-read-comes c = search needs
 
-shares-requires : tie.Need-shares-requires
-shares-requires c κs = search needs
+comes-requires : tie.Need-comes-requires
+comes-requires c κs = search needs
 
 returns-4 : tie.Need-returns-4
-returns-4 c = let t = c .before .before .before .before in let a = t .before .before in let b = a .before .before in let e = b .before .before in
-    join-shared (e .before .before .before .pre .1 .1 .1) (e .before .load-u32 .ensures) (b .index .ensures .0) (e .if1 .left) (t .before .place .ensures .0) (sym (a .before .load-u322 .ensures) ∙ a .if2 .left) (t .if3 .left) (b .index .ensures .1) (c .before .before .if4 .taken) (c .shares .ensures .0) (c .shares .ensures .1)
-
-stands-alone-requires : tie.Need-stands-alone-requires
-stands-alone-requires c κs = search needs
-
-returns-5 : tie.Need-returns-5
-returns-5 c = let t = c .before .before .before .before in let a = t .before .before in let b = a .before .before in let e = b .before .before in
-    join-alone (e .before .before .before .pre .1 .1 .1) (e .before .load-u32 .ensures) (b .index .ensures .0) (e .if1 .left) (t .before .place .ensures .0) (sym (a .before .load-u322 .ensures) ∙ a .if2 .left) (t .if3 .left) (b .index .ensures .1) (c .before .before .if4 .left) (c .stands-alone .ensures)
+returns-4 c = let t = c .before .before .before in let a = t .before .before in let b = a .before .before in let e = b .before .before in
+    join-came (e .before .before .before .pre .1 .1 .1) (e .before .load-u32 .ensures) (b .index .ensures .0) (e .if1 .left) (t .before .place .ensures .0)
+    (sym (a .before .load-u322 .ensures) ∙ a .if2 .left) (t .if3 .left) (b .index .ensures .1) refl (c .comes .ensures)
 
 pub join-spec : {M : Type 1} → statement M
 join-spec =
@@ -92,10 +86,8 @@ join-spec =
     returns-2
     place-requires
     returns-3
-    add-if4
-    shared-slice-read-if4
-    sub-shares
-    shares-requires
-    returns-4
-    stands-alone-requires
-    returns-5)
+    sub-comes
+    add-comes
+    shared-slice-read-comes
+    comes-requires
+    returns-4)

@@ -1,7 +1,11 @@
 -- `last_value` meets its contract: the field is the last where it ends with the line; its length is known before a byte is written, so that the buffer stays where the value is refused.
-use mathlib.Core.Path.{refl, sym}
+use Prim.Native.Nat.{_-_}
+use mathlib.Core.Path.{_≡_, refl, sym}
+use lib.ListN.{take, drop}
 use native.Mathlib.Omega.{arith}
 use Rattle.lent.proofs.Splice.{splice-none}
+use Rattle.hex.specs.Hex.{readHex}
+use Rattle.lines.specs.Fields.{fieldsAt, upTo, lastValue}
 use Rattle.lines.proofs.Saying.{value-past, value-not-last, value-last, up-to-not, up-to-long, up-to-all}
 use borrow.Author.Needs.{needs}
 use Rattle.lines.proofs.last_value.Statement.{statement}
@@ -36,24 +40,21 @@ enum-known-n c = search needs
 enum-told : tie.Need-enum-told
 enum-told c = search needs
 
+-- the field is the last, and is read
+value-is : (c : tie.After-length) → lastValue (c .before .before .before .before .before .before .before .args .most) (fieldsAt (c .before .before .before .before .before .before .before .args .line .now) (c .before .before .before .before .before .before .before .args .at)) ≡ upTo (c .before .before .before .before .before .before .before .args .most) (readHex (take (c .before .before .before .field-end .result - c .before .before .before .before .before .before .before .args .at) (drop (c .before .before .before .before .before .before .before .args .at) (c .before .before .before .before .before .before .before .args .line .now))))
+value-is c = value-last _ _ _ _ (c .before .before .before .field-end .ensures) (omega arith)
+
 returns-3 : tie.Need-returns-3
 returns-3 c =
-    let a = c .before .before .before .before .before .before .before .before .before .args in
-    let field-end = c .before .before .before .before .before .field-end in
-    rw (
-      value-last (a .most) (a .line .now) (a .at) (field-end .result) (field-end .ensures) (omega arith),
-      up-to-not (a .most) _ (c .before .before .length .result) (c .before .before .length .ensures) (c .enum-told .given .1),
-    ) (refl, sym (splice-none _ _))
+    let l = c .before .before in
+    let most = l .before .before .before .before .before .before .before .args .most in
+    rw (value-is l, up-to-not most _ (l .length .result) (l .length .ensures) (c .enum-told .given .1)) (refl, sym (splice-none _ _))
 
 returns-4 : tie.Need-returns-4
 returns-4 c =
-    let a = c .before .before .before .before .before .before .before .before .before .before .before .args in
-    let field-end = c .before .before .before .before .before .before .before .field-end in
-    let length = c .before .before .before .before .length in
-    rw (
-      value-last (a .most) (a .line .now) (a .at) (field-end .result) (field-end .ensures) (omega arith),
-      up-to-long (a .most) _ (length .result) (length .ensures) _ (c .before .before .n .given .1) (search needs),
-    ) (refl, sym (splice-none _ _))
+    let l = c .before .before .before .before in
+    let most = l .before .before .before .before .before .before .before .args .most in
+    rw (value-is l, up-to-long most _ (l .length .result) (l .length .ensures) _ (c .before .before .n .given .1) (search needs)) (refl, sym (splice-none _ _))
 
 sub-read : tie.Need-sub-read
 sub-read c = search needs
