@@ -6,7 +6,7 @@ use mathlib.Core.List.{List}
 use native.Mathlib.Omega.{arith}
 use lib.ListN.{length, getD}
 use borrow.Author.Count.{below-more}
-use Rattle.lent.specs.Tables.{any}
+use Rattle.machine.specs.Tables.{any}
 use Rattle.machine.specs.State.{State}
 use Rattle.machine.proofs.Views.{any-at, none-any}
 use Rattle.layout.specs.Holds.{Holds}
