@@ -178,30 +178,26 @@ pub fn state(plan: &Plan) -> Vec<u8> {
     encode(&tables(plan))
 }
 
-/// The tables of the plan. Its first keys have the rows, and no lease; the leases are on the keys from the last down.
-pub fn tables(plan: &Plan) -> Tables {
+/// The key records: the first keys have the rows, and no lease; the leases are on the keys from the last down.
+fn keys(plan: &Plan) -> impl Iterator<Item = KeyRecord> + '_ {
     let held_keys = match plan.rows {
         Alone(rows) => rows,
         Shared(rows, holders) => rows.div_ceil(holders),
     };
     let first_leased = held_keys.max(KEYS as u64 - plan.leases);
     let tokens = numbers(plan.tokens, KEYS - first_leased as usize);
-    let session_numbers = numbers(plan.session_numbers, plan.sessions as usize);
-    let keys = (0..KEYS as u64).map(|key| {
+    (0..KEYS as u64).map(move |key| {
         let spread = key * 151 % KEYS as u64;
         let value = (spread < plan.values)
             .then(|| Value::of(&[b'v'; 64][..(spread * 37 % 65) as usize]).unwrap_or(Value::EMPTY));
         let lease = (key >= first_leased).then(|| Lease { token: tokens[(key - first_leased) as usize], deadline: LEASES_END });
         KeyRecord { value, lease }
-    });
-    let sessions = (0..SESSIONS).map(|place| {
-        session_numbers.get(place).map(|number| SessionRecord {
-            number: *number,
-            standing: Standing::Open { deadline: SESSIONS_END },
-            count: place as u64,
-        })
-    });
-    let rows = (0..ROWS as u64).map(|place| match plan.rows {
+    })
+}
+
+/// The row at a place, if the plan has it.
+fn row(plan: &Plan, session_numbers: &[u64], place: u64) -> Option<RowRecord> {
+    match plan.rows {
         Alone(rows) => (place < rows).then(|| RowRecord {
             session: session_numbers[(place % plan.sessions) as usize],
             key: place as u8,
@@ -214,6 +210,18 @@ pub fn tables(plan: &Plan) -> Tables {
             kind: 1,
             staged: Staged::Nothing,
         }),
+    }
+}
+
+/// The tables of the plan.
+pub fn tables(plan: &Plan) -> Tables {
+    let session_numbers = numbers(plan.session_numbers, plan.sessions as usize);
+    let sessions = (0..SESSIONS).map(|place| {
+        session_numbers.get(place).map(|number| SessionRecord {
+            number: *number,
+            standing: Standing::Open { deadline: SESSIONS_END },
+            count: place as u64,
+        })
     });
     Tables {
         clock: CLOCK,
@@ -221,8 +229,8 @@ pub fn tables(plan: &Plan) -> Tables {
         write_lifetime: 5_000,
         next_session: u64::from(u32::MAX),
         next_token: u64::from(u32::MAX),
-        keys: keys.collect(),
-        rows: rows.collect(),
+        keys: keys(plan).collect(),
+        rows: (0..ROWS as u64).map(|place| row(plan, &session_numbers, place)).collect(),
         sessions: sessions.collect(),
     }
 }

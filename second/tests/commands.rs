@@ -279,14 +279,19 @@ fn evict_leaves_rows_and_leases() {
     assert_eq!(both.plain(0, get(0, 7)), Answer::Backoff(5_000));
 }
 
-#[test]
-fn room_only_where_a_row_would_be_taken() {
-    let mut both = sessions(128);
-    for session in 1..=128 {
-        for key in 0..3 {
+/// Each of the first sessions takes a row on each of the first keys.
+fn take_rows(both: &mut Both, sessions: u64, keys: u64) {
+    for session in 1..=sessions {
+        for key in 0..keys {
             assert_eq!(both.plain(0, quar(session, key, 1)), Answer::Granted);
         }
     }
+}
+
+#[test]
+fn room_only_where_a_row_would_be_taken() {
+    let mut both = sessions(128);
+    take_rows(&mut both, 128, 3);
     assert_eq!(both.plain(0, quar(5, 9, 1)), Answer::Refused(12));
     assert_eq!(both.plain(0, quar(5, 2, 1)), Answer::Held);
     assert_eq!(both.plain(0, quar(5, 2, 3)), Answer::Aborted);
@@ -299,11 +304,7 @@ fn room_only_where_a_row_would_be_taken() {
 #[test]
 fn full_and_room_are_asked_after_expiry() {
     let mut both = sessions(127);
-    for session in 1..=96 {
-        for key in 0..4 {
-            assert_eq!(both.plain(0, quar(session, key, 1)), Answer::Granted);
-        }
-    }
+    take_rows(&mut both, 96, 4);
     assert_eq!(both.plain(1, BEGIN), Answer::Session(128));
     assert_eq!(both.plain(4_999, quar(128, 9, 1)), Answer::Refused(12));
     assert_eq!(both.plain(4_999, BEGIN), Answer::Refused(11));

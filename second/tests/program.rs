@@ -6,17 +6,22 @@ use common::rehearsed;
 use second::generate::Random;
 use second::numbers::STATE_BYTES;
 use std::io::Write;
-use std::process::{Command, Output, Stdio};
+use std::process::{Child, Command, Output, Stdio};
 
-/// Runs the program on an input.
-fn second(words: &[&str], input: &[u8]) -> Output {
-    let mut child = Command::new(env!("CARGO_BIN_EXE_second"))
+/// The program, started.
+fn started(words: &[&str]) -> Child {
+    Command::new(env!("CARGO_BIN_EXE_second"))
         .args(words)
         .stdin(Stdio::piped())
         .stdout(Stdio::piped())
         .stderr(Stdio::piped())
         .spawn()
-        .unwrap();
+        .unwrap()
+}
+
+/// Runs the program on an input.
+fn second(words: &[&str], input: &[u8]) -> Output {
+    let mut child = started(words);
     let mut stdin = child.stdin.take().unwrap();
     let input = input.to_vec();
     let writer = std::thread::spawn(move || drop(stdin.write_all(&input)));
@@ -49,13 +54,7 @@ fn no_input() {
 fn a_closed_output_ends_the_program_quietly() {
     let input = "0 T\n".repeat(200_000);
     for words in [&["rehearse"][..], &["lent"], &["generate", "--seed", "1", "--lines", "100000"]] {
-        let mut child = Command::new(env!("CARGO_BIN_EXE_second"))
-            .args(words)
-            .stdin(Stdio::piped())
-            .stdout(Stdio::piped())
-            .stderr(Stdio::piped())
-            .spawn()
-            .unwrap();
+        let mut child = started(words);
         drop(child.stdout.take());
         drop(child.stdin.take().unwrap().write_all(input.as_bytes()));
         let output = child.wait_with_output().unwrap();

@@ -18,18 +18,8 @@ pub fn damage(random: &mut Random, mut line: Vec<u8>) -> Vec<u8> {
     match random.below(26) {
         0 => put_before(&mut line, is_number_start, at, b"0"),
         1 => put_before(&mut line, is_number_start, at, random.pick(&[b"+", b"-"]).unwrap_or(b"+")),
-        2 => change(
-            &mut line,
-            at,
-            |byte| byte.is_ascii_lowercase(),
-            |byte| byte.to_ascii_uppercase(),
-        ),
-        3 => change(
-            &mut line,
-            at,
-            |byte| byte.is_ascii_uppercase(),
-            |byte| byte.to_ascii_lowercase(),
-        ),
+        2 => change(&mut line, at, |byte| byte.is_ascii_lowercase(), other_case),
+        3 => change(&mut line, at, |byte| byte.is_ascii_uppercase(), other_case),
         4 => change(&mut line, at, |byte| byte == b' ', |_| b'\t'),
         5 => change(&mut line, at, |byte| byte == b' ', |_| b'-'),
         6 => put_before(&mut line, |line, at| line[at] == b' ', at, b" "),
@@ -56,6 +46,11 @@ pub fn damage(random: &mut Random, mut line: Vec<u8>) -> Vec<u8> {
         _ => line = random.pick(&starts()).unwrap_or_default(),
     }
     line
+}
+
+/// A letter in the other case.
+fn other_case(byte: u8) -> u8 {
+    byte ^ (b'a' ^ b'A')
 }
 
 /// A lines, readable and not, and lines of nothing much.
