@@ -3,6 +3,7 @@
 //! `bench times` and `bench commands` print the quickest of many rounds; `bench call` and `bench work` make so many calls and nothing
 //! else, for a counter of instructions (`bench/measure` runs them under callgrind).
 
+mod damages;
 mod plans;
 mod works;
 
@@ -18,6 +19,8 @@ const USAGE: &str = "usage:
   bench call WHO STATE TIMES          the check alone; WHO is plain, proved or second, STATE fresh, light, full, random, climbing,
                                       falling, mixed, pair, idle, leases, squared, squared-leases, chained, chained-leases,
                                       or any-N, the Nth of many made by chance
+  bench damaged STATE                 the check alone on each of some 2,000 damages of a state, by both programs, with a mark to count
+                                      from before, between and after them; says of each whether it is refused, and its name
   bench work PART STATE WORK TIMES    PART is proved, second, proved-check, second-check or nothing, STATE light or full,
                                       WORK get-hit, get-miss, session or sweep";
 
@@ -97,6 +100,25 @@ fn call(who: &str, plan: &str, times: &str) -> Option<()> {
     Some(())
 }
 
+/// What is counted, from one mark to the next: a call of the proved check, then one of the second program's.
+#[no_mangle]
+#[inline(never)]
+pub fn counted_mark(said: bool) -> bool {
+    black_box(said)
+}
+
+/// Each damage of a state is judged once by both.
+fn damaged(plan: &str) -> Option<()> {
+    damages::each(&state(&named(plan)?), |name, state| {
+        counted_mark(true);
+        let proved = counted_mark(proved::well_formed(black_box(state)));
+        let second = counted_mark(second::lent::well_formed(black_box(state)));
+        assert_eq!(proved, second, "{plan} {name}");
+        println!("{} {name}", if proved { "formed" } else { "refused" });
+    });
+    Some(())
+}
+
 fn work(part: &str, plan: &str, work: &str, times: &str) -> Option<()> {
     let (_, part) = PARTS.iter().find(|known| known.0 == part)?;
     let work = WORKS.iter().find(|known| known.name == work)?;
@@ -112,6 +134,7 @@ fn main() {
         ["times", ref names @ ..] => names.iter().map(|name| named(name)).collect::<Option<Vec<_>>>().map(|plans| times(&plans)),
         ["commands"] => Some(commands()),
         ["call", who, plan, count] => call(who, plan, count),
+        ["damaged", plan] => damaged(plan),
         ["work", part, plan, name, count] => work(part, plan, name, count),
         _ => None,
     };

@@ -6,56 +6,42 @@ use mathlib.Core.Logic.{⊎-elim}
 use mathlib.Core.List.{List}
 use Prim.Native.Nat.{ℕ, _+_, _-_, _≤_, _<_}
 use native.Mathlib.Omega.{arith}
-use lib.ListN.{set, length-set, length-replicate, replicate}
-use lib.Seq.{getD-set-same, getD-set-other}
+use lib.ListN.{length-replicate, replicate}
 use Rattle.lent.proofs.Choices.{case-of, clash}
 use Rattle.machine.proofs.Every.{distinct-same}
 use Rattle.machine.proofs.Views.{getD-same}
 use Rattle.machine.specs.Sound.{distinct}
 use Rattle.order.specs.Order.{side, item}
 use Rattle.joins.specs.Joins.{seatOf, Seated, Stand, no-number, in-seat, at-large, Loosened}
-use Rattle.order.proofs.Numbers.{last-or, all-new, twice-same}
+use Rattle.order.proofs.Numbers.{same-or, all-new}
+
+-- what stands at place j stays if the numbers and the taken seats do
+module _ {nums seats : List ℕ} {i j : ℕ} (nums′ seats′ : List ℕ) (y : Seated nums i seats) (l : j < i) (same : (k : ℕ) → k < i → item nums′ k ≡ item nums k) (kept : (h : ℕ) → (item seats h ≡ 0 → ⊥) → item seats′ h ≡ item seats h) where
+  empty : {x : ℕ} → Stand nums seats j x → item nums j ≡ 0 → x ≡ 0
+  empty (no-number z e) o = e
+  empty (in-seat z e) o = e
+  empty (at-large z e) o = e ∙ o
+
+  has : (item nums j ≡ 0 → ⊥) → item seats′ (seatOf (item nums′ j)) ≡ item seats (seatOf (item nums j))
+  has u = ap (λ (v : ℕ). item seats′ (seatOf v)) (same j l) ∙ kept (seatOf (item nums j)) (y .held j l u)
+
+  met : (item nums j ≡ 0 → ⊥) → item nums′ (item seats′ (seatOf (item nums′ j)) - 1) ≡ item nums (item seats (seatOf (item nums j)) - 1)
+  met u = ap (λ (q : ℕ). item nums′ (q - 1)) (has u) ∙ same (item seats (seatOf (item nums j)) - 1) (omega (arith, y .held j l u, y .small .low (seatOf (item nums j))))
+
+  stays : {x : ℕ} → (item nums j ≡ 0 → ⊥) → Stand nums seats j x → Stand nums′ seats′ j x
+  stays u (no-number z e) = absurd (u z)
+  stays u (in-seat z e) = in-seat (has u ∙ z) e
+  stays u (at-large z e) = at-large (λ w. z (sym (met u) ∙ (w ∙ same j l))) (e ∙ sym (same j l))
+
+  pub stand-kept : {x : ℕ} → Stand nums seats j x → Stand nums′ seats′ j x
+  stand-kept t = ⊎-elim (λ o. no-number (same j l ∙ o) (empty t o)) (λ u. stays u t) (same-or (item nums j) 0)
 
 module _ {nums seats : List ℕ} where
-  -- h is the seat of the number at place j, which is not 0, and q what it has
-  module _ {m j h q : ℕ} (y : Seated nums m seats) (l : j < m) (used : item nums j ≡ 0 → ⊥) (at : h ≡ seatOf (item nums j)) (is : q ≡ item seats h) where
-    has : item seats (seatOf (item nums j)) ≡ q
-    has = ap (item seats) (sym at) ∙ sym is
-
-    pub seat-used : 1 ≤ q
-    seat-used = let z : q ≡ 0 → ⊥ = λ e. y .held j l used (has ∙ e) in omega arith
-
-    pub seat-own : q ≡ j + 1 → Stand nums seats j 0
-    seat-own e = in-seat (has ∙ e) refl
-
-    pub seat-met : (q ≡ j + 1 → ⊥) → item nums (q - 1) ≡ item nums j → distinct (item nums) m ≡ false
-    seat-met d e = twice-same (item nums) m j (q - 1) l (omega (arith, seat-used, is, y .small .low h)) (λ o. d (omega (arith, seat-used, o))) used (sym e)
-
-    pub seat-other : (item nums (q - 1) ≡ item nums j → ⊥) → Stand nums seats j (item nums j)
-    seat-other d = at-large (λ e. d (ap (λ (x : ℕ). item nums (x - 1)) (sym has) ∙ e)) refl
-
   pub loosened-none : Loosened nums seats 0 (replicate side 0)
   loosened-none = record {
     long = length-replicate {A = ℕ} side 0;
     stands = λ j h. absurd (omega arith);
     rest = λ j h. getD-same {A = ℕ} side j 0;
-  }
-
-  pub loosened-skip : {i : ℕ} {loose : List ℕ} → Loosened nums seats i loose → Stand nums seats i 0 → Loosened nums seats (i + 1) loose
-  loosened-skip {i} {loose} y t = record {
-    long = y .long;
-    stands = λ j l. ⊎-elim (λ q. rw q (rw (y .rest i (omega arith)) t)) (λ a. y .stands j a) (last-or j i l);
-    rest = λ j l. y .rest j (omega arith);
-  }
-
-  pub loosened-more : {i n : ℕ} {loose : List ℕ} → i < side → Loosened nums seats i loose → Stand nums seats i n → Loosened nums seats (i + 1) (set loose i n)
-  loosened-more {i} {n} {loose} h y t = record {
-    long = length-set loose i n ∙ y .long;
-    stands = λ j l. ⊎-elim
-        (λ q. rw q (rw (getD-set-same loose i n 0 (omega (arith, y .long))) t))
-        (λ a. rw (getD-set-other loose i j n 0 (λ o. omega arith)) (y .stands j a))
-        (last-or j i l);
-    rest = λ j l. getD-set-other loose i j n 0 (λ o. omega arith) ∙ y .rest j (omega arith);
   }
 
   stand-is : {j x : ℕ} → Stand nums seats j x → (x ≡ 0 → ⊥) → item nums j ≡ x

@@ -1,72 +1,94 @@
 -- Seats of numbers side by side. The next number takes its place behind them, and its seat if that is free; a seat that is taken stays so. So
--- one that finds its seat free is new: the same number before it would have taken that seat or found it taken.
+-- one that finds its seat free is new: the same number before it would have taken that seat or found it taken. One that finds another number
+-- there is loose.
 use mathlib.Core.Path.{_≡_, refl, sym, ap, _∙_}
-use mathlib.Core.Bool.{Bool, true, false, not, _&&_}
+use mathlib.Core.Bool.{Bool, true, false, not}
 use mathlib.Core.Logic.{⊎-elim}
 use mathlib.Core.List.{List}
-use Prim.Native.Nat.{ℕ, _+_, _≤_, _<_}
+use Prim.Native.Nat.{ℕ, _+_, _-_, _≤_, _<_}
 use native.Mathlib.Omega.{arith}
-use lib.ListN.{set, length-set, length-replicate, replicate}
+use lib.ListN.{length, set, length-set, length-replicate, replicate}
+use lib.Bits.{bitOr}
 use lib.Seq.{getD-set-same, getD-set-other}
 use lib.Dec.{eqb}
-use borrow.Author.Tests.{ne-eqb}
-use Rattle.lent.proofs.Choices.{and-yes, clash}
+use borrow.Author.Tests.{ne-eqb, eqb-true, eqb-false, not-true, not-false}
+use Rattle.lent.proofs.Choices.{clash}
 use Rattle.lent.proofs.Walks.{all-every}
 use Rattle.machine.proofs.Views.{getD-same}
+use Rattle.machine.specs.Sizes.{sessionCount}
 use Rattle.machine.specs.Sound.{distinct}
 use Rattle.order.specs.Order.{side, item}
-use Rattle.joins.specs.Joins.{seatCount, seatOf, Small, Entered, Sat}
-use Rattle.order.proofs.Numbers.{last-or, same-or, new-zero, new-used, distinct-more}
+use Rattle.order.proofs.Numbers.{last-or, same-or, or-none, new-zero, new-used, distinct-more, twice-same}
+use Rattle.joins.specs.Joins.{seatCount, seatOf, Small, Stand, no-number, in-seat, at-large, Entered, Sat}
 use Rattle.joins.proofs.Gathered.{gathered-none, gathered-more}
+use Rattle.joins.proofs.Loose.{stand-kept, loosened-none}
 
-pub entered-none : (f : ℕ → ℕ) → Entered f 0 (replicate side 0) (replicate seatCount 0)
-entered-none f = record {
+pub entered-none : (f : ℕ → ℕ) {nums seats : List ℕ} → nums ≡ replicate side 0 → seats ≡ replicate seatCount 0 → Entered f 0 nums seats (replicate side 0)
+entered-none f e o = rw (e, o) (record {
   gathered = gathered-none f;
   seated = record {
     small = record { long = length-replicate {A = ℕ} seatCount 0; low = λ h. omega (arith, getD-same {A = ℕ} seatCount h 0) };
     held = λ j h. absurd (omega arith);
   };
-}
+  loosened = loosened-none;
+})
 
 small-more : {m n : ℕ} {seats : List ℕ} → m ≤ n → Small m seats → Small n seats
 small-more h y = record { long = y .long; low = λ k. omega (arith, y .low k) }
 
 -- n is number i
-module _ {f : ℕ → ℕ} {i n : ℕ} {nums seats : List ℕ} (h : i < side) (y : Entered f i nums seats) (is : n ≡ f i) where
+module _ {f : ℕ → ℕ} {i n : ℕ} {nums seats loose : List ℕ} (h : i < sessionCount) (y : Entered f i nums seats loose) (is : n ≡ f i) where
   abbrev placed : List ℕ
   placed = set nums i n
 
   mine : item placed i ≡ n
   mine = getD-set-same nums i n 0 (omega (arith, y .gathered .long))
 
-  entered-more : {seats′ : List ℕ} → Small (i + 1) seats′ → ((k : ℕ) → item seats′ k ≡ 0 → item seats k ≡ 0) → ((n ≡ 0 → ⊥) → item seats′ (seatOf n) ≡ 0 → ⊥) → Entered f (i + 1) placed seats′
-  entered-more {seats′} small kept own = record {
-    gathered = gathered-more f i nums n h (y .gathered) is;
+  others : (j : ℕ) → j < i → item placed j ≡ item nums j
+  others j l = getD-set-other nums i j n 0 (λ o. omega arith)
+
+  -- taken seats stay, number i has its seat or finds it taken, and it is loose or not
+  entered-more : {seats′ loose′ : List ℕ} → Small (i + 1) seats′ → ((k : ℕ) → (item seats k ≡ 0 → ⊥) → item seats′ k ≡ item seats k) → ((n ≡ 0 → ⊥) → item seats′ (seatOf n) ≡ 0 → ⊥)
+      → length loose′ ≡ side → ((j : ℕ) → (j ≡ i → ⊥) → item loose′ j ≡ item loose j) → Stand placed seats′ i (item loose′ i) → Entered f (i + 1) placed seats′ loose′
+  entered-more {seats′} {loose′} small kept own long same stand = record {
+    gathered = gathered-more f i nums n (omega arith) (y .gathered) is;
     seated = record {
       small = small;
       held = λ j l z e. ⊎-elim
           (λ q. let x : item placed j ≡ n = rw q mine in own (λ w. z (x ∙ w)) (ap (λ (v : ℕ). item seats′ (seatOf v)) (sym x) ∙ e))
-          (λ a. let x : item placed j ≡ item nums j = getD-set-other nums i j n 0 (λ o. omega arith) in
-          y .seated .held j a (λ w. z (x ∙ w)) (kept (seatOf (item nums j)) (ap (λ (v : ℕ). item seats′ (seatOf v)) (sym x) ∙ e)))
+          (λ a. let t = y .seated .held j a (λ w. z (others j a ∙ w)) in
+          t (sym (kept (seatOf (item nums j)) t) ∙ (ap (λ (v : ℕ). item seats′ (seatOf v)) (sym (others j a)) ∙ e)))
           (last-or j i l);
+    };
+    loosened = record {
+      long = long;
+      stands = λ j l. ⊎-elim (λ q. rw q stand) (λ a. rw (same j (λ o. omega arith)) (stand-kept placed seats′ (y .seated) a others kept (y .loosened .stands j a))) (last-or j i l);
+      rest = λ j l. same j (λ o. omega arith) ∙ y .loosened .rest j (omega arith);
     };
   }
 
-  stays : ((n ≡ 0 → ⊥) → item seats (seatOf n) ≡ 0 → ⊥) → Entered f (i + 1) placed seats
-  stays own = entered-more (small-more (omega arith) (y .seated .small)) (λ k e. e) own
+  -- number i is not loose
+  entered-quiet : {seats′ : List ℕ} → Small (i + 1) seats′ → ((k : ℕ) → (item seats k ≡ 0 → ⊥) → item seats′ k ≡ item seats k) → ((n ≡ 0 → ⊥) → item seats′ (seatOf n) ≡ 0 → ⊥)
+      → Stand placed seats′ i 0 → Entered f (i + 1) placed seats′ loose
+  entered-quiet small kept own stand = entered-more small kept own (y .loosened .long) (λ j d. refl) (rw (y .loosened .rest i (omega arith)) stand)
 
-  pub sat-none : n ≡ 0 → Sat f i true placed seats
-  sat-none e = record { entered = stays (λ z. absurd (z e)); new = λ r. new-zero f i n is e }
+  pub sat-none : n ≡ 0 → Sat f i true placed seats loose
+  sat-none e = record {
+    entered = λ r. entered-quiet (small-more (omega arith) (y .seated .small)) (λ k z. refl) (λ z. absurd (z e)) (no-number (mine ∙ e) refl);
+    new = λ z. new-zero f i n is e;
+    twice = λ r. clash true refl r;
+  }
 
-  module _ {k : ℕ} (at : k ≡ seatOf n) where
-    pub sat-taken : (item seats k ≡ 0 → ⊥) → Sat f i false placed seats
-    sat-taken taken = record { entered = stays (λ z e. taken (ap (item seats) at ∙ e)); new = λ r. clash false r refl }
+  module _ {k q : ℕ} (used : n ≡ 0 → ⊥) (at : k ≡ seatOf n) (has : q ≡ item seats k) where
+    -- the seat of what is at place i now
+    there : (seats′ : List ℕ) → item seats′ (seatOf (item placed i)) ≡ item seats′ k
+    there seats′ = ap (λ (v : ℕ). item seats′ (seatOf v)) mine ∙ ap (item seats′) (sym at)
 
-    module _ (used : n ≡ 0 → ⊥) (inside : k < seatCount) (free : item seats k ≡ 0) where
+    module _ (inside : k < seatCount) (free : q ≡ 0) where
       unlike : (j : ℕ) → j < i → f j ≡ n → ⊥
-      unlike j l q =
-          let x : item nums j ≡ n = y .gathered .is j l ∙ q in
-          y .seated .held j l (λ z. used (sym x ∙ z)) (ap (λ (v : ℕ). item seats (seatOf v)) x ∙ (ap (item seats) (sym at) ∙ free))
+      unlike j l e =
+          let x : item nums j ≡ n = y .gathered .is j l ∙ e in
+          y .seated .held j l (λ z. used (sym x ∙ z)) (ap (λ (v : ℕ). item seats (seatOf v)) x ∙ (ap (item seats) (sym at) ∙ (sym has ∙ free)))
 
       abbrev taken : List ℕ
       taken = set seats k (i + 1)
@@ -74,21 +96,47 @@ module _ {f : ℕ → ℕ} {i n : ℕ} {nums seats : List ℕ} (h : i < side) (y
       own : item taken k ≡ i + 1
       own = getD-set-same seats k (i + 1) 0 (omega (arith, y .seated .small .long))
 
-      pub sat-free : Sat f i true placed taken
+      pub sat-free : Sat f i true placed taken loose
       sat-free = record {
-        entered = entered-more
+        entered = λ r. entered-quiet
             (record {
               long = length-set seats k (i + 1) ∙ y .seated .small .long;
               low = λ g. ⊎-elim
-                  (λ q. let o : item taken g ≡ i + 1 = rw q own in omega (arith, o))
-                  (λ q. omega (arith, getD-set-other seats k g (i + 1) 0 q, y .seated .small .low g))
+                  (λ e. let o : item taken g ≡ i + 1 = rw e own in omega (arith, o))
+                  (λ d. omega (arith, getD-set-other seats k g (i + 1) 0 d, y .seated .small .low g))
                   (same-or g k);
             })
-            (λ g e. ⊎-elim (λ q. rw q free) (λ q. sym (getD-set-other seats k g (i + 1) 0 q) ∙ e) (same-or g k))
-            (λ z e. let o : i + 1 ≡ 0 = sym own ∙ (ap (item taken) at ∙ e) in omega (arith, o));
-        new = λ r. new-used f i n is used ∙ all-every (λ j. not (eqb (f j) n)) i (λ j l. ap not (ne-eqb (f j) n (unlike j l)));
+            (λ g z. getD-set-other seats k g (i + 1) 0 (λ e. z (ap (item seats) e ∙ (sym has ∙ free))))
+            (λ z e. let o : i + 1 ≡ 0 = sym own ∙ (ap (item taken) at ∙ e) in omega (arith, o))
+            (in-seat (there taken ∙ own) refl);
+        new = λ z. new-used f i n is used ∙ all-every (λ j. not (eqb (f j) n)) i (λ j l. ap not (ne-eqb (f j) n (unlike j l)));
+        twice = λ r. clash true refl r;
       }
 
--- a turn of a loop that keeps whether each number found its seat free
-pub sat-more : {f : ℕ → ℕ} {i : ℕ} {r all : Bool} {nums seats : List ℕ} → (all ≡ true → distinct f i ≡ true) → Sat f i r nums seats → all && r ≡ true → distinct f (i + 1) ≡ true
-sat-more {f} {i} {r} {all} d y e = let o = and-yes all r e in distinct-more f i (d (o .0)) (y .new (o .1))
+    module _ (taken : q ≡ 0 → ⊥) where
+      abbrev loosed : List ℕ
+      loosed = set loose i n
+
+      loose-now : item loosed i ≡ n
+      loose-now = getD-set-same loose i n 0 (omega (arith, y .loosened .long))
+
+      met-before : q - 1 < i
+      met-before = omega (arith, has, y .seated .small .low k)
+
+      pub sat-loose : Sat f i (not (eqb (item placed (q - 1)) n)) placed seats loosed
+      sat-loose = record {
+        entered = λ r. entered-more
+            (small-more (omega arith) (y .seated .small))
+            (λ k z. refl)
+            (λ z e. taken (has ∙ (ap (item seats) at ∙ e)))
+            (length-set loose i n ∙ y .loosened .long)
+            (λ j d. getD-set-other loose i j n 0 d)
+            (at-large (λ e. eqb-false (item placed (q - 1)) n (not-true _ r) (ap (λ (x : ℕ). item placed (x - 1)) (has ∙ sym (there seats)) ∙ (e ∙ mine))) (loose-now ∙ sym mine));
+        new = λ z. absurd (used (sym loose-now ∙ z));
+        twice = λ r. twice-same f sessionCount i (q - 1) h (omega (arith, met-before)) (λ e. omega (arith, e, met-before)) (λ z. used (is ∙ z))
+            (sym is ∙ (sym (eqb-true (item placed (q - 1)) n (not-false _ r)) ∙ (others (q - 1) met-before ∙ y .gathered .is (q - 1) met-before)));
+      }
+
+-- a turn of a loop that keeps whether a number is loose
+pub sat-more : {f : ℕ → ℕ} {i crowd : ℕ} {r : Bool} {nums seats loose : List ℕ} → (crowd ≡ 0 → distinct f i ≡ true) → Sat f i r nums seats loose → bitOr crowd (item loose i) ≡ 0 → distinct f (i + 1) ≡ true
+sat-more {f} {i} {crowd} {r} {nums} {seats} {loose} d y e = let o = or-none crowd (item loose i) e in distinct-more f i (d (o .0)) (y .new (o .1))

@@ -139,16 +139,6 @@ pub record Seated (nums : List ℕ) (i : ℕ) (seats : List ℕ) : Type 0 where
   pub small : Small i seats
   pub held : (j : ℕ) → j < i → (item nums j ≡ 0 → ⊥) → item seats (seatOf (item nums j)) ≡ 0 → ⊥
 
--- the first i of the numbers f stand side by side, and their seats are taken
-pub record Entered (f : ℕ → ℕ) (i : ℕ) (nums seats : List ℕ) : Type 0 where
-  pub gathered : Gathered f i nums
-  pub seated : Seated nums i seats
-
--- number i entered too, and it is new if r says that its seat was free
-pub record Sat (f : ℕ → ℕ) (i : ℕ) (r : Bool) (nums seats : List ℕ) : Type 0 where
-  pub entered : Entered f (i + 1) nums seats
-  pub new : r ≡ true → newAt f i ≡ true
-
 -- the number at place j is 0, sits in its seat, or is loose: there is another number in its seat. x is the number if it is loose, or 0
 pub data Stand (nums seats : List ℕ) (j x : ℕ) : Type 0 where
   no-number : item nums j ≡ 0 → x ≡ 0 → Stand nums seats j x
@@ -160,6 +150,18 @@ pub record Loosened (nums seats : List ℕ) (i : ℕ) (loose : List ℕ) : Type 
   pub long : length loose ≡ side
   pub stands : (j : ℕ) → j < i → Stand nums seats j (item loose j)
   pub rest : (j : ℕ) → i ≤ j → item loose j ≡ 0
+
+-- the first i of the numbers f stand side by side, their seats are taken, and those that do not sit are loose
+pub record Entered (f : ℕ → ℕ) (i : ℕ) (nums seats loose : List ℕ) : Type 0 where
+  pub gathered : Gathered f i nums
+  pub seated : Seated nums i seats
+  pub loosened : Loosened nums seats i loose
+
+-- number i entered too, or r says that the number in its seat is the same; it is new if it is not loose
+pub record Sat (f : ℕ → ℕ) (i : ℕ) (r : Bool) (nums seats loose : List ℕ) : Type 0 where
+  pub entered : r ≡ true → Entered f (i + 1) nums seats loose
+  pub new : item loose i ≡ 0 → newAt f i ≡ true
+  pub twice : r ≡ false → distinct f sessionCount ≡ false
 
 -- One pass over the rows: a key has a bit for each session's place. A row of kind INVALIDATE has that of its session, any other has all of them
 

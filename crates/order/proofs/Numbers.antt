@@ -6,11 +6,13 @@ use mathlib.Core.Logic.{_⊎_, ⊎-elim, inl, inr}
 use Prim.Native.Nat.{ℕ, _+_, _≤_, _<_}
 use native.Mathlib.Nat.{eq-or-lt-of-le}
 use native.Mathlib.Omega.{arith}
+use lib.Bits.{bitOr}
 use lib.Dec.{eqb}
 use borrow.Author.Tests.{eq-eqb, ne-eqb, eqb-true, eqb-false}
 use Rattle.lent.specs.Tables.{every}
-use Rattle.lent.proofs.Choices.{case-of}
-use Rattle.lent.proofs.Walks.{all-every, every-none, every-more, every-cong}
+use Rattle.lent.proofs.Choices.{case-of, and-yes}
+use Rattle.lent.proofs.Zeros.{eqb-or}
+use Rattle.lent.proofs.Walks.{all-every, every-none, every-more, every-fails, every-cong}
 use Rattle.machine.proofs.Every.{distinct-same}
 use Rattle.machine.specs.Sound.{newAt, distinct}
 
@@ -25,6 +27,10 @@ same-or a b = go (eqb a b) refl
     go : (t : Bool) → eqb a b ≡ t → (a ≡ b) ⊎ (a ≡ b → ⊥)
     go true e = inl (eqb-true a b e)
     go false e = inr (eqb-false a b e)
+
+-- what `|` makes of two is 0 only if both are
+pub or-none : (a b : ℕ) → bitOr a b ≡ 0 → (a ≡ 0) × (b ≡ 0)
+or-none a b e = let o = and-yes (eqb a 0) (eqb b 0) (sym (eqb-or a b) ∙ eq-eqb _ 0 e) in (eqb-true a 0 (o .0), eqb-true b 0 (o .1))
 
 -- ---- a number that is new
 
@@ -58,6 +64,10 @@ distinct-none f = every-none (newAt f)
 pub distinct-more : (f : ℕ → ℕ) (i : ℕ) → distinct f i ≡ true → newAt f i ≡ true → distinct f (i + 1) ≡ true
 unfolding distinct
 distinct-more f = every-more (newAt f)
+
+pub distinct-fails : (f : ℕ → ℕ) (m i : ℕ) → i < m → newAt f i ≡ false → distinct f m ≡ false
+unfolding distinct
+distinct-fails f = every-fails (newAt f)
 
 pub all-new : (f : ℕ → ℕ) (m : ℕ) → ((i j : ℕ) → i < m → j < i → (f i ≡ 0 → ⊥) → f j ≡ f i → ⊥) → distinct f m ≡ true
 unfolding distinct

@@ -101,9 +101,9 @@ module _ (s : List ℕ) (h : length s ≡ stateSize) (f : Bytes s) where
       ∙ every-cong _ _ n (λ i l. let p = place-fits i n w l in g (win s (from + i * w) w) (bytes-win s (from + i * w) w (omega arith) f) (length-win s (from + i * w) w (omega arith)))
 
   -- each table's records with what joins them
-  line : (h k r q z n t j : Bool) → h && (k && (r && (q && (z && (n && (t && j)))))) ≡ h && (z && ((k && t) && ((q && n) && (r && j))))
+  line : (h k r q z n t j : Bool) → h && (k && (r && (q && (z && (n && (t && j)))))) ≡ h && (z && ((q && n) && ((k && t) && (r && j))))
   line h k r q z n t j =
-      rw (and-ahead q z (n && (t && j)), and-ahead r z (q && (n && (t && j))), and-ahead k z (r && (q && (n && (t && j)))), and-ahead n t j, and-ahead q t (n && j), and-ahead r t (q && (n && j)), and-ahead r q (n && j), and-ahead r n j, and-assoc k t ((q && n) && (r && j)), and-assoc q n (r && j))
+      rw (and-ahead q z (n && (t && j)), and-ahead r z (q && (n && (t && j))), and-ahead k z (r && (q && (n && (t && j)))), and-ahead r q (n && (t && j)), and-ahead k q (r && (n && (t && j))), and-ahead r n (t && j), and-ahead k n (r && (t && j)), and-ahead r t j, and-assoc q n ((k && t) && (r && j)), and-assoc k t (r && j))
 
   pub formed-is-well-formed : stateFormed s ≡ wellFormed s
   unfolding stateFormed tablesFit keysFit keysFormed sessionsFit sessionsFormed rowsFit rowsFormed wellFormed

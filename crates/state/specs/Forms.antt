@@ -86,7 +86,7 @@ unfoldable pub rowsFit : List ℕ → Bool
 rowsFit s = rowsFormed s && every (joinOk s) rowCount
 
 unfoldable pub tablesFit : List ℕ → Bool
-tablesFit s = allZero (win s restFrom restSize) && (keysFit s && (sessionsFit s && rowsFit s))
+tablesFit s = allZero (win s restFrom restSize) && (sessionsFit s && (keysFit s && rowsFit s))
 
 unfoldable pub stateFormed : List ℕ → Bool
 stateFormed s = headFormed s && tablesFit s

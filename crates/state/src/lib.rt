@@ -10,7 +10,8 @@ ghost use Rattle.machine.specs.Sizes.{stateSize, keyWidth, rowWidth, sessionCou
 ghost use Rattle.machine.specs.Words.{INCREMENTAL};
 ghost use Rattle.machine.specs.Sound.{lifetime};
 ghost use Rattle.layout.specs.WellFormed.{wellFormed};
-ghost use Rattle.joins.specs.Joins.{sessionNumbers, Small, Entered, Sessions};
+ghost use Rattle.order.specs.Order.{side};
+ghost use Rattle.joins.specs.Joins.{seatCount, Small, Sessions};
 ghost use Rattle.state.specs.Forms.{headFormed, fitted, valueFormed, leaseFormed, keyFormed, stagedFormed, rowFormed, lifeFormed, sessionFormed, Masks, keysFit, sessionsFit, rowsFit, tablesFit, stateFormed};
 
 // The header's bytes that are used, and those behind them.
@@ -266,30 +267,34 @@ fn keys_fit(s: &[u8], masks: &[u8; MASKS]) -> bool
     joins::tokens_differ(s)
 }
 
-// Each session by itself, and numbers distinct: each found its seat free, or those that did not are put in order.
+// Each session by itself, and numbers distinct: no two of one number meet at a seat, and those that found their seats taken are put in order.
 fn sessions_fit(
     s: &[u8],
     nums: &mut [u32; order::SIDE],
     seats: &mut [u8; joins::SEATS],
     order: &mut [u8; order::SIDE],
 ) -> bool
-    requires { ⌜ (length (now s) ≡ stateSize) × ((le64 (now s) 0 ≤ timeMax) × Entered (sessionNumbers (now s)) 0 (now nums) (now seats)) ⌝ }
+    requires { ⌜ (length (now s) ≡ stateSize) × ((le64 (now s) 0 ≤ timeMax) × ((now nums ≡ replicate side 0) × (now seats ≡ replicate seatCount 0))) ⌝ }
     ensures { λ r. ⌜ (r ≡ sessionsFit (now (s .entry))) × (r ≡ true → Sessions (now (s .entry)) (now (nums .exit)) × Small sessionCount (now (seats .exit))) ⌝ }
 {
     let until = limit(s, layout::WRITE_LIFE);
     let next = lent::load_u32(s, layout::NEXT_SESSION);
-    let mut all = true;
+    let mut loose: [u32; order::SIDE] = [0; order::SIDE];
+    let mut crowd: u32 = 0;
     for j in 0..layout::SESSION_COUNT {
         let at = layout::SESSIONS_FROM + j * layout::SESSION_WIDTH;
         if !session_formed(&s[at..at + layout::SESSION_WIDTH], until, next) {
             return false;
         }
-        all = all & joins::session_sits(s, j, nums, seats);
+        if !joins::session_sits(s, j, nums, seats, &mut loose) {
+            return false;
+        }
+        crowd = crowd | loose[j];
     }
-    if all {
+    if crowd == 0 {
         return true;
     }
-    joins::sessions_differ(nums, seats, order)
+    order::differ(&loose, layout::SESSION_COUNT, true, order)
 }
 
 // Each row by itself, and beside the sessions, its key and the rows before it.
@@ -324,15 +329,15 @@ fn tables_fit(s: &[u8]) -> bool
     if !blocks::is_zero(s, REST_FROM, REST_SIZE) {
         return false;
     }
-    let mut masks: [u8; MASKS] = [0; MASKS];
-    fill_masks(&mut masks);
-    if !keys_fit(s, &masks) {
-        return false;
-    }
     let mut nums: [u32; order::SIDE] = [0; order::SIDE];
     let mut seats: [u8; joins::SEATS] = [0; joins::SEATS];
     let mut order: [u8; order::SIDE] = [0; order::SIDE];
     if !sessions_fit(s, &mut nums, &mut seats, &mut order) {
+        return false;
+    }
+    let mut masks: [u8; MASKS] = [0; MASKS];
+    fill_masks(&mut masks);
+    if !keys_fit(s, &masks) {
         return false;
     }
     rows_fit(s, &masks, &nums, &seats, &order)

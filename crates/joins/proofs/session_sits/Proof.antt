@@ -1,6 +1,6 @@
--- By the three returns: no number, a seat that is taken, and one that is free, each a law of `Seats`.
+-- By the three returns: no number, a seat that is free, and one that is taken, each a law of `Seats`.
 use native.Mathlib.Omega.{arith}
-use Rattle.joins.proofs.Seats.{sat-none, sat-taken, sat-free}
+use Rattle.joins.proofs.Seats.{sat-none, sat-free, sat-loose}
 use borrow.Author.Needs.{needs}
 use Rattle.joins.proofs.session_sits.Statement.{statement}
 use Rattle.joins.proofs.session_sits.Tie as tie
@@ -26,11 +26,11 @@ returns c = sat-none (omega arith) (c .before .before .before .pre .1 .1) (c .be
 seat-requires : tie.Need-seat-requires
 seat-requires c κs = search needs
 
-element-copy-out-if2 : tie.Need-element-copy-out-if2
-element-copy-out-if2 c = search needs
+element-copy-out-index : tie.Need-element-copy-out-index
+element-copy-out-index c = search needs
 
-returns-2 : tie.Need-returns-2
-returns-2 c = sat-taken (omega arith) (c .before .before .before .before .before .before .pre .1 .1) (c .before .before .before .before .load-u32 .ensures) (c .before .before .seat .ensures .0) (c .if2 .taken)
+index-requires : tie.Need-index-requires
+index-requires c κs = search needs
 
 add-seats : tie.Need-add-seats
 add-seats c = search needs
@@ -41,8 +41,26 @@ cast-seats c = search needs
 element-write-seats : tie.Need-element-write-seats
 element-write-seats c = search needs
 
+returns-2 : tie.Need-returns-2
+returns-2 c = let a = c .before .before .before .before in sat-free (omega arith) (a .before .before .before .pre .1 .1) (a .before .load-u32 .ensures) (a .if1 .left) (c .before .before .before .seat .ensures .0) (c .before .index .ensures .0) (c .before .before .before .seat .ensures .1) (c .if2 .taken)
+
+mul-loose : tie.Need-mul-loose
+mul-loose c = search needs
+
+element-write-loose : tie.Need-element-write-loose
+element-write-loose c = search needs
+
+sub-result : tie.Need-sub-result
+sub-result c = search needs
+
+mul-result : tie.Need-mul-result
+mul-result c = search needs
+
+element-copy-out-result : tie.Need-element-copy-out-result
+element-copy-out-result c = search needs
+
 returns-3 : tie.Need-returns-3
-returns-3 c = sat-free (omega arith) (c .before .before .before .before .before .before .pre .1 .1) (c .before .before .before .before .load-u32 .ensures) (c .before .before .seat .ensures .0) (c .before .before .before .if1 .left) (c .before .before .seat .ensures .1) (c .if2 .left)
+returns-3 c = let a = c .before .before .before .before .before in sat-loose (omega arith) (a .before .before .before .pre .1 .1) (a .before .load-u32 .ensures) (a .if1 .left) (c .before .before .before .before .seat .ensures .0) (c .before .before .index .ensures .0) (c .before .if2 .left)
 
 pub session-sits-spec : {M : Type 1} → statement M
 session-sits-spec =
@@ -55,9 +73,15 @@ session-sits-spec =
     element-write-nums
     returns
     seat-requires
-    element-copy-out-if2
-    returns-2
+    element-copy-out-index
+    index-requires
     add-seats
     cast-seats
     element-write-seats
+    returns-2
+    mul-loose
+    element-write-loose
+    sub-result
+    mul-result
+    element-copy-out-result
     returns-3)

@@ -2,7 +2,9 @@
 use Prim.Native.Nat.{_-_, _≤_}
 use mathlib.Core.Path.{_≡_, sym, _∙_}
 use native.Mathlib.Omega.{arith}
+use Rattle.lent.proofs.Choices.{test-failed}
 use Rattle.machine.specs.Sizes.{keyCount}
+use Rattle.order.proofs.Numbers.{distinct-fails}
 use Rattle.joins.specs.Joins.{tokens, Gathered}
 use Rattle.joins.proofs.Gathered.{gathered-none, gathered-more, distinct-gathered}
 use borrow.Author.Needs.{needs}
@@ -49,14 +51,24 @@ returns : tie.Need-returns Inv-loop μ-loop
 returns c =
     let l = c .before .before .before .before .loop in
     let e : l .k ≡ keyCount = omega arith in
-    sym (sym (distinct-gathered _ _ _ (rw e at (l .inv .1))) ∙ c .before .told-apart .ensures (c .if1 .taken))
+    sym (sym (distinct-gathered _ _ _ (rw e at (l .inv .1))) ∙ c .before .told-apart .ensures .1 (c .if1 .taken))
+
+is-new-requires : tie.Need-is-new-requires Inv-loop μ-loop
+is-new-requires c κs = search needs
+
+-- a number that is not new is there before
+returns-2 : tie.Need-returns-2 Inv-loop μ-loop
+returns-2 c =
+    let l = c .before .before .before .before .before .before .before .loop in
+    let e : l .k ≡ keyCount = omega arith in
+    sym (sym (distinct-gathered _ _ _ (rw e at (l .inv .1))) ∙ distinct-fails _ keyCount _ (omega (arith, c .before .before .before .before .told-apart .ensures .0)) (test-failed (c .before .is-new .ensures) (c .if2 .taken)))
 
 differ-requires : tie.Need-differ-requires Inv-loop μ-loop
 differ-requires c κs = search needs
 
-returns-2 : tie.Need-returns-2 Inv-loop μ-loop
-returns-2 c =
-    let l = c .before .before .before .before .before .before .before .loop in
+returns-3 : tie.Need-returns-3 Inv-loop μ-loop
+returns-3 c =
+    let l = c .before .before .before .before .before .before .before .before .before .before .loop in
     let e : l .k ≡ keyCount = omega arith in
     c .differ .ensures ∙ distinct-gathered _ _ _ (rw e at (l .inv .1))
 
@@ -77,5 +89,7 @@ tokens-differ-spec =
     loop-again
     told-apart-requires
     returns
+    is-new-requires
+    returns-2
     differ-requires
-    returns-2)
+    returns-3)

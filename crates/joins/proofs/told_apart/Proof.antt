@@ -1,9 +1,8 @@
 -- After k turns the first k tokens are on their chains and distinct, and something is left, or the loop has stopped.
-use mathlib.Core.Path.{_≡_, refl}
-use mathlib.Core.Bool.{true, false}
+use mathlib.Core.Path.{_≡_}
+use mathlib.Core.Bool.{true}
 use Prim.Native.Nat.{_-_, _≤_}
 use native.Mathlib.Omega.{arith}
-use Rattle.lent.proofs.Choices.{clash}
 use Rattle.machine.specs.Sizes.{keyCount}
 use Rattle.machine.specs.Sound.{distinct}
 use Rattle.order.specs.Order.{item}
@@ -27,7 +26,7 @@ enters-requires : tie.Need-enters-requires Inv-loop μ-loop
 enters-requires c κs = (search needs, c .before .before .before .loop .inv .1 .0)
 
 returns : tie.Need-returns Inv-loop μ-loop
-returns c = λ r. clash false r refl
+returns c = (search needs, λ e. absurd (omega arith))
 
 add-k : tie.Need-add-k Inv-loop μ-loop
 add-k c = search needs
@@ -40,7 +39,7 @@ loop-again c = let l = c .before .before .before .before .before .loop in
     ((omega arith, omega (arith, c .if1 .left)), (c .before .enters .ensures .0, distinct-more _ _ (l .inv .1 .1) (c .before .enters .ensures .1 (c .if1 .left))))
 
 returns-2 : tie.Need-returns-2 Inv-loop μ-loop
-returns-2 c = λ r. let e : c .before .loop .k ≡ keyCount = omega arith in rw e at (c .before .loop .inv .1 .1)
+returns-2 c = (search needs, λ r. let e : c .before .loop .k ≡ keyCount = omega arith in rw e at (c .before .loop .inv .1 .1))
 
 pub told-apart-spec : {M : Type 1} → statement M
 told-apart-spec =

@@ -1,6 +1,5 @@
 -- Each test is the next of the definition; the sessions that fit stand side by side, where the rows find them.
 use borrow.Author.Tests.{not-false}
-use Rattle.joins.proofs.Seats.{entered-none}
 use Rattle.lent.proofs.Choices.{test-failed, test-passed}
 use Rattle.state.specs.Forms.{tablesFit}
 use borrow.Author.Needs.{needs}
@@ -14,31 +13,32 @@ returns : tie.Need-returns
 unfolding tablesFit
 returns c = rw (test-failed (c .before .is-zero .ensures) (c .if1 .taken))
 
+sessions-fit-requires : tie.Need-sessions-fit-requires
+sessions-fit-requires c κs = search needs
+
+returns-2 : tie.Need-returns-2
+unfolding tablesFit
+returns-2 c = let a = c .before .before .before .before .before in rw (test-passed (a .before .is-zero .ensures) (a .if1 .left), test-failed (c .before .sessions-fit .ensures .0) (c .if2 .taken))
+
 fill-masks-requires : tie.Need-fill-masks-requires
 fill-masks-requires c κs = search needs
 
 keys-fit-requires : tie.Need-keys-fit-requires
 keys-fit-requires c κs = search needs
 
-returns-2 : tie.Need-returns-2
-unfolding tablesFit
-returns-2 c = let a = c .before .before .before .before .before in rw (test-passed (a .before .is-zero .ensures) (a .if1 .left), test-failed (c .before .keys-fit .ensures) (c .if2 .taken))
-
-sessions-fit-requires : tie.Need-sessions-fit-requires
-sessions-fit-requires c κs = (search needs, (search needs, entered-none _))
-
 returns-3 : tie.Need-returns-3
 unfolding tablesFit
-returns-3 c = let b = c .before .before .before .before .before in let a = c .before .before .before .before .before .before .before .before .before .before in
-    rw (test-passed (a .before .is-zero .ensures) (a .if1 .left), test-passed (b .before .keys-fit .ensures) (b .if2 .left), test-failed (c .before .sessions-fit .ensures .0) (c .if3 .taken))
+returns-3 c = let b = c .before .before .before .before .before in let a = b .before .before .before .before .before in
+    rw (test-passed (a .before .is-zero .ensures) (a .if1 .left), test-passed (b .before .sessions-fit .ensures .0) (b .if2 .left), test-failed (c .before .keys-fit .ensures) (c .if3 .taken))
 
 rows-fit-requires : tie.Need-rows-fit-requires
-rows-fit-requires c κs = let d = c .before .before .before .before in (search needs, (c .before .before .before .before .before .before .before .before .before .before .before .before .fill-masks .ensures, d .before .sessions-fit .ensures .1 (not-false _ (d .if3 .left))))
+rows-fit-requires c κs = let m = c .before .before .before .before .before .before .before in let b = m .before .before in
+    (search needs, (m .fill-masks .ensures, b .before .sessions-fit .ensures .1 (not-false _ (b .if2 .left))))
 
 returns-4 : tie.Need-returns-4
 unfolding tablesFit
-returns-4 c = let d = c .before .before .before .before .before in let b = c .before .before .before .before .before .before .before .before .before .before in let a = c .before .before .before .before .before .before .before .before .before .before .before .before .before .before .before in
-    rw (test-passed (a .before .is-zero .ensures) (a .if1 .left), test-passed (b .before .keys-fit .ensures) (b .if2 .left), test-passed (d .before .sessions-fit .ensures .0) (d .if3 .left)) (c .rows-fit .ensures)
+returns-4 c = let d = c .before .before .before .before .before in let b = d .before .before .before .before .before in let a = b .before .before .before .before .before in
+    rw (test-passed (a .before .is-zero .ensures) (a .if1 .left), test-passed (b .before .sessions-fit .ensures .0) (b .if2 .left), test-passed (d .before .keys-fit .ensures) (d .if3 .left)) (c .rows-fit .ensures)
 
 pub tables-fit-spec : {M : Type 1} → statement M
 tables-fit-spec =
@@ -46,10 +46,10 @@ tables-fit-spec =
     (tie.spec
     is-zero-requires
     returns
+    sessions-fit-requires
+    returns-2
     fill-masks-requires
     keys-fit-requires
-    returns-2
-    sessions-fit-requires
     returns-3
     rows-fit-requires
     returns-4)
