@@ -15,7 +15,7 @@ use Rattle.lent.proofs.Walks.{all-every}
 use Rattle.machine.specs.Sound.{newAt, distinct}
 use Rattle.joins.specs.Bits.{wordBits, hasBit, withBit}
 use Rattle.order.specs.Order.{item}
-use Rattle.joins.specs.Joins.{markWords, hasMark, withMark, setBit, Marked, Met}
+use Rattle.joins.specs.Joins.{markWords, hasMark, withMark, setBit, meetsMark, noted, Marked, Met}
 use Rattle.joins.proofs.Bits.{bit-with}
 use Rattle.order.proofs.Numbers.{last-or, same-or, new-zero, new-used, distinct-more}
 
@@ -32,36 +32,35 @@ set-bit marks k b h a c =
 pub marked-none : (f : ℕ → ℕ) → Marked f 0 (replicate markWords 0)
 marked-none f = record { long = length-replicate {A = ℕ} markWords 0; has = λ j l. absurd (omega arith) }
 
--- n is number k
-module _ {f : ℕ → ℕ} {k n : ℕ} {marks : List ℕ} (y : Marked f k marks) (is : n ≡ f k) where
-  pub met-none : n ≡ 0 → Met f k false marks
+module _ {f : ℕ → ℕ} {k : ℕ} {marks : List ℕ} (y : Marked f k marks) where
+  met-none : f k ≡ 0 → Met f k false marks
   met-none e = record {
-    marked = record {
-      long = y .long;
-      has = λ j l z. ⊎-elim (λ q. absurd (z (ap f q ∙ (sym is ∙ e)))) (λ a. y .has j a z) (last-or j k l);
-    };
-    new = λ r. new-zero f k n is e;
+    marked = record { long = y .long; has = λ j l z. ⊎-elim (λ q. absurd (z (ap f q ∙ e))) (λ a. y .has j a z) (last-or j k l) };
+    new = λ r. new-zero f k (f k) refl e;
   }
 
-  module _ (used : n ≡ 0 → ⊥) where
-    unmet : hasMark marks n ≡ false → newAt f k ≡ true
+  module _ (used : f k ≡ 0 → ⊥) where
+    unmet : hasMark marks (f k) ≡ false → newAt f k ≡ true
     unmet free =
-        new-used f k n is used
-        ∙ all-every (λ j. not (eqb (f j) n)) k
-        (λ j l. ap not (ne-eqb (f j) n (λ q. clash (hasMark marks n) (ap (hasMark marks) (sym q) ∙ y .has j l (λ z. used (sym q ∙ z))) free)))
+        new-used f k (f k) refl used
+        ∙ all-every (λ j. not (eqb (f j) (f k))) k
+        (λ j l. ap not (ne-eqb (f j) (f k) (λ q. clash (hasMark marks (f k)) (ap (hasMark marks) (sym q) ∙ y .has j l (λ z. used (sym q ∙ z))) free)))
 
-    pub met-marked : {r : Bool} {marks′ : List ℕ} → r ≡ hasMark marks n → marks′ ≡ withMark marks n → Met f k r marks′
-    met-marked {r} {marks′} e o = record {
+    own : (m : ℕ) → m ≡ f k → hasMark marks m || (eqb (m / wordBits % markWords) (f k / wordBits % markWords) && eqb (m % wordBits) (f k % wordBits)) ≡ true
+    own m q = rw (q, eq-eqb (f k / wordBits % markWords) (f k / wordBits % markWords) refl, eq-eqb (f k % wordBits) (f k % wordBits) refl) (or-true (hasMark marks (f k)))
+
+    met-marked : Met f k (hasMark marks (f k)) (withMark marks (f k))
+    met-marked = record {
       marked = record {
-        long = ap length o ∙ (length-set marks (n / wordBits % markWords) _ ∙ y .long);
-        has = λ j l z. rw o (set-bit marks (n / wordBits % markWords) (n % wordBits) (omega (arith, y .long)) (f j / wordBits % markWords) (f j % wordBits)
-            ∙ ⊎-elim (λ q. own (f j) (ap f q ∙ sym is)) (λ a. rw (y .has j a z)) (last-or j k l));
+        long = length-set marks (f k / wordBits % markWords) _ ∙ y .long;
+        has = λ j l z. set-bit marks (f k / wordBits % markWords) (f k % wordBits) (omega (arith, y .long)) (f j / wordBits % markWords) (f j % wordBits)
+            ∙ ⊎-elim (λ q. own (f j) (ap f q)) (λ a. rw (y .has j a z)) (last-or j k l);
       };
-      new = λ t. unmet (sym e ∙ t);
+      new = unmet;
     }
-      where
-        own : (m : ℕ) → m ≡ n → hasMark marks m || (eqb (m / wordBits % markWords) (n / wordBits % markWords) && eqb (m % wordBits) (n % wordBits)) ≡ true
-        own m q = rw (q, eq-eqb (n / wordBits % markWords) (n / wordBits % markWords) refl, eq-eqb (n % wordBits) (n % wordBits) refl) (or-true (hasMark marks n))
+
+  pub met-noted : {r : Bool} {marks′ : List ℕ} → r ≡ meetsMark marks (f k) → marks′ ≡ noted marks (f k) → Met f k r marks′
+  met-noted e o = rw (e, o) (⊎-elim (λ z. rw (eq-eqb (f k) 0 z) (met-none z)) (λ u. rw (ne-eqb (f k) 0 u) (met-marked u)) (same-or (f k) 0))
 
 -- a turn of a loop that keeps whether any number met the mark of another
 pub met-more : {f : ℕ → ℕ} {k : ℕ} {r met : Bool} {marks : List ℕ} → (met ≡ false → distinct f k ≡ true) → Met f k r marks → met || r ≡ false → distinct f (k + 1) ≡ true

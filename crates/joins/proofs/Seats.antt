@@ -11,7 +11,7 @@ use lib.ListN.{length, set, length-set, length-replicate, replicate}
 use lib.Bits.{bitOr}
 use lib.Seq.{getD-set-same, getD-set-other}
 use lib.Dec.{eqb}
-use borrow.Author.Tests.{ne-eqb, eqb-true, eqb-false, not-true, not-false}
+use borrow.Author.Tests.{eq-eqb, ne-eqb, eqb-true, eqb-false, not-true, not-false}
 use Rattle.lent.proofs.Choices.{clash}
 use Rattle.lent.proofs.Walks.{all-every}
 use Rattle.machine.proofs.Views.{getD-same}
@@ -19,7 +19,7 @@ use Rattle.machine.specs.Sizes.{sessionCount}
 use Rattle.machine.specs.Sound.{distinct}
 use Rattle.order.specs.Order.{side, item}
 use Rattle.order.proofs.Numbers.{last-or, same-or, or-none, new-zero, new-used, distinct-more, twice-same}
-use Rattle.joins.specs.Joins.{seatCount, seatOf, Small, Stand, no-number, in-seat, at-large, Entered, Sat}
+use Rattle.joins.specs.Joins.{seatCount, seatOf, seatsWith, looseWith, sitsWith, Small, Stand, no-number, in-seat, at-large, Entered, Sat}
 use Rattle.joins.proofs.Gathered.{gathered-none, gathered-more}
 use Rattle.joins.proofs.Loose.{stand-kept, loosened-none}
 
@@ -36,8 +36,14 @@ entered-none f e o = rw (e, o) (record {
 small-more : {m n : ℕ} {seats : List ℕ} → m ≤ n → Small m seats → Small n seats
 small-more h y = record { long = y .long; low = λ k. omega (arith, y .low k) }
 
--- n is number i
-module _ {f : ℕ → ℕ} {i n : ℕ} {nums seats loose : List ℕ} (h : i < sessionCount) (y : Entered f i nums seats loose) (is : n ≡ f i) where
+module _ {f : ℕ → ℕ} {i : ℕ} {nums seats loose : List ℕ} (h : i < sessionCount) (y : Entered f i nums seats loose) where
+  -- number i, and who has its seat
+  abbrev n : ℕ
+  n = f i
+
+  abbrev by : ℕ
+  by = item seats (seatOf n)
+
   abbrev placed : List ℕ
   placed = set nums i n
 
@@ -51,7 +57,7 @@ module _ {f : ℕ → ℕ} {i n : ℕ} {nums seats loose : List ℕ} (h : i < se
   entered-more : {seats′ loose′ : List ℕ} → Small (i + 1) seats′ → ((k : ℕ) → (item seats k ≡ 0 → ⊥) → item seats′ k ≡ item seats k) → ((n ≡ 0 → ⊥) → item seats′ (seatOf n) ≡ 0 → ⊥)
       → length loose′ ≡ side → ((j : ℕ) → (j ≡ i → ⊥) → item loose′ j ≡ item loose j) → Stand placed seats′ i (item loose′ i) → Entered f (i + 1) placed seats′ loose′
   entered-more {seats′} {loose′} small kept own long same stand = record {
-    gathered = gathered-more f i nums n (omega arith) (y .gathered) is;
+    gathered = gathered-more f i nums n (omega arith) (y .gathered) refl;
     seated = record {
       small = small;
       held = λ j l z e. ⊎-elim
@@ -72,70 +78,80 @@ module _ {f : ℕ → ℕ} {i n : ℕ} {nums seats loose : List ℕ} (h : i < se
       → Stand placed seats′ i 0 → Entered f (i + 1) placed seats′ loose
   entered-quiet small kept own stand = entered-more small kept own (y .loosened .long) (λ j d. refl) (rw (y .loosened .rest i (omega arith)) stand)
 
-  pub sat-none : n ≡ 0 → Sat f i true placed seats loose
+  sat-none : n ≡ 0 → Sat f i true placed seats loose
   sat-none e = record {
     entered = λ r. entered-quiet (small-more (omega arith) (y .seated .small)) (λ k z. refl) (λ z. absurd (z e)) (no-number (mine ∙ e) refl);
-    new = λ z. new-zero f i n is e;
+    new = λ z. new-zero f i n refl e;
     twice = λ r. clash true refl r;
   }
 
-  module _ {k q : ℕ} (used : n ≡ 0 → ⊥) (at : k ≡ seatOf n) (has : q ≡ item seats k) where
+  module _ (used : n ≡ 0 → ⊥) where
     -- the seat of what is at place i now
-    there : (seats′ : List ℕ) → item seats′ (seatOf (item placed i)) ≡ item seats′ k
-    there seats′ = ap (λ (v : ℕ). item seats′ (seatOf v)) mine ∙ ap (item seats′) (sym at)
+    there : (seats′ : List ℕ) → item seats′ (seatOf (item placed i)) ≡ item seats′ (seatOf n)
+    there seats′ = ap (λ (v : ℕ). item seats′ (seatOf v)) mine
 
-    module _ (inside : k < seatCount) (free : q ≡ 0) where
+    module _ (free : by ≡ 0) where
       unlike : (j : ℕ) → j < i → f j ≡ n → ⊥
       unlike j l e =
           let x : item nums j ≡ n = y .gathered .is j l ∙ e in
-          y .seated .held j l (λ z. used (sym x ∙ z)) (ap (λ (v : ℕ). item seats (seatOf v)) x ∙ (ap (item seats) (sym at) ∙ (sym has ∙ free)))
+          y .seated .held j l (λ z. used (sym x ∙ z)) (ap (λ (v : ℕ). item seats (seatOf v)) x ∙ free)
 
       abbrev taken : List ℕ
-      taken = set seats k (i + 1)
+      taken = set seats (seatOf n) (i + 1)
 
-      own : item taken k ≡ i + 1
-      own = getD-set-same seats k (i + 1) 0 (omega (arith, y .seated .small .long))
+      own : item taken (seatOf n) ≡ i + 1
+      own = getD-set-same seats (seatOf n) (i + 1) 0 (omega (arith, y .seated .small .long))
 
-      pub sat-free : Sat f i true placed taken loose
+      sat-free : Sat f i true placed taken loose
       sat-free = record {
         entered = λ r. entered-quiet
             (record {
-              long = length-set seats k (i + 1) ∙ y .seated .small .long;
+              long = length-set seats (seatOf n) (i + 1) ∙ y .seated .small .long;
               low = λ g. ⊎-elim
                   (λ e. let o : item taken g ≡ i + 1 = rw e own in omega (arith, o))
-                  (λ d. omega (arith, getD-set-other seats k g (i + 1) 0 d, y .seated .small .low g))
-                  (same-or g k);
+                  (λ d. omega (arith, getD-set-other seats (seatOf n) g (i + 1) 0 d, y .seated .small .low g))
+                  (same-or g (seatOf n));
             })
-            (λ g z. getD-set-other seats k g (i + 1) 0 (λ e. z (ap (item seats) e ∙ (sym has ∙ free))))
-            (λ z e. let o : i + 1 ≡ 0 = sym own ∙ (ap (item taken) at ∙ e) in omega (arith, o))
+            (λ g z. getD-set-other seats (seatOf n) g (i + 1) 0 (λ e. z (ap (item seats) e ∙ free)))
+            (λ z e. let o : i + 1 ≡ 0 = sym own ∙ e in omega (arith, o))
             (in-seat (there taken ∙ own) refl);
-        new = λ z. new-used f i n is used ∙ all-every (λ j. not (eqb (f j) n)) i (λ j l. ap not (ne-eqb (f j) n (unlike j l)));
+        new = λ z. new-used f i n refl used ∙ all-every (λ j. not (eqb (f j) n)) i (λ j l. ap not (ne-eqb (f j) n (unlike j l)));
         twice = λ r. clash true refl r;
       }
 
-    module _ (taken : q ≡ 0 → ⊥) where
+    module _ (taken : by ≡ 0 → ⊥) where
       abbrev loosed : List ℕ
       loosed = set loose i n
 
       loose-now : item loosed i ≡ n
       loose-now = getD-set-same loose i n 0 (omega (arith, y .loosened .long))
 
-      met-before : q - 1 < i
-      met-before = omega (arith, has, y .seated .small .low k)
+      met-before : by - 1 < i
+      met-before = omega (arith, taken, y .seated .small .low (seatOf n))
 
-      pub sat-loose : Sat f i (not (eqb (item placed (q - 1)) n)) placed seats loosed
+      sat-loose : Sat f i (not (eqb (item placed (by - 1)) n)) placed seats loosed
       sat-loose = record {
         entered = λ r. entered-more
             (small-more (omega arith) (y .seated .small))
             (λ k z. refl)
-            (λ z e. taken (has ∙ (ap (item seats) at ∙ e)))
+            (λ z e. taken e)
             (length-set loose i n ∙ y .loosened .long)
             (λ j d. getD-set-other loose i j n 0 d)
-            (at-large (λ e. eqb-false (item placed (q - 1)) n (not-true _ r) (ap (λ (x : ℕ). item placed (x - 1)) (has ∙ sym (there seats)) ∙ (e ∙ mine))) (loose-now ∙ sym mine));
+            (at-large (λ e. eqb-false (item placed (by - 1)) n (not-true _ r) (ap (λ (x : ℕ). item placed (x - 1)) (sym (there seats)) ∙ (e ∙ mine))) (loose-now ∙ sym mine));
         new = λ z. absurd (used (sym loose-now ∙ z));
-        twice = λ r. twice-same f sessionCount i (q - 1) h (omega (arith, met-before)) (λ e. omega (arith, e, met-before)) (λ z. used (is ∙ z))
-            (sym is ∙ (sym (eqb-true (item placed (q - 1)) n (not-false _ r)) ∙ (others (q - 1) met-before ∙ y .gathered .is (q - 1) met-before)));
+        twice = λ r. twice-same f sessionCount i (by - 1) h (omega (arith, met-before)) (λ e. omega (arith, e, met-before)) used
+            (sym (eqb-true (item placed (by - 1)) n (not-false _ r)) ∙ (others (by - 1) met-before ∙ y .gathered .is (by - 1) met-before));
       }
+
+  sits : Sat f i (sitsWith placed seats n) placed (seatsWith seats i n) (looseWith seats loose i n)
+  sits =
+      ⊎-elim
+      (λ z. rw (eq-eqb n 0 z) (sat-none z))
+      (λ u. rw (ne-eqb n 0 u) (⊎-elim (λ z. rw (eq-eqb by 0 z) (sat-free u z)) (λ t. rw (ne-eqb by 0 t) (sat-loose u t)) (same-or by 0)))
+      (same-or n 0)
+
+  pub number-sat : {r : Bool} {nums′ seats′ loose′ : List ℕ} → (r ≡ sitsWith nums′ seats n) × (nums′ ≡ placed) → (seats′ ≡ seatsWith seats i n) × (loose′ ≡ looseWith seats loose i n) → Sat f i r nums′ seats′ loose′
+  number-sat e o = rw (e .0, e .1, o .0, o .1) sits
 
 -- a turn of a loop that keeps whether a number is loose
 pub sat-more : {f : ℕ → ℕ} {i crowd : ℕ} {r : Bool} {nums seats loose : List ℕ} → (crowd ≡ 0 → distinct f i ≡ true) → Sat f i r nums seats loose → bitOr crowd (item loose i) ≡ 0 → distinct f (i + 1) ≡ true

@@ -91,6 +91,13 @@ pub record Marked (f : ℕ → ℕ) (k : ℕ) (marks : List ℕ) : Type 0 where
   pub long : length marks ≡ markWords
   pub has : (j : ℕ) → j < k → (f j ≡ 0 → ⊥) → hasMark marks (f j) ≡ true
 
+-- whether n, if it is not 0, meets the mark of another, and the marks with its own
+abbrev pub meetsMark : List ℕ → ℕ → Bool
+meetsMark marks n = if eqb n 0 then false else hasMark marks n
+
+abbrev pub noted : List ℕ → ℕ → List ℕ
+noted marks n = if eqb n 0 then marks else withMark marks n
+
 -- number k has its mark too, and it is new if r says that it met no other's
 pub record Met (f : ℕ → ℕ) (k : ℕ) (r : Bool) (marks : List ℕ) : Type 0 where
   pub marked : Marked f (k + 1) marks
@@ -138,6 +145,17 @@ pub record Small (m : ℕ) (seats : List ℕ) : Type 0 where
 pub record Seated (nums : List ℕ) (i : ℕ) (seats : List ℕ) : Type 0 where
   pub small : Small i seats
   pub held : (j : ℕ) → j < i → (item nums j ≡ 0 → ⊥) → item seats (seatOf (item nums j)) ≡ 0 → ⊥
+
+-- number n comes to place i, with those side by side: it takes its seat, if that is free, or else it is loose
+abbrev pub seatsWith : List ℕ → ℕ → ℕ → List ℕ
+seatsWith seats i n = if eqb n 0 then seats else if eqb (item seats (seatOf n)) 0 then set seats (seatOf n) (i + 1) else seats
+
+abbrev pub looseWith : List ℕ → List ℕ → ℕ → ℕ → List ℕ
+looseWith seats loose i n = if eqb n 0 then loose else if eqb (item seats (seatOf n)) 0 then loose else set loose i n
+
+-- its seat does not have the same number
+abbrev pub sitsWith : List ℕ → List ℕ → ℕ → Bool
+sitsWith nums seats n = if eqb n 0 then true else if eqb (item seats (seatOf n)) 0 then true else not (eqb (item nums (item seats (seatOf n) - 1)) n)
 
 -- the number at place j is 0, sits in its seat, or is loose: there is another number in its seat. x is the number if it is loose, or 0
 pub data Stand (nums seats : List ℕ) (j x : ℕ) : Type 0 where

@@ -1,6 +1,7 @@
--- By the three returns: no number, a seat that is free, and one that is taken, each a law of `Seats`.
-use native.Mathlib.Omega.{arith}
-use Rattle.joins.proofs.Seats.{sat-none, sat-free, sat-loose}
+-- By the three returns: no number, a seat that is free, and one that is taken.
+use mathlib.Core.Path.{refl, sym, ap, _∙_}
+use borrow.Author.Tests.{eq-eqb, ne-eqb}
+use Rattle.order.specs.Order.{item}
 use borrow.Author.Needs.{needs}
 use Rattle.joins.proofs.session_sits.Statement.{statement}
 use Rattle.joins.proofs.session_sits.Tie as tie
@@ -21,7 +22,10 @@ element-write-nums : tie.Need-element-write-nums
 element-write-nums c = search needs
 
 returns : tie.Need-returns
-returns c = sat-none (omega arith) (c .before .before .before .pre .1 .1) (c .before .load-u32 .ensures) (c .if1 .taken)
+returns c =
+    let n = c .before .load-u32 .ensures in
+    let z = eq-eqb _ 0 (sym n ∙ c .if1 .taken) in
+    ((rw z, rw (sym n)), (rw z, rw z))
 
 seat-requires : tie.Need-seat-requires
 seat-requires c κs = search needs
@@ -42,7 +46,12 @@ element-write-seats : tie.Need-element-write-seats
 element-write-seats c = search needs
 
 returns-2 : tie.Need-returns-2
-returns-2 c = let a = c .before .before .before .before in sat-free (omega arith) (a .before .before .before .pre .1 .1) (a .before .load-u32 .ensures) (a .if1 .left) (c .before .before .before .seat .ensures .0) (c .before .index .ensures .0) (c .before .before .before .seat .ensures .1) (c .if2 .taken)
+returns-2 c =
+    let a = c .before .before .before .before in
+    let k = c .before .before .before .seat .ensures .0 in
+    let u = ne-eqb _ 0 (a .if1 .left) in
+    let t = eq-eqb _ 0 (ap (item (a .before .before .before .args .seats .now)) (sym k) ∙ (sym (c .before .index .ensures .0) ∙ c .if2 .taken)) in
+    rw (sym (a .before .load-u32 .ensures)) ((rw (u, t), refl), (rw (u, t, k), rw (u, t)))
 
 mul-loose : tie.Need-mul-loose
 mul-loose c = search needs
@@ -60,7 +69,14 @@ element-copy-out-result : tie.Need-element-copy-out-result
 element-copy-out-result c = search needs
 
 returns-3 : tie.Need-returns-3
-returns-3 c = let a = c .before .before .before .before .before in sat-loose (omega arith) (a .before .before .before .pre .1 .1) (a .before .load-u32 .ensures) (a .if1 .left) (c .before .before .before .before .seat .ensures .0) (c .before .before .index .ensures .0) (c .before .if2 .left)
+returns-3 c =
+    let a = c .before .before .before .before .before in
+    let k = c .before .before .before .before .seat .ensures .0 in
+    let q = c .before .before .index .ensures .0 in
+    let u = ne-eqb _ 0 (a .if1 .left) in
+    let e = ap (item (a .before .before .before .args .seats .now)) (sym k) ∙ sym q in
+    let t = ne-eqb _ 0 (λ z. c .before .if2 .left (sym e ∙ z)) in
+    rw (sym (a .before .load-u32 .ensures)) ((rw (u, t, e), refl), (rw (u, t), rw (u, t)))
 
 pub session-sits-spec : {M : Type 1} → statement M
 session-sits-spec =

@@ -1,5 +1,7 @@
 -- A key without a token, or one whose token notes its mark.
-use Rattle.joins.proofs.Marks.{met-none, met-marked}
+use mathlib.Core.Path.{sym, ap, _∙_}
+use borrow.Author.Tests.{eq-eqb, ne-eqb}
+use Rattle.joins.specs.Joins.{hasMark, withMark}
 use borrow.Author.Needs.{needs}
 use Rattle.joins.proofs.token_meets.Statement.{statement}
 use Rattle.joins.proofs.token_meets.Tie as tie
@@ -14,13 +16,16 @@ load-u32-requires : tie.Need-load-u32-requires
 load-u32-requires c κs = search needs
 
 returns : tie.Need-returns
-returns c = met-none (c .before .before .before .pre .1 .1) (c .before .load-u32 .ensures) (c .if1 .taken)
+returns c = let e = eq-eqb _ 0 (sym (c .before .load-u32 .ensures) ∙ c .if1 .taken) in (rw e, rw e)
 
 meets-requires : tie.Need-meets-requires
-meets-requires c κs = c .before .before .before .before .pre .1 .1 .long
+meets-requires c κs = search needs
 
 returns-2 : tie.Need-returns-2
-returns-2 c = met-marked (c .before .before .before .before .before .pre .1 .1) (c .before .before .before .load-u32 .ensures) (c .before .before .if1 .left) (c .meets .ensures .0) (c .meets .ensures .1)
+returns-2 c =
+    let n = c .before .before .before .load-u32 .ensures in
+    let e = ne-eqb _ 0 (λ z. c .before .before .if1 .left (n ∙ z)) in
+    (rw (e, sym n) (c .meets .ensures .0), rw (e, sym n) (c .meets .ensures .1))
 
 pub token-meets-spec : {M : Type 1} → statement M
 token-meets-spec =

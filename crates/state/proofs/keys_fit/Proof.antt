@@ -11,7 +11,7 @@ use Rattle.lent.proofs.Walks.{every-fails}
 use Rattle.machine.specs.Sizes.{keyCount, keysFrom, keyWidth}
 use Rattle.layout.specs.Layout.{decHead}
 use Rattle.joins.specs.Joins.{tokens, Marked}
-use Rattle.joins.proofs.Marks.{marked-none, met-more}
+use Rattle.joins.proofs.Marks.{marked-none, met-noted, met-more}
 use Rattle.state.specs.Forms.{keyFormed, readLimit, keysFormed, keysFit}
 use Rattle.state.proofs.Walked.{Walked, walked-none, walked-more, walked-all}
 use borrow.Author.Needs.{needs}
@@ -76,8 +76,8 @@ loop-less : tie.Need-loop-less Inv-loop μ-loop
 loop-less c = search needs
 
 loop-again : tie.Need-loop-again Inv-loop μ-loop
-loop-again c = let m = c .token-meets .ensures in
-    walked-more (c .before .before .before .before .before .before .loop .inv) (search needs) (key-told (c .before .before .before)) (c .before .before .if1 .left) (m .marked) (λ d. met-more d m)
+loop-again c = let w = c .before .before .before .before .before .before .loop .inv in let m = met-noted (w .noted) (c .token-meets .ensures .0) (c .token-meets .ensures .1) in
+    walked-more w (search needs) (key-told (c .before .before .before)) (c .before .before .if1 .left) (m .marked) (λ d. met-more d m)
 
 returns-2 : tie.Need-returns-2 Inv-loop μ-loop
 unfolding keysFit keysFormed

@@ -12,7 +12,7 @@ use Rattle.layout.specs.Layout.{decHead}
 use Rattle.joins.specs.Joins.{sessionNumbers, Entered}
 use Rattle.joins.proofs.Gathered.{distinct-gathered}
 use Rattle.joins.proofs.Loose.{loosened-distinct}
-use Rattle.joins.proofs.Seats.{entered-none, sat-more}
+use Rattle.joins.proofs.Seats.{entered-none, number-sat, sat-more}
 use Rattle.state.specs.Forms.{sessionFormed, writeLimit, sessionsFormed, sessionsFit}
 use Rattle.state.proofs.Walked.{Walked, walked-none, walked-more, walked-all}
 use borrow.Author.Needs.{needs}
@@ -73,7 +73,10 @@ session-sits-requires c κs = search needs
 
 returns-2 : tie.Need-returns-2 Inv-loop μ-loop
 unfolding sessionsFit
-returns-2 c = (rw (c .before .session-sits .ensures .twice (not-true _ (c .if2 .taken)), and-false), λ o. clash false o refl)
+returns-2 c =
+    let b = c .before .before .before .before .before in
+    let m = number-sat (search needs) (b .before .before .before .before .loop .inv .noted) (c .before .session-sits .ensures .0) (c .before .session-sits .ensures .1) in
+    (rw (m .twice (not-true _ (c .if2 .taken)), and-false), λ o. clash false o refl)
 
 mul-crowd : tie.Need-mul-crowd Inv-loop μ-loop
 mul-crowd c = search needs
@@ -88,8 +91,11 @@ loop-less : tie.Need-loop-less Inv-loop μ-loop
 loop-less c = search needs
 
 loop-again : tie.Need-loop-again Inv-loop μ-loop
-loop-again c = let m = c .before .session-sits .ensures in let b = c .before .before .before .before .before in
-    walked-more (b .before .before .before .before .loop .inv) (search needs) (session-told (b .before)) (b .if1 .left) (m .entered (not-false _ (c .if2 .left))) (λ d. sat-more d m)
+loop-again c =
+    let b = c .before .before .before .before .before in
+    let w = b .before .before .before .before .loop .inv in
+    let m = number-sat (search needs) (w .noted) (c .before .session-sits .ensures .0) (c .before .session-sits .ensures .1) in
+    walked-more w (search needs) (session-told (b .before)) (b .if1 .left) (m .entered (not-false _ (c .if2 .left))) (λ d. sat-more d m)
 
 returns-3 : tie.Need-returns-3 Inv-loop μ-loop
 unfolding sessionsFit sessionsFormed
