@@ -48,8 +48,8 @@ module _ (nums : List ℕ) (n : ℕ) where
       go _ (no-place f) = omega arith
 
   -- a place that was tested
-  pub first-stood : Alone nums n → {r : ℕ} → Stood nums n r → (r ≡ 0 → ⊥) → r ≡ firstPlace nums n
-  first-stood a {r} y z = let o : r ≡ r - 1 + 1 = omega arith in o ∙ first-at a (omega (arith, y .low)) (y .here z)
+  pub first-stood : Alone nums n → {r : ℕ} → Stood nums n r → (r ≡ 0 → ⊥) → (r ≡ firstPlace nums n) × (r ≤ sessionCount)
+  first-stood a {r} y z = let o : r ≡ r - 1 + 1 = omega arith in (o ∙ first-at a (omega (arith, y .low)) (y .here z), y .low)
 
   -- its places joined
   pub first-joined : Alone nums n → {r : ℕ} → eqb r 0 ≡ every (λ j. not (eqb (item nums j) n)) sessionCount → OnlyPlace nums sessionCount n r → r ≡ firstPlace nums n

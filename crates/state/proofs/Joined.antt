@@ -14,14 +14,9 @@ use Rattle.machine.specs.Words.{INVALIDATE}
 use Rattle.machine.specs.State.{Staged, Row, noRow, row, State, rowAt}
 use Rattle.machine.specs.Sound.{newAt, distinct, numberAt, tokenAt, numbersDistinct, tokensDistinct, liveRow, rowsLive, once, rowsOnce, shares, rowsAlone, leaseless, rowsLeaseless, joined}
 use Rattle.layout.specs.Layout.{decStaged, decode}
+use Rattle.order.proofs.Numbers.{distinct-cong}
 use Rattle.joins.specs.Joins.{tokens, sessionNumbers, rowSession, rowKey, rowKind, isLive, pairOk, joinOk}
 use Rattle.state.proofs.Fields.{rowBytes, number-at, token-at, rowOr, row-is}
-
-distinct-cong : (f g : ℕ → ℕ) (n : ℕ) → ((i : ℕ) → i < n → f i ≡ g i) → distinct f n ≡ distinct g n
-unfolding distinct newAt
-distinct-cong f g n e =
-    every-cong (newAt f) (newAt g) n
-    (λ i h. rw (e i h, every-cong (λ j. not (eqb (f j) (g i))) (λ j. not (eqb (g j) (g i))) i (λ j l. rw (e j (omega arith)))))
 
 -- a free row agrees with any row
 once-free : (r : Row) → once r noRow ≡ true

@@ -37,6 +37,9 @@ module _ (x : List ℕ) (f : Bytes x) where
   skip a m n p q e h =
       same-win x a m n p q (ap length e ∙ length-win x a m (omega arith)) h ∙ rw (e, same-refl (win x a m))
 
+  skip-word : (a n : ℕ) (q : List ℕ) → a + (4 + n) ≤ length x → same (win x a (4 + n)) (bytes32 (le32 x a) ++ q) ≡ same (win x (a + 4) n) q
+  skip-word a n q h = skip a 4 n (bytes32 (le32 x a)) q (bytes-le32 x f a (omega arith)) h
+
   -- the whole of a record
   same-whole : (n : ℕ) (y : List ℕ) → length x ≡ n → same x y ≡ same (win x 0 n) y
   same-whole n y h = ap (λ (z : List ℕ). same z y) (sym (win-whole x n h))
@@ -99,7 +102,7 @@ module _ (x : List ℕ) (f : Bytes x) where
         bytes : (y : List ℕ) → same x (bytes32 (le32 x 0) ++ (getD x 4 0 ∷ getD x 5 0 ∷ y)) ≡ same (win x 6 (2 + valueMax)) y
         bytes y =
             same-whole rowWidth _ h
-            ∙ skip 0 4 (4 + valueMax) (bytes32 (le32 x 0)) (getD x 4 0 ∷ getD x 5 0 ∷ y) (bytes-le32 x f 0 (omega arith)) (omega arith)
+            ∙ skip-word 0 (4 + valueMax) (getD x 4 0 ∷ getD x 5 0 ∷ y) (omega arith)
             ∙ rw (same-byte 4 (3 + valueMax) (getD x 4 0) (getD x 5 0 ∷ y) (omega arith), eq-eqb (getD x 4 0) (getD x 4 0) refl, same-byte 5 (2 + valueMax) (getD x 5 0) y (omega arith), eq-eqb (getD x 5 0) (getD x 5 0) refl)
 
         go : (t : Bool) → eqb (le32 x 0) 0 ≡ t → same x (encRow (if t then noRow else row (le32 x 0) (getD x 4 0) (getD x 5 0) (decStaged x))) && rowSound (if t then noRow else row (le32 x 0) (getD x 4 0) (getD x 5 0) (decStaged x))
@@ -147,7 +150,7 @@ module _ (x : List ℕ) (f : Bytes x) where
             ∙ rw (win-add x 4 4 8, zero-append, zero-le32 x 4 (omega arith), e, zero-le64 x 8 (omega arith))
         go false e =
             let n : le32 x 4 ≡ 0 → ⊥ = eqb-false (le32 x 4) 0 e in
-            rw (skip 4 4 8 (bytes32 (le32 x 4)) (bytes64 (le64 x 8)) (bytes-le32 x f 4 (omega arith)) (omega arith) ∙ same-eight 8 (omega arith), le-leb 1 (le32 x 4) (omega arith))
+            rw (skip-word 4 8 (bytes64 (le64 x 8)) (omega arith) ∙ same-eight 8 (omega arith), le-leb 1 (le32 x 4) (omega arith))
 
     pub key-is-formed : (hd : Head) → same x (encKey (decKey x)) && keySound hd (decKey x) ≡ keyFormed (readLimit hd) (hd .nextToken) x
     unfolding encKey decKey keySound keyFormed
@@ -192,7 +195,7 @@ module _ (x : List ℕ) (f : Bytes x) where
         used z l e =
             let y : List ℕ = bytes16 (le16 x 6) ++ bytes64 (lifeTime l) in
             let b : same x (bytes32 (le32 x 0) ++ (lifeMark l ∷ 0 ∷ y)) ≡ same (win x 4 12) (lifeMark l ∷ 0 ∷ y) =
-            same-whole sessionWidth (bytes32 (le32 x 0) ++ (lifeMark l ∷ 0 ∷ y)) h ∙ skip 0 4 12 (bytes32 (le32 x 0)) (lifeMark l ∷ 0 ∷ y) (bytes-le32 x f 0 (omega arith)) (omega arith) in
+            same-whole sessionWidth (bytes32 (le32 x 0) ++ (lifeMark l ∷ 0 ∷ y)) h ∙ skip-word 0 12 (lifeMark l ∷ 0 ∷ y) (omega arith) in
             rw (b, same-byte 4 11 (lifeMark l) (0 ∷ y) (omega arith), same-byte 5 10 0 y (omega arith), skip 6 2 8 (bytes16 (le16 x 6)) (bytes64 (lifeTime l)) (bytes-le16 x f 6 (omega arith)) (omega arith), le-leb 1 (le32 x 0) (omega arith), ← e)
             (mix (eqb (getD x 4 0) (lifeMark l)) (eqb (getD x 5 0) 0) (same (win x 8 8) (bytes64 (lifeTime l))) (ltb (le32 x 0) (hd .nextSession)) (leb (le16 x 6) stepMax) (lifeSound hd l))
 
@@ -212,9 +215,9 @@ module _ (x : List ℕ) (f : Bytes x) where
       let q1 : List ℕ = bytes32 (le32 x 8) ++ q2 in
       let e : same (win x 0 headSize) (bytes64 (le64 x 0) ++ q1) ≡ allZero (win x 24 40) =
       skip 0 8 56 (bytes64 (le64 x 0)) q1 (bytes-le64 x f 0 (omega arith)) (omega arith)
-      ∙ skip 8 4 52 (bytes32 (le32 x 8)) q2 (bytes-le32 x f 8 (omega arith)) (omega arith)
-      ∙ skip 12 4 48 (bytes32 (le32 x 12)) q3 (bytes-le32 x f 12 (omega arith)) (omega arith)
-      ∙ skip 16 4 44 (bytes32 (le32 x 16)) q4 (bytes-le32 x f 16 (omega arith)) (omega arith)
-      ∙ skip 20 4 40 (bytes32 (le32 x 20)) (zeros 40) (bytes-le32 x f 20 (omega arith)) (omega arith)
+      ∙ skip-word 8 52 q2 (omega arith)
+      ∙ skip-word 12 48 q3 (omega arith)
+      ∙ skip-word 16 44 q4 (omega arith)
+      ∙ skip-word 20 40 (zeros 40) (omega arith)
       ∙ same-zero 24 40 (omega arith) in
       rw e (and-comm (allZero (win x 24 40)) (headSound (decHead x)))

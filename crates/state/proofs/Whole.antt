@@ -1,6 +1,6 @@
 -- The tests of the bytes, all together, are the definition of well formed: the encoding is compared table by table and record by record, `sound`
 -- goes by the same records, and each record's two conditions are its form.
-use Prim.Native.Nat.{ℕ, _+_, _*_, _≤_}
+use Prim.Native.Nat.{ℕ, _+_, _*_, _≤_, _<_}
 use mathlib.Core.Path.{_≡_, refl, sym, ap, _∙_}
 use mathlib.Core.Bool.{Bool, true, false, _&&_, and-assoc}
 use mathlib.Core.List.{List, _++_}
@@ -30,6 +30,10 @@ use Rattle.state.proofs.Joined.{joined-by-bytes}
 pub wrong-length : (s : List ℕ) → (length s ≡ stateSize → ⊥) → wellFormed s ≡ false
 unfolding wellFormed
 wrong-length s n = rw (ne-eqb (length s) stateSize n)
+
+-- a test of records that are the same
+every-ap : {A : Type 0} (p : A → Bool) (f g : ℕ → A) (n : ℕ) → ((i : ℕ) → i < n → f i ≡ g i) → every (λ i. p (f i)) n ≡ every (λ i. p (g i)) n
+every-ap p f g n e = every-cong (λ i. p (f i)) (λ i. p (g i)) n (λ i l. ap p (e i l))
 
 module _ (s : List ℕ) (h : length s ≡ stateSize) (f : Bytes s) where
   abbrev σ : State
@@ -87,10 +91,12 @@ module _ (s : List ℕ) (h : length s ≡ stateSize) (f : Bytes s) where
       && joined σ)))
   unfolding sound decode
   sound-by-records =
-      let k : every (λ i. keySound hd (keyOf σ i)) keyCount ≡ every (λ i. keySound hd (decKey (keyBytes s i))) keyCount = every-cong _ _ keyCount (λ i l. ap (keySound hd) (key-at s i l)) in
-      let r : every (λ i. rowSound (rowAt σ i)) rowCount ≡ every (λ i. rowSound (decRow (rowBytes s i))) rowCount = every-cong _ _ rowCount (λ i l. ap rowSound (row-at s i l)) in
-      let j : every (λ i. sessionSound hd (sessionAt σ i)) sessionCount ≡ every (λ i. sessionSound hd (decSession (sessionBytes s i))) sessionCount = every-cong _ _ sessionCount (λ i l. ap (sessionSound hd) (session-at s i l)) in
-      rw (sized-yes, k, r, j)
+      rw (
+        sized-yes,
+        every-ap (keySound hd) (keyOf σ) (λ k. decKey (keyBytes s k)) keyCount (key-at s),
+        every-ap rowSound (rowAt σ) (λ i. decRow (rowBytes s i)) rowCount (row-at s),
+        every-ap (sessionSound hd) (sessionAt σ) (λ j. decSession (sessionBytes s j)) sessionCount (session-at s),
+      )
 
   -- ---- the two together, for a table of n records of w bytes
   table-formed : {A : Type 0} (enc : A → List ℕ) (dec : List ℕ → A) (fine : A → Bool) (formed : List ℕ → Bool) (from w n : ℕ) → from + n * w ≤ stateSize

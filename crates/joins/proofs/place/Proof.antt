@@ -1,4 +1,6 @@
 -- A place that was tested is the first of n, since it stands once.
+use Rattle.order.specs.Order.{Stood}
+use Rattle.order.proofs.Standing.{ordered-stood}
 use Rattle.joins.proofs.Lookup.{first-stood}
 use borrow.Author.Needs.{needs}
 use Rattle.joins.proofs.place.Statement.{statement}
@@ -8,13 +10,16 @@ sits-requires : tie.Need-sits-requires
 sits-requires c κs = search needs
 
 returns : tie.Need-returns
-returns c = let a = c .before .before in let q = c .before .sits .ensures in (first-stood (a .args .nums .now) (a .args .n) (a .pre .0) q (c .if1 .taken), q .low)
+returns c = let a = c .before .before in first-stood (a .args .nums .now) (a .args .n) (a .pre .0) (c .before .sits .ensures) (c .if1 .taken)
 
 ordered-requires : tie.Need-ordered-requires
 ordered-requires c κs = search needs
 
 returns-2 : tie.Need-returns-2
-returns-2 c = let a = c .before .before .before .before in let q = c .before .ordered .ensures in (first-stood (a .args .nums .now) (a .args .n) (a .pre .0) q (c .if2 .taken), q .low)
+returns-2 c =
+    let a = c .before .before .before .before in
+    let q : Stood (a .args .nums .now) (a .args .n) (c .before .ordered .result) = rw (c .before .ordered .ensures) (ordered-stood _ _ _) in
+    first-stood (a .args .nums .now) (a .args .n) (a .pre .0) q (c .if2 .taken)
 
 find-requires : tie.Need-find-requires
 find-requires c κs = search needs
