@@ -6,12 +6,12 @@ use Prim.Native.Nat.{ℕ, _+_, _-_, _≤_, _<_}
 use native.Mathlib.Omega.{arith}
 use lib.Dec.{eqb}
 use borrow.Author.Tests.{eq-eqb, ne-eqb, eqb-true, eqb-false}
-use Rattle.lent.specs.Tables.{every}
 use Rattle.lent.proofs.Walks.{all-every, some-at, none-some, Search, found, nowhere, first-search}
 use Rattle.machine.proofs.Every.{distinct-same}
 use Rattle.machine.specs.Sizes.{sessionCount}
 use Rattle.machine.specs.Sound.{distinct}
-use Rattle.order.specs.Order.{item, Stood, OnlyPlace}
+use Rattle.order.specs.Order.{item, Stood, placesOf}
+use Rattle.order.proofs.Standing.{places-none, places-only}
 use Rattle.joins.specs.Joins.{sessionNumbers, isLive, Gathered, Alone, firstPlace}
 
 -- ---- a number that stands once
@@ -52,12 +52,12 @@ module _ (nums : List ℕ) (n : ℕ) where
   first-stood a {r} y z = let o : r ≡ r - 1 + 1 = omega arith in (o ∙ first-at a (omega (arith, y .low)) (y .here z), y .low)
 
   -- its places joined
-  pub first-joined : Alone nums n → {r : ℕ} → eqb r 0 ≡ every (λ j. not (eqb (item nums j) n)) sessionCount → OnlyPlace nums sessionCount n r → r ≡ firstPlace nums n
-  first-joined a {r} e o = go (firstPlace nums n) first-is
+  pub first-joined : Alone nums n → placesOf nums n sessionCount ≡ firstPlace nums n
+  first-joined a = go (firstPlace nums n) first-is
     where
-      go : (p : ℕ) → Place p → r ≡ p
-      go _ (at-place {m = k} h w) = o k h w (λ j l g. a j k l h g w)
-      go _ (no-place f) = eqb-true r 0 (e ∙ all-every (λ j. not (eqb (item nums j) n)) sessionCount (λ j l. ap not (ne-eqb (item nums j) n (f j l))))
+      go : (p : ℕ) → Place p → placesOf nums n sessionCount ≡ p
+      go _ (at-place {m = k} h w) = places-only nums n sessionCount k h w (λ j l g. a j k l h g w)
+      go _ (no-place f) = eqb-true (placesOf nums n sessionCount) 0 (places-none nums n sessionCount ∙ all-every (λ j. not (eqb (item nums j) n)) sessionCount (λ j l. ap not (ne-eqb (item nums j) n (f j l))))
 
 -- ---- what a place says of the session
 

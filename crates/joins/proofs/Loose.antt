@@ -1,10 +1,10 @@
 -- Numbers that stand in no seat. Two places with the same number have one seat: if one of them sits there, the other meets its number in the
 -- seat; if neither does, both are loose. So where none meets its number, all are distinct if the loose ones are.
-use mathlib.Core.Path.{_≡_, refl, sym, ap, _∙_}
-use mathlib.Core.Bool.{true, false}
+use mathlib.Core.Path.{_≡_, sym, ap, _∙_}
+use mathlib.Core.Bool.{true}
 use mathlib.Core.Logic.{⊎-elim}
 use mathlib.Core.List.{List}
-use Prim.Native.Nat.{ℕ, _+_, _-_, _≤_, _<_}
+use Prim.Native.Nat.{ℕ, _+_, _-_, _<_}
 use native.Mathlib.Omega.{arith}
 use lib.ListN.{length-replicate, replicate}
 use Rattle.lent.proofs.Choices.{case-of, clash}

@@ -1,7 +1,6 @@
 -- A key without a token, or one whose token notes its mark.
-use mathlib.Core.Path.{sym, ap, _∙_}
+use mathlib.Core.Path.{sym, _∙_}
 use borrow.Author.Tests.{eq-eqb, ne-eqb}
-use Rattle.joins.specs.Joins.{hasMark, withMark}
 use borrow.Author.Needs.{needs}
 use Rattle.joins.proofs.token_meets.Statement.{statement}
 use Rattle.joins.proofs.token_meets.Tie as tie
