@@ -12,7 +12,7 @@ use Rattle.lent.proofs.Walks.{all-every, every-both, every-cong, some-cong}
 use Rattle.machine.specs.Sizes.{keyCount, keysFrom, keyWidth, rowCount, rowsFrom, rowWidth, sessionCount}
 use Rattle.machine.specs.Words.{INVALIDATE}
 use Rattle.machine.specs.State.{Staged, Row, noRow, row, State, rowAt}
-use Rattle.machine.specs.Sound.{newAt, distinct, numberAt, tokenAt, numbersDistinct, tokensDistinct, liveRow, rowsLive, once, rowsOnce, shares, rowsAlone, leaseless, rowsLeaseless, joined}
+use Rattle.machine.specs.Sound.{distinct, numberAt, tokenAt, numbersDistinct, tokensDistinct, liveRow, rowsLive, once, rowsOnce, shares, rowsAlone, leaseless, rowsLeaseless, joined}
 use Rattle.layout.specs.Layout.{decStaged, decode}
 use Rattle.order.proofs.Numbers.{distinct-cong}
 use Rattle.joins.specs.Joins.{tokens, sessionNumbers, rowSession, rowKey, rowKind, isLive, pairOk, joinOk}

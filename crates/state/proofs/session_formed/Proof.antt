@@ -1,14 +1,13 @@
 -- A session is free, and its two words are 0, or each test is the next of its conditions.
-use Prim.Native.Nat.{ℕ, _<_}
+use Prim.Native.Nat.{ℕ}
 use mathlib.Core.Path.{_≡_, ap}
 use mathlib.Core.Bool.{_&&_}
-use mathlib.Core.List.{List}
 use native.Mathlib.Omega.{arith}
 use lib.Dec.{eqb, leb}
 use lib.ListN.{getD}
 use borrow.Author.Tests.{eq-eqb, ne-eqb, lt-ltb, le-ltb, le-leb, lt-leb}
 use borrow.Author.Needs.{needs}
-use Rattle.lent.specs.Bytes.{le16, le32, le64}
+use Rattle.lent.specs.Bytes.{le32, le64}
 use Rattle.machine.specs.Sizes.{stepMax}
 use Rattle.state.specs.Forms.{lifeFormed, sessionFormed}
 use Rattle.state.proofs.Zeros.{session-zeros}

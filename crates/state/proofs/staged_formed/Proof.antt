@@ -1,15 +1,14 @@
 -- The mark picks the case, and mark and kind are tested before the bytes.
-use Prim.Native.Nat.{ℕ, _+_}
+use Prim.Native.Nat.{_+_}
 use mathlib.Core.Path.{_≡_}
 use mathlib.Core.Bool.{_&&_}
-use mathlib.Core.List.{List}
 use native.Mathlib.Omega.{arith}
 use lib.Dec.{eqb}
 use lib.ListN.{getD}
 use borrow.Author.Tests.{eq-eqb, ne-eqb, le-leb, lt-leb, not-true, not-false}
 use borrow.Author.Needs.{needs}
 use Rattle.lent.specs.Bytes.{win}
-use Rattle.lent.specs.Tables.{if_then_else_, allZero}
+use Rattle.lent.specs.Tables.{allZero}
 use Rattle.machine.specs.Sizes.{valueMax}
 use Rattle.machine.specs.Words.{REFRESH, INCREMENTAL}
 use Rattle.state.specs.Forms.{stagedFormed}
