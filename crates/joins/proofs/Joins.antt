@@ -17,7 +17,7 @@ use Rattle.machine.specs.Words.{INVALIDATE}
 use Rattle.machine.specs.Sizes.{keyCount, keysFrom, keyWidth}
 use Rattle.order.specs.Order.{item}
 use Rattle.joins.specs.Bits.{wordBits}
-use Rattle.joins.specs.Joins.{rowSession, rowKey, rowKind, isLive, pairOk, joinOk, firstPlace, keyWords, holderWords, holds, withHolder, Taken, Came, beside, alone, On, Holder, Seen, Sessions, Ready, Joined}
+use Rattle.joins.specs.Joins.{rowSession, rowKey, rowKind, isLive, pairOk, joinOk, firstPlace, keyWords, holderWords, holds, withHolder, Taken, Came, dead, beside, alone, On, Holder, Seen, Sessions, Ready, Joined}
 use Rattle.joins.proofs.Lookup.{Stands, place-dead, place-live}
 use Rattle.order.proofs.Numbers.{last-or, same-or}
 use Rattle.joins.proofs.Holders.{Grown, grown-one, grown-all, no-bit, no-word}
@@ -115,7 +115,7 @@ module _ {s nums words : List ℕ} {i : ℕ} (y : Ready s i nums words) where
     join-leased e = refused (join-is ∙ rw (ne-eqb token 0 e))
 
     module _ {p : ℕ} (isp : p ≡ P n) (free : token ≡ 0) where
-      pub join-dead : p ≡ 0 → Joined s i false nums words
+      join-dead : {words′ : List ℕ} → p ≡ 0 → Joined s i false nums words′
       join-dead l = refused (join-is ∙ rw (eq-eqb token 0 free, place-dead s nums (y .sessions .gathered) n (sym isp ∙ l)))
 
       module _ (live : p ≡ 0 → ⊥) (b : k < keyCount) where
@@ -204,6 +204,7 @@ module _ {s nums words : List ℕ} {i : ℕ} (y : Ready s i nums words) where
                   let w = y .rows .found k (h .0) (h .1) (h .2) in
                   e ∙ sym (pair-fails (w .0) (w .1) (rw (ne-eqb (rowKind s i) INVALIDATE kind, and-false (eqb (rowKind s (w .0)) INVALIDATE), and-false (not (eqb (rowSession s (w .0)) n)))))
 
-        pub join-came : {kind : ℕ} {r : Bool} {words′ : List ℕ} → kind ≡ rowKind s i → Came words k (p - 1) kind r words′ → Joined s i r nums words′
-        join-came o (beside e a z) = join-beside (sym o ∙ e) a z
-        join-came o (alone e t) = join-alone (λ z. e (o ∙ z)) t
+      pub join-came : k < keyCount → {kind : ℕ} {r : Bool} {words′ : List ℕ} → kind ≡ rowKind s i → Came words k p kind r words′ → Joined s i r nums words′
+      join-came b o (dead l e w) = rw e (join-dead l)
+      join-came b o (beside v e a z) = join-beside v b (sym o ∙ e) a z
+      join-came b o (alone v e t) = join-alone v b (λ z. e (o ∙ z)) t

@@ -208,10 +208,11 @@ pub record Taken (words : List ℕ) (k : ℕ) (r : Bool) (words′ : List ℕ) :
   pub then-all : r ≡ true → words′ ≡ set (set words (k * keyWords) allBits) (k * keyWords + 1) allBits
   pub else-same : r ≡ false → words′ ≡ words
 
--- r says that a row of this kind may come to key k, and then it has its bits
-pub data Came (words : List ℕ) (k q kind : ℕ) (r : Bool) (words′ : List ℕ) : Type 0 where
-  beside : kind ≡ INVALIDATE → r ≡ not (holds words k q) → words′ ≡ withHolder words k q → Came words k q kind r words′
-  alone : (kind ≡ INVALIDATE → ⊥) → Taken words k r words′ → Came words k q kind r words′
+-- r says that a row of this kind, of the session whose place plus 1 is p, may come to key k, and then it has its bits
+pub data Came (words : List ℕ) (k p kind : ℕ) (r : Bool) (words′ : List ℕ) : Type 0 where
+  dead : p ≡ 0 → r ≡ false → words′ ≡ words → Came words k p kind r words′
+  beside : (p ≡ 0 → ⊥) → kind ≡ INVALIDATE → r ≡ not (holds words k (p - 1)) → words′ ≡ withHolder words k (p - 1) → Came words k p kind r words′
+  alone : (p ≡ 0 → ⊥) → (kind ≡ INVALIDATE → ⊥) → Taken words k r words′ → Came words k p kind r words′
 
 -- row j is before row i, used, and on key k
 pub record On (s : List ℕ) (i k j : ℕ) : Type 0 where

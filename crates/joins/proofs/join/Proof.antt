@@ -1,6 +1,6 @@
--- A free row passes; a leased key and a session that is not there fail; else the key's bits decide. Each return is a law of `Joins`.
+-- A free row passes; a leased key fails; else the session's place and the key's bits decide. Each return is a law of `Joins`.
 use mathlib.Core.Path.{refl, sym, _∙_}
-use Rattle.joins.proofs.Joins.{join-free, join-leased, join-dead, join-came}
+use Rattle.joins.proofs.Joins.{join-free, join-leased, join-came}
 use Rattle.joins.proofs.Lookup.{once-alone}
 use borrow.Author.Needs.{needs}
 use Rattle.joins.proofs.join.Statement.{statement}
@@ -47,13 +47,6 @@ place-requires : tie.Need-place-requires
 place-requires c κs = let e = c .before .before .before .before in let a = e .before .before .before in
     (once-alone (a .args .nums .now) (e .before .load-u32 .result) (a .pre .1 .1 .1 .sessions .once) (e .if1 .left), a .pre .1 .1 .0)
 
-returns-3 : tie.Need-returns-3
-returns-3 c = let a = c .before .before in let b = a .before .before in let e = b .before .before in
-    join-dead (e .before .before .before .pre .1 .1 .1) (e .before .load-u32 .ensures) (b .index .ensures .0) (e .if1 .left) (c .before .place .ensures .0) (sym (a .before .load-u322 .ensures) ∙ a .if2 .left) (c .if3 .taken)
-
-sub-comes : tie.Need-sub-comes
-sub-comes c = search needs
-
 add-comes : tie.Need-add-comes
 add-comes c = search needs
 
@@ -63,10 +56,10 @@ shared-slice-read-comes c = search needs
 comes-requires : tie.Need-comes-requires
 comes-requires c κs = search needs
 
-returns-4 : tie.Need-returns-4
-returns-4 c = let t = c .before .before .before in let a = t .before .before in let b = a .before .before in let e = b .before .before in
-    join-came (e .before .before .before .pre .1 .1 .1) (e .before .load-u32 .ensures) (b .index .ensures .0) (e .if1 .left) (t .before .place .ensures .0)
-    (sym (a .before .load-u322 .ensures) ∙ a .if2 .left) (t .if3 .left) (b .index .ensures .1) refl (c .comes .ensures)
+returns-3 : tie.Need-returns-3
+returns-3 c = let t = c .before .before .before in let a = t .before in let b = a .before .before in let e = b .before .before in
+    join-came (e .before .before .before .pre .1 .1 .1) (e .before .load-u32 .ensures) (b .index .ensures .0) (e .if1 .left) (t .place .ensures .0)
+    (sym (a .before .load-u322 .ensures) ∙ a .if2 .left) (b .index .ensures .1) refl (c .comes .ensures)
 
 pub join-spec : {M : Type 1} → statement M
 join-spec =
@@ -85,9 +78,7 @@ join-spec =
     load-u32-requires-2
     returns-2
     place-requires
-    returns-3
-    sub-comes
     add-comes
     shared-slice-read-comes
     comes-requires
-    returns-4)
+    returns-3)

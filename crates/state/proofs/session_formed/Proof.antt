@@ -1,24 +1,18 @@
 -- A session is free, and its two words are 0, or each test is the next of its conditions.
-use Prim.Native.Nat.{ℕ, _<_}
+use Prim.Native.Nat.{ℕ}
 use mathlib.Core.Path.{_≡_, ap}
 use mathlib.Core.Bool.{_&&_}
-use mathlib.Core.List.{List}
 use native.Mathlib.Omega.{arith}
 use lib.Dec.{eqb, leb}
 use lib.ListN.{getD}
 use borrow.Author.Tests.{eq-eqb, ne-eqb, lt-ltb, le-ltb, le-leb, lt-leb}
 use borrow.Author.Needs.{needs}
-use Rattle.lent.specs.Bytes.{le16, le32, le64}
+use Rattle.lent.specs.Bytes.{le32, le64}
 use Rattle.machine.specs.Sizes.{stepMax}
 use Rattle.state.specs.Forms.{lifeFormed, sessionFormed}
 use Rattle.state.proofs.Zeros.{session-zeros}
 use Rattle.state.proofs.session_formed.Statement.{statement}
 use Rattle.state.proofs.session_formed.Tie as tie
-
--- past the tests of its number and its unused byte, its steps and its life decide
-used-session : (limit next : ℕ) (x : List ℕ) → (le32 x 0 ≡ 0 → ⊥) → le32 x 0 < next → getD x 5 0 ≡ 0 → sessionFormed limit next x ≡ leb (le16 x 6) stepMax && lifeFormed limit x
-unfolding sessionFormed
-used-session limit next x u l z = rw (ne-eqb (le32 x 0) 0 u, lt-ltb (le32 x 0) next l, eq-eqb (getD x 5 0) 0 z)
 
 load-u32-requires : tie.Need-load-u32-requires
 load-u32-requires c κs = search needs
@@ -51,18 +45,22 @@ returns-4 c = let x = c .before .before .before .before .before .before .args .r
 load-u16-requires : tie.Need-load-u16-requires
 load-u16-requires c κs = search needs
 
+-- past the tests of its number and its unused byte, its steps and its life decide
+used : (c : tie.After-load-u16) → let a = c .before .before .before .before .before .before .before .args in sessionFormed (a .limit) (a .next) (a .r .now) ≡ leb (c .load-u16 .result) stepMax && lifeFormed (a .limit) (a .r .now)
+unfolding sessionFormed
+used c =
+    let args = c .before .before .before .before .before .before .before .args in
+    let x = args .r .now in
+    rw (ne-eqb (le32 x 0) 0 (omega arith), lt-ltb (le32 x 0) (args .next) (omega arith), eq-eqb (getD x 5 0) 0 (omega arith), ← c .load-u16 .ensures .0)
+
 returns-5 : tie.Need-returns-5
-returns-5 c =
-    let args = c .before .before .before .before .before .before .before .before .args in
-    rw (used-session (args .limit) (args .next) (args .r .now) (omega arith) (omega arith) (omega arith), lt-leb (le16 (args .r .now) 6) stepMax (omega arith))
+returns-5 c = rw (used (c .before), lt-leb _ stepMax (c .if5 .taken))
 
 life-formed-requires : tie.Need-life-formed-requires
 life-formed-requires c κs = search needs
 
 returns-6 : tie.Need-returns-6
-returns-6 c =
-    let args = c .before .before .before .before .before .before .before .before .before .args in
-    rw (used-session (args .limit) (args .next) (args .r .now) (omega arith) (omega arith) (omega arith), le-leb (le16 (args .r .now) 6) stepMax (omega arith)) (c .life-formed .ensures)
+returns-6 c = rw (used (c .before .before), le-leb _ stepMax (c .before .if5 .left)) (c .life-formed .ensures)
 
 pub session-formed-spec : {M : Type 1} → statement M
 session-formed-spec =

@@ -1,26 +1,20 @@
 -- The mark picks the case, and mark and kind are tested before the bytes.
-use Prim.Native.Nat.{ℕ, _+_}
+use Prim.Native.Nat.{_+_}
 use mathlib.Core.Path.{_≡_}
 use mathlib.Core.Bool.{_&&_}
-use mathlib.Core.List.{List}
 use native.Mathlib.Omega.{arith}
 use lib.Dec.{eqb}
 use lib.ListN.{getD}
-use borrow.Author.Tests.{eq-eqb, ne-eqb, le-leb, lt-leb}
+use borrow.Author.Tests.{eq-eqb, ne-eqb, le-leb, lt-leb, not-true, not-false}
 use borrow.Author.Needs.{needs}
 use Rattle.lent.specs.Bytes.{win}
-use Rattle.lent.specs.Tables.{if_then_else_, allZero}
+use Rattle.lent.specs.Tables.{allZero}
 use Rattle.machine.specs.Sizes.{valueMax}
 use Rattle.machine.specs.Words.{REFRESH, INCREMENTAL}
 use Rattle.state.specs.Forms.{stagedFormed}
-use Rattle.lent.proofs.Choices.{test-failed, test-passed, if-both}
+use Rattle.lent.proofs.Choices.{if-both}
 use Rattle.state.proofs.staged_formed.Statement.{statement}
 use Rattle.state.proofs.staged_formed.Tie as tie
-
--- where no value is staged
-staged-other : (d : ℕ) (x : List ℕ) → (getD x 6 0 ≡ 1 → ⊥) → stagedFormed d x ≡ (if eqb (getD x 6 0) 2 then eqb d INCREMENTAL else eqb (getD x 6 0) 0) && allZero (win x 7 (1 + valueMax))
-unfolding stagedFormed
-staged-other d x e = rw (ne-eqb (getD x 6 0) 1 e) (if-both (eqb (getD x 6 0) 2) (eqb d INCREMENTAL) (eqb (getD x 6 0) 0) (allZero (win x 7 (1 + valueMax))))
 
 shared-slice-read-mark : tie.Need-shared-slice-read-mark
 shared-slice-read-mark c = search needs
@@ -45,18 +39,22 @@ returns-2 c = let x = c .before .before .before .before .before .before .before 
 is-marked-requires : tie.Need-is-marked-requires
 is-marked-requires c κs = search needs
 
+-- where no value is staged, mark and kind, then the bytes
+other : (c : tie.After-is-marked) → let a = c .before .before .before .before .args in stagedFormed (a .kind) (a .r .now) ≡ c .is-marked .result && allZero (win (a .r .now) 7 (1 + valueMax))
+unfolding stagedFormed
+other c =
+    let args = c .before .before .before .before .args in
+    let m = getD (args .r .now) 6 0 in
+    rw (ne-eqb m 1 (omega arith), c .is-marked .ensures) (if-both (eqb m 2) (eqb (args .kind) INCREMENTAL) (eqb m 0) (allZero (win (args .r .now) 7 (1 + valueMax))))
+
 returns-3 : tie.Need-returns-3
-returns-3 c =
-    let args = c .before .before .before .before .before .args in
-    rw (staged-other (args .kind) (args .r .now) (omega arith), test-failed (c .before .is-marked .ensures) (c .if3 .taken))
+returns-3 c = rw (other (c .before), not-true (c .before .is-marked .result) (c .if3 .taken))
 
 is-plain-requires : tie.Need-is-plain-requires
 is-plain-requires c κs = search needs
 
 returns-4 : tie.Need-returns-4
-returns-4 c =
-    let args = c .before .before .before .before .before .before .args in
-    rw (staged-other (args .kind) (args .r .now) (omega arith), test-passed (c .before .before .is-marked .ensures) (c .before .if3 .left)) (c .is-plain .ensures)
+returns-4 c = rw (other (c .before .before), not-false (c .before .before .is-marked .result) (c .before .if3 .left)) (c .is-plain .ensures)
 
 pub staged-formed-spec : {M : Type 1} → statement M
 staged-formed-spec =
