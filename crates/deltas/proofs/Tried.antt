@@ -7,9 +7,9 @@ use Prim.Native.Nat.{ℕ, _≤_, _<_}
 use lib.ListN.{length, set}
 use Rattle.machine.specs.Sizes.{keyCount, stepMax, valueMax}
 use Rattle.machine.specs.Words.{isOperation, ARG, LONG, INCREMENTAL}
-use Rattle.machine.specs.State.{Value, session, Staged, Row, State, stagedIn, rowOf, rowAt, cached}
+use Rattle.machine.specs.State.{Value, session, Row, State, stagedIn, rowOf, rowAt, cached}
 use Rattle.machine.specs.Expiry.{withSessions, withRows}
-use Rattle.machine.specs.Effects.{told, changed, stagedAnswer, restaged, effect}
+use Rattle.machine.specs.Effects.{told, orDrop, changed, stagedAnswer, restaged, effect}
 use Rattle.machine.specs.declared.Session.{Session}
 use Rattle.machine.specs.declared.Answer.{Answer}
 use Rattle.machine.specs.declared.Command.the-variants.{Delta}
@@ -19,7 +19,8 @@ use Rattle.layout.specs.Holds.{Holds}
 use Rattle.stages.specs.Staging.{stagingOf}
 use Rattle.stages.specs.declared.Staging.{Staging}
 use Rattle.stages.proofs.Staged.{stagedBy, staged-by}
-use Rattle.deltas.specs.Changes.{changedIn, changes}
+use Rattle.deltas.specs.declared.Changed.{Changed}
+use Rattle.deltas.specs.Changes.{valueIn, changedIn, changes}
 
 -- DELTA's arguments are right
 pub record Right (m k o : ℕ) (x : Value) : Type 0 where
@@ -61,8 +62,8 @@ module _ (s : State) (n step k operation : ℕ) (x : Value) where
 
 -- ---- what is staged
 
--- the change of row i on key k, once u is what it stages
-pub change-gives : (s : State) (i k operation : ℕ) (x : Value) {u : Staged} {b : List ℕ} → u ≡ changedIn s i k operation x
-    → Holds b (withRows s (set (s .rows) i (restaged u (rowAt s i)))) → Gives (changes s i k operation x) (stagedAnswer u) b
+-- the change of row i on key k, once what was made is known: a, which the buffer o has, is to be staged, and d, which is a, is staged
+pub change-gives : (s : State) (i k operation : ℕ) (x : Value) (o : List ℕ) {a d : Changed} {b : List ℕ} → orDrop (valueIn a o) ≡ changedIn s i k operation x → a ≡ d
+    → Holds b (withRows s (set (s .rows) i (restaged (orDrop (valueIn d o)) (rowAt s i)))) → Gives (changes s i k operation x) (stagedAnswer (orDrop (valueIn d o))) b
 unfolding changes
-change-gives s i k operation x e h = rw (← e) (record { answer = refl; holds = h })
+change-gives s i k operation x o made e h = rw (← made, e) (record { answer = refl; holds = h })
