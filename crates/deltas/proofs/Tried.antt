@@ -10,6 +10,7 @@ use Rattle.machine.specs.Words.{isOperation, ARG, LONG, INCREMENTAL}
 use Rattle.machine.specs.State.{Value, session, Row, State, stagedIn, rowOf, rowAt, cached}
 use Rattle.machine.specs.Expiry.{withSessions, withRows}
 use Rattle.machine.specs.Effects.{told, orDrop, changed, stagedAnswer, restaged, effect}
+use Rattle.machine.specs.Sound.{sound}
 use Rattle.machine.specs.declared.Session.{Session}
 use Rattle.machine.specs.declared.Answer.{Answer}
 use Rattle.machine.specs.declared.Command.the-variants.{Delta}
@@ -18,7 +19,7 @@ use Rattle.outcome.specs.Outcome.{tried, Gives}
 use Rattle.layout.specs.Holds.{Holds}
 use Rattle.stages.specs.Staging.{stagingOf}
 use Rattle.stages.specs.declared.Staging.{Staging}
-use Rattle.stages.proofs.Staged.{stagedBy, staged-by}
+use Rattle.stages.proofs.Staged.{stagedBy, staged-by, staging-at}
 use Rattle.deltas.specs.declared.Changed.{Changed}
 use Rattle.deltas.specs.Changes.{valueIn, changedIn, changes}
 
@@ -55,10 +56,11 @@ module _ (s : State) (n step k operation : ℕ) (x : Value) where
         (staged-by s n step k INCREMENTAL (changed operation x (stagedIn (rowOf s n k)) (cached s k)) e)
 
     -- the session at place i and its row at place j: the session's next record, and then the row's change
-    pub delta-changes : (i j : ℕ) (y : Session) → stagingOf s n step k INCREMENTAL ≡ Staging.At i j y → rowOf s n k ≡ rowAt s j
+    pub delta-changes : sound s ≡ true → (i j : ℕ) (y : Session) → stagingOf s n step k INCREMENTAL ≡ Staging.At i j y
         → tried s 0 (Delta n step k operation) x ≡ changes (withSessions s (set (s .sessions) i (session y))) j k operation x
     unfolding changes
-    delta-changes i j y e r = delta-found e ∙ ap (λ (u : Row). stagedBy s (changed operation x (stagedIn u) (cached s k)) (Staging.At i j y)) r
+    delta-changes ok i j y e =
+        delta-found e ∙ ap (λ (u : Row). stagedBy s (changed operation x (stagedIn u) (cached s k)) (Staging.At i j y)) (staging-at s n step k INCREMENTAL ok i j y e .row)
 
 -- ---- what is staged
 
