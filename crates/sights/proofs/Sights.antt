@@ -1,12 +1,13 @@
 -- What is seen on a key, by the marks in the bytes: a row's mark and kind decide between its staged value, nothing and the cached value, and
 -- a lookup decides between a row of one's own and none.
 use mathlib.Core.Path.{_≡_, refl}
-use mathlib.Core.Bool.{true, false}
+use mathlib.Core.Bool.{Bool, true, false}
 use mathlib.Core.Option.{Option, none, some}
 use Prim.Native.Nat.{ℕ}
 use native.Mathlib.Omega.{arith}
+use lib.Dec.{eqb}
 use lib.ListN.{length}
-use borrow.Author.Tests.{eq-eqb, ne-eqb}
+use Rattle.lent.specs.Tables.{if_then_else_}
 use Rattle.lent.proofs.Choices.{clash}
 use Rattle.machine.specs.Sizes.{rowCount, valueAt, stagedAt}
 use Rattle.machine.specs.Tables.{isNone}
@@ -47,24 +48,13 @@ module _ (i k : ℕ) (c : Option Value) where
   row-dropped (row n j d (staged v)) e = absurd (omega arith)
   row-dropped (row n j d DROP) e = refl
 
-  module _ (r : Row) (value : stagedMark (stagedIn r) ≡ VALUED → ⊥) (drop : stagedMark (stagedIn r) ≡ DROPPED → ⊥) where
-    pub row-invalidates : kindOf r ≡ INVALIDATE → rowSight i k r c ≡ none
-    row-invalidates e = go r value drop e
-      where
-        go : (x : Row) → (stagedMark (stagedIn x) ≡ VALUED → ⊥) → (stagedMark (stagedIn x) ≡ DROPPED → ⊥) → kindOf x ≡ INVALIDATE → rowSight i k x c ≡ none
-        go noRow p q e = absurd (omega arith)
-        go (row n j d nothing) p q e = rw (eq-eqb d INVALIDATE e)
-        go (row n j d (staged v)) p q e = absurd (p refl)
-        go (row n j d DROP) p q e = absurd (q refl)
-
-    pub row-unstaged : (kindOf r ≡ INVALIDATE → ⊥) → rowSight i k r c ≡ cachedSight k c
-    row-unstaged e = go r value drop e
-      where
-        go : (x : Row) → (stagedMark (stagedIn x) ≡ VALUED → ⊥) → (stagedMark (stagedIn x) ≡ DROPPED → ⊥) → (kindOf x ≡ INVALIDATE → ⊥) → rowSight i k x c ≡ cachedSight k c
-        go noRow p q e = refl
-        go (row n j d nothing) p q e = rw (ne-eqb d INVALIDATE e)
-        go (row n j d (staged v)) p q e = absurd (p refl)
-        go (row n j d DROP) p q e = absurd (q refl)
+  -- nothing is staged: by its kind
+  pub row-unstaged : (r : Row) → (stagedMark (stagedIn r) ≡ VALUED → ⊥) → (stagedMark (stagedIn r) ≡ DROPPED → ⊥) → {t : Bool} → eqb (kindOf r) INVALIDATE ≡ t
+      → rowSight i k r c ≡ (if t then none else cachedSight k c)
+  row-unstaged noRow p q e = rw (← e)
+  row-unstaged (row n j d nothing) p q e = rw (← e)
+  row-unstaged (row n j d (staged v)) p q e = absurd (p refl)
+  row-unstaged (row n j d DROP) p q e = absurd (q refl)
 
 -- ---- a lookup
 
