@@ -85,12 +85,13 @@ module _ (s : State) (ok : sound s ≡ true) (now n : ℕ) where
   pub left-none : found sessionCount (sessionPlace s n) ≡ Found.Nothing → sessionOf (expire now s) n ≡ noSession
   left-none f = session-expired s ok now n ∙ ap (freeDue now) (nothing-entry (numbered n) noSession (s .sessions) sessionCount (sessions-length s ok) f)
 
-  pub left-by : (i : ℕ) → found sessionCount (sessionPlace s n) ≡ Found.At i → (t : Bool) → isDue now (sessionIn (sessionAt s i)) ≡ t
-      → sessionOf (expire now s) n ≡ (if t then noSession else session (sessionIn (sessionAt s i)))
-  left-by i f t d =
+  -- x stands where it was found
+  pub left-by : {i : ℕ} {x : Session} {t : Bool} → found sessionCount (sessionPlace s n) ≡ Found.At i → x ≡ sessionIn (sessionAt s i) → isDue now x ≡ t
+      → sessionOf (expire now s) n ≡ (if t then noSession else session x)
+  left-by {i} {x} {t} f e d =
       session-expired s ok now n
       ∙ ap (freeDue now) (found-entry (numbered n) noSession (s .sessions) sessionCount i f)
-      ∙ slot-left now n (sessionAt s i) (found-passes (numbered n) noSession (s .sessions) sessionCount i (sessions-length s ok) f) t d
+      ∙ rw e (slot-left now n (sessionAt s i) (found-passes (numbered n) noSession (s .sessions) sessionCount i (sessions-length s ok) f) t (rw e at d))
 
   -- ---- who is left
 
