@@ -32,7 +32,7 @@ use Rattle.deadlines.specs.Deadlines.{dueSlot}
 use Rattle.sweep.specs.Lapsing.{freeDue}
 use Rattle.sweep.proofs.Lapsing.{unmapped}
 use Rattle.refusals.specs.Left.{goes}
-use Rattle.refusals.proofs.Searches.{fullBy, full-by, full-mapped}
+use Rattle.refusals.proofs.Searches.{isAt, found-any, full-mapped}
 use Rattle.refusals.proofs.Expired.{due, rows-expired, sessions-expired, due-is}
 
 grants-over-lease : (kind : ℕ) → Within INVALIDATE INCREMENTAL kind → (o : Option Lease) → grants (decision (heldBy noRow o) kind) ≡ true
@@ -72,11 +72,11 @@ module _ (s : State) (ok : sound s ≡ true) (now : ℕ) where
           go false = refl
 
   -- by the search for a free one
-  pub sessions-full-told : {f g : Found} {t : Bool} → f ≡ found sessionCount (place free (s .sessions)) → f ≡ g → t ≡ any (dueSlot now) (s .sessions) → fullBy g t ≡ sessionsFull (expire now s)
-  sessions-full-told {g = g} p q r = ap (fullBy g) r ∙ full-by free noSession (s .sessions) sessionCount (sessions-length s ok) g _ (sym p ∙ q) ∙ sym sessions-full-expired
+  pub sessions-full-told : {f g : Found} {t : Bool} → f ≡ found sessionCount (place free (s .sessions)) → f ≡ g → t ≡ any (dueSlot now) (s .sessions) → not (isAt g || t) ≡ sessionsFull (expire now s)
+  sessions-full-told p q r = rw (r, ← found-any free noSession (s .sessions) sessionCount (sessions-length s ok) p q) (sym sessions-full-expired)
 
-  pub rows-full-told : {f g : Found} {t : Bool} → f ≡ found rowCount (place freeRow (s .rows)) → f ≡ g → t ≡ any (goes now s) (s .rows) → fullBy g t ≡ rowsFull (expire now s)
-  rows-full-told {g = g} p q r = ap (fullBy g) r ∙ full-by freeRow noRow (s .rows) rowCount (rows-length s ok) g _ (sym p ∙ q) ∙ sym rows-full-expired
+  pub rows-full-told : {f g : Found} {t : Bool} → f ≡ found rowCount (place freeRow (s .rows)) → f ≡ g → t ≡ any (goes now s) (s .rows) → not (isAt g || t) ≡ rowsFull (expire now s)
+  rows-full-told p q r = rw (r, ← found-any freeRow noRow (s .rows) rowCount (rows-length s ok) p q) (sym rows-full-expired)
 
   module _ (full : rowsFull (expire now s) ≡ true) where
     rows-stay : expire now s .rows ≡ s .rows

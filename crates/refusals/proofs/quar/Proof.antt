@@ -46,7 +46,7 @@ returns-3 : tie.Need-returns-3
 returns-3 c =
     let key = c .before .before .before .before .before .if1 .left in
     let kind = test-passed (c .before .before .before .before .is-kind .ensures) (c .before .before .before .if2 .left) in
-    λ σ h ok. meets (quar-not-live _ _ _ _ _ key kind (left-nobody _ (sym (c .before .before .session .ensures σ h ok) ∙ c .enum-told .given .1)))
+    λ σ h ok. meets (quar-not-live _ _ _ _ _ key kind (left-nobody _ (c .before .before .session .ensures σ h ok) (c .enum-told .given .1)))
 
 is-sealed-requires : tie.Need-is-sealed-requires
 is-sealed-requires c κs = search needs
@@ -55,7 +55,7 @@ returns-4 : tie.Need-returns-4
 returns-4 c =
     let key = c .before .before .before .before .before .before .before .before .if1 .left in
     let kind = test-passed (c .before .before .before .before .before .before .before .is-kind .ensures) (c .before .before .before .before .before .before .if2 .left) in
-    λ σ h ok. meets (quar-sealed _ _ _ _ _ key kind _ (left-is _ _ (sym (c .before .before .before .before .before .session .ensures σ h ok) ∙ c .before .before .before .x .given .1)) (sym (c .before .is-sealed .ensures) ∙ c .if3 .taken))
+    λ σ h ok. meets (quar-sealed _ _ _ _ _ key kind _ (left-is _ (c .before .before .before .before .before .session .ensures σ h ok) (c .before .before .before .x .given .1)) (sym (c .before .is-sealed .ensures) ∙ c .if3 .taken))
 
 rows-full-requires : tie.Need-rows-full-requires
 rows-full-requires c κs = search needs
@@ -73,7 +73,7 @@ asks c σ h ok =
     record {
       key = if1 .left;
       kind = test-passed (is-kind .ensures) (if2 .left);
-      live = left-is _ _ (sym (session .ensures σ h ok) ∙ x .given .1);
+      live = left-is _ (session .ensures σ h ok) (x .given .1);
       unsealed = sym (is-sealed .ensures) ∙ if3 .left;
     }
 
