@@ -12,7 +12,7 @@ use Rattle.lent.proofs.Choices.{clash}
 use Rattle.machine.specs.Sizes.{rowCount, valueAt, stagedAt}
 use Rattle.machine.specs.Tables.{isNone}
 use Rattle.machine.specs.State.{Value, nothing, staged, DROP, Row, noRow, row, State, freeRow, ofOn, kindOf, stagedIn, rowAt, rowOf, rowPlace, cached}
-use Rattle.machine.specs.Refusals.{cachedSight, rowSight, sight}
+use Rattle.machine.specs.Refusals.{Sight as Seen, cachedSight, rowSight, sight}
 use Rattle.machine.specs.Words.{INVALIDATE}
 use Rattle.machine.proofs.Views.{of-on-taken}
 use Rattle.layout.specs.Fields.{VALUED, DROPPED, valueLength, stagedMark, stagedLength}
@@ -58,6 +58,10 @@ module _ (i k : ℕ) (c : Option Value) where
 
 -- ---- a lookup
 
+abbrev pub sightBy : State → ℕ → Found → Option Seen
+sightBy s k (Found.At i) = rowSight i k (rowAt s i) (cached s k)
+sightBy s k Found.Nothing = cachedSight k (cached s k)
+
 module _ (s : State) (n k : ℕ) where
   pub row-taken : (i : ℕ) → length (s .rows) ≡ rowCount → found rowCount (rowPlace s n k) ≡ Found.At i → freeRow (rowOf s n k) ≡ false
   row-taken i l f =
@@ -67,10 +71,11 @@ module _ (s : State) (n k : ℕ) where
   pub row-missing : length (s .rows) ≡ rowCount → found rowCount (rowPlace s n k) ≡ Found.Nothing → rowOf s n k ≡ noRow
   row-missing l e = nothing-entry (ofOn n k) noRow (s .rows) rowCount l e
 
-  pub sight-row : (i : ℕ) → found rowCount (rowPlace s n k) ≡ Found.At i → sight s n k ≡ rowSight i k (rowAt s i) (cached s k)
+  -- by what the search for the row told
+  pub sight-by : length (s .rows) ≡ rowCount → {r : Found} → found rowCount (rowPlace s n k) ≡ r → sight s n k ≡ sightBy s k r
   unfolding sight
-  sight-row i e = rw (found-at rowCount (rowPlace s n k) i e .0)
-
-  pub sight-cached : length (s .rows) ≡ rowCount → found rowCount (rowPlace s n k) ≡ Found.Nothing → sight s n k ≡ cachedSight k (cached s k)
-  unfolding sight
-  sight-cached l e = rw (row-missing l e)
+  sight-by l e = go _ e
+    where
+      go : (r : Found) → found rowCount (rowPlace s n k) ≡ r → rowSight (rowPlace s n k) k (rowOf s n k) (cached s k) ≡ sightBy s k r
+      go (Found.At i) e = rw (found-at rowCount (rowPlace s n k) i e .0)
+      go Found.Nothing e = rw (row-missing l e)
