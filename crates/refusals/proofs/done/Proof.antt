@@ -1,5 +1,4 @@
 -- Whoever is left decides: nobody, one who is not sealed, or one who may go.
-use mathlib.Core.Path.{sym, _∙_}
 use Rattle.lent.proofs.Choices.{test-failed, test-passed}
 use Rattle.machine.proofs.FirstRefusal.{done-not-live, done-open, done-none}
 use Rattle.refusals.proofs.Lefts.{left-is, left-nobody, meets}

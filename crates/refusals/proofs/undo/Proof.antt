@@ -1,5 +1,4 @@
 -- Whoever is left may go.
-use mathlib.Core.Path.{sym, _∙_}
 use Rattle.machine.proofs.FirstRefusal.{undo-not-live, undo-none}
 use Rattle.refusals.proofs.Lefts.{left-is, left-nobody, meets}
 use borrow.Author.Needs.{needs}

@@ -1,5 +1,5 @@
 -- The search finds no session (`undo-none`) or its place, and the session leaves, open or sealed.
-use mathlib.Core.Path.{refl, sym, _∙_}
+use mathlib.Core.Path.{refl}
 use Rattle.outcome.proofs.Told.{gives}
 use Rattle.machine.specs.Sizes.{sessionCount}
 use Rattle.layout.proofs.Search.{found-below}
