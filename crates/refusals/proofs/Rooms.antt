@@ -97,7 +97,7 @@ module _ (s : State) (ok : sound s ≡ true) (now : ℕ) where
         go noRow = grants-over-lease kind d (leaseOn (expire now s) k) ∙ sym (grants-over-lease kind d (leaseOn s k))
         go (row m j d u) = refl
 
-    -- refused if it would be granted on the state as it is
+    -- QUAR by an open session is refused if it would be granted on the state as it is
     pub quar-expired : {n k kind : ℕ} {x : Session} {t : Bool} → Asks (expire now s) n k kind x → wouldGrant s (x .number) k kind ≡ t → first (refusals (expire now s) (Quar n k kind) []) ≡ (if t then some ROOM else none)
     quar-expired {n} {k} {kind} {x} w g =
         quar-full (expire now s) n k kind [] (w .key) (w .kind) x (w .live) (w .unsealed) full

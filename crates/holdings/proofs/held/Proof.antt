@@ -45,17 +45,17 @@ lease-token-requires : tie.Need-lease-token-requires
 lease-token-requires c κs = search needs
 
 -- no row is on the key
-rowless : (c : tie.After-lease-token) {t : Bool} → eqb (c .lease-token .result) 0 ≡ t → (σ : State) → let a = c .before .before .before .before .before .args in Holds (a .s .now) σ → (if t then 0 else 1) ≡ heldOn σ (a .k)
-rowless c q σ h =
+held-by : (c : tie.After-lease-token) {t : Bool} → eqb (c .lease-token .result) 0 ≡ t → (σ : State) → let a = c .before .before .before .before .before .args in Holds (a .s .now) σ → (if t then 0 else 1) ≡ heldOn σ (a .k)
+held-by c q σ h =
     let told = c .before .enum-told in
     let first-on = c .before .before .before .first-on in
     sym (held-leased σ _ (h .fits .rows) (sym (first-on .ensures .0 σ h) ∙ told .given .1) (key-fits h _ (omega arith) .lease) (rw (c .lease-token .ensures σ h) at q))
 
 returns-2 : tie.Need-returns-2
-returns-2 c = (λ σ h e. rowless (c .before) (eq-eqb _ _ (c .if1 .taken)) σ h, omega arith)
+returns-2 c = (λ σ h e. held-by (c .before) (eq-eqb _ _ (c .if1 .taken)) σ h, omega arith)
 
 returns-3 : tie.Need-returns-3
-returns-3 c = (λ σ h e. rowless (c .before) (ne-eqb _ _ (c .if1 .left)) σ h, omega arith)
+returns-3 c = (λ σ h e. held-by (c .before) (ne-eqb _ _ (c .if1 .left)) σ h, omega arith)
 
 pub held-spec : {M : Type 1} → statement M
 held-spec =

@@ -27,16 +27,16 @@ enum-told-2 : tie.Need-enum-told-2
 enum-told-2 c = search needs
 
 -- by who is left of a number other than 0
-unknown : (c : tie.After-session) {d : Left} → c .session .result ≡ d → (σ : State) → let a = c .before .before .before .args in Holds (a .s .now) σ → sound σ ≡ true
+unknown-by : (c : tie.After-session) {d : Left} → c .session .result ≡ d → (σ : State) → let a = c .before .before .before .args in Holds (a .s .now) σ → sound σ ≡ true
     → isNobody d ≡ (not (eqb (a .session) 0) && notLive (expire (a .time) σ) (a .session))
-unknown c e σ h ok = let a = c .before .before .before .args in
+unknown-by c e σ h ok = let a = c .before .before .before .args in
     rw (ne-eqb (a .session) 0 (c .before .if1 .left)) (left-free (sessionOf (expire (a .time) σ) (a .session)) (c .session .ensures σ h ok) e)
 
 returns-2 : tie.Need-returns-2
-returns-2 c = unknown (c .before .before) (c .enum-told .given .1)
+returns-2 c = unknown-by (c .before .before) (c .enum-told .given .1)
 
 returns-3 : tie.Need-returns-3
-returns-3 c = unknown (c .before .before) (c .enum-told2 .given .1)
+returns-3 c = unknown-by (c .before .before) (c .enum-told2 .given .1)
 
 pub is-unknown-spec : {M : Type 1} → statement M
 is-unknown-spec =

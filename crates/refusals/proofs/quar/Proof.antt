@@ -61,7 +61,8 @@ rows-full-requires : tie.Need-rows-full-requires
 rows-full-requires c κs = search needs
 
 -- the tests before that of the rows are passed
-asks : (c : tie.After-rows-full) (σ : State) → let a = c .before .before .before .before .before .before .before .before .before .before .before .args in Holds (a .s .now) σ → sound σ ≡ true → Asks (expire (a .time) σ) (a .session) (a .key) (a .kind) (c .before .before .before .before .x .given .0 .0)
+asks : (c : tie.After-rows-full) (σ : State) → let a = c .before .before .before .before .before .before .before .before .before .before .before .args in Holds (a .s .now) σ → sound σ ≡ true
+    → Asks (expire (a .time) σ) (a .session) (a .key) (a .kind) (c .before .before .before .before .x .given .0 .0)
 asks c σ h ok =
     let if3 = c .before .if3 in
     let is-sealed = c .before .before .is-sealed in

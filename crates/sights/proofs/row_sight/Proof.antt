@@ -43,9 +43,9 @@ kind-requires : tie.Need-kind-requires
 kind-requires c κs = search needs
 
 -- nothing is staged
-unstaged : (c : tie.After-kind) {t : Bool} → eqb (c .kind .result) INVALIDATE ≡ t → (σ : State) → let a = c .before .before .before .before .before .args in Holds (a .s .now) σ
+row-sight-by : (c : tie.After-kind) {t : Bool} → eqb (c .kind .result) INVALIDATE ≡ t → (σ : State) → let a = c .before .before .before .before .before .args in Holds (a .s .now) σ
     → placed (if t then none else cachedSight (a .k) (cached σ (a .k))) ≡ placed (rowSight (a .i) (a .k) (rowAt σ (a .i)) (cached σ (a .k)))
-unstaged c q σ h =
+row-sight-by c q σ h =
     let if2 = c .before .if2 in
     let if1 = c .before .before .if1 in
     let mark = c .before .before .before .mark in
@@ -53,13 +53,13 @@ unstaged c q σ h =
     sym (ap placed (row-unstaged (a .i) (a .k) (cached σ (a .k)) (rowAt σ (a .i)) (λ e. if1 .left (mark .ensures σ h ∙ e)) (λ e. if2 .left (mark .ensures σ h ∙ e)) (rw (c .kind .ensures σ h) at q)))
 
 returns-3 : tie.Need-returns-3
-returns-3 c = (unstaged (c .before) (eq-eqb _ _ (c .if3 .taken)), tt)
+returns-3 c = (row-sight-by (c .before) (eq-eqb _ _ (c .if3 .taken)), tt)
 
 cached-sight-requires : tie.Need-cached-sight-requires
 cached-sight-requires c κs = search needs
 
 returns-4 : tie.Need-returns-4
-returns-4 c = (λ σ h. c .cached-sight .ensures .0 σ h ∙ unstaged (c .before .before) (ne-eqb _ _ (c .before .if3 .left)) σ h, c .cached-sight .ensures .1)
+returns-4 c = (λ σ h. c .cached-sight .ensures .0 σ h ∙ row-sight-by (c .before .before) (ne-eqb _ _ (c .before .if3 .left)) σ h, c .cached-sight .ensures .1)
 
 pub row-sight-spec : {M : Type 1} → statement M
 row-sight-spec =

@@ -44,21 +44,21 @@ stage-requires c κs = let place = c .before .before .before .before .before .be
     (search needs, (rw (place .given .1) at (find .ensures .1) .1, search needs))
 
 -- the tests before the search are passed, and it found d
-found : (c : tie.After-find) {d : Staging} → c .find .result ≡ d → (σ : State)
+tried-by : (c : tie.After-find) {d : Staging} → c .find .result ≡ d → (σ : State)
     → let a = c .before .before .before .before .before .before .before .args in Holds (a .s .now) σ → tried σ 0 (Stage (a .session) (a .step) (a .key)) (a .value .now) ≡ stagedBy σ (staged (a .value .now)) d
-found c e σ h = stage-found _ _ _ _ _ (c .before .before .before .before .if1 .left) (c .before .before .before .if2 .left) (c .before .before .if3 .left) (sym (c .find .ensures .0 σ h) ∙ e)
+tried-by c e σ h = stage-found _ _ _ _ _ (c .before .before .before .before .if1 .left) (c .before .before .before .if2 .left) (c .before .before .if3 .left) (sym (c .find .ensures .0 σ h) ∙ e)
 
 same-length : tie.Need-same-length
 same-length c = search needs
 
 returns-4 : tie.Need-returns-4
-returns-4 c = λ σ h ok. gives (found (c .before .before .before) (c .before .e .given .1) σ h) h
+returns-4 c = λ σ h ok. gives (tried-by (c .before .before .before) (c .before .e .given .1) σ h) h
 
 same-length-2 : tie.Need-same-length-2
 same-length-2 c = search needs
 
 returns-5 : tie.Need-returns-5
-returns-5 c = λ σ h ok. gives (found (c .before .before) (c .enum-told .given .1) σ h) h
+returns-5 c = λ σ h ok. gives (tried-by (c .before .before) (c .enum-told .given .1) σ h) h
 
 same-length-3 : tie.Need-same-length-3
 same-length-3 c = search needs
@@ -68,7 +68,7 @@ returns-6 c = let stage = c .before .before .stage in
     let store = c .before .before .before .before .before .before .store in
     let place = c .before .before .before .before .before .before .before .before .before .place in
     let searched = c .before .before .before .before .before .before .before .before .before .before .before in
-    λ σ h ok. gives (found searched (place .given .1) σ h)
+    λ σ h ok. gives (tried-by searched (place .given .1) σ h)
     (staging-stored σ _ _ _ _ ok (sym (searched .find .ensures .0 σ h) ∙ place .given .1) (store .ensures σ h) (stage .ensures _))
 
 pub stage-spec : {M : Type 1} → statement M

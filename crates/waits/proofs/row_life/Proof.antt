@@ -36,8 +36,8 @@ find-requires : tie.Need-find-requires
 find-requires c κs = search needs
 
 -- the row is on the key, and the search for its session told d
-on-key : (c : tie.After-find) {d : Found} → c .find .result ≡ d → (σ : State) → let a = c .before .before .before .before .before .before .args in Holds (a .s .now) σ → endBy σ d ≡ rowEnd σ (a .k) (rowAt σ (a .i))
-on-key c e σ h =
+ends-by : (c : tie.After-find) {d : Found} → c .find .result ≡ d → (σ : State) → let a = c .before .before .before .before .before .before .args in Holds (a .s .now) σ → endBy σ d ≡ rowEnd σ (a .k) (rowAt σ (a .i))
+ends-by c e σ h =
     let if2 = c .before .if2 in
     let key = c .before .before .key in
     let if1 = c .before .before .before .if1 in
@@ -53,13 +53,13 @@ enum-told : tie.Need-enum-told
 enum-told c = search needs
 
 returns-3 : tie.Need-returns-3
-returns-3 c = on-key (c .before .before) (c .enum-told .given .1)
+returns-3 c = ends-by (c .before .before) (c .enum-told .given .1)
 
 load-requires : tie.Need-load-requires
 load-requires c κs = let l : c .before .place .given .0 .0 < sessionCount = rw (c .before .place .given .1) at (c .before .before .before .find .ensures .1) in omega arith
 
 returns-4 : tie.Need-returns-4
-returns-4 c = λ σ h. ap (λ (x : Session). lifeEnd (x .life)) (c .load .ensures σ h) ∙ on-key (c .before .before .before .before) (c .before .before .place .given .1) σ h
+returns-4 c = λ σ h. ap (λ (x : Session). lifeEnd (x .life)) (c .load .ensures σ h) ∙ ends-by (c .before .before .before .before) (c .before .before .place .given .1) σ h
 
 pub row-life-spec : {M : Type 1} → statement M
 row-life-spec =

@@ -42,9 +42,9 @@ find-requires : tie.Need-find-requires
 find-requires c κs = search needs
 
 -- it is sealed, and the search for its row told d
-sealed : (c : tie.After-find) {d : Found} {b : List ℕ} → c .find .result ≡ d → (σ : State) → let a = c .before .before .before .before .before .before .before .before .before .before .args in Holds (a .cache .now) σ → sound σ ≡ true → (n : ℕ) → sessionPlace σ n ≡ a .i
+writes-by : (c : tie.After-find) {d : Found} {b : List ℕ} → c .find .result ≡ d → (σ : State) → let a = c .before .before .before .before .before .before .before .before .before .before .args in Holds (a .cache .now) σ → sound σ ≡ true → (n : ℕ) → sessionPlace σ n ≡ a .i
     → b ≡ withMark (a .book .now) (a .i) (c .before .before .before .before .before .before .before .load .result .number) → Writes σ (a .book .now) n (a .key) (a .i) (ruleBy d) b
-sealed c e σ h ok n p f =
+writes-by c e σ h ok n p f =
     written-by (here (c .before .before .before .before .before .before .before) σ h ok n p) _ _ f (h .fits .rows) (test-passed (c .before .before .is-sealed .ensures) (c .before .if1 .left)) (sym (c .find .ensures .0 σ h) ∙ e)
 
 enum-told : tie.Need-enum-told
@@ -57,13 +57,13 @@ same-length-2 : tie.Need-same-length-2
 same-length-2 c = search needs
 
 returns-2 : tie.Need-returns-2
-returns-2 c = λ σ h ok n p. sealed (c .before .before) (c .enum-told .given .1) σ h ok n p (c .before .before .before .before .before .before .before .set-mark .ensures)
+returns-2 c = λ σ h ok n p. writes-by (c .before .before) (c .enum-told .given .1) σ h ok n p (c .before .before .before .before .before .before .before .set-mark .ensures)
 
 same-length-3 : tie.Need-same-length-3
 same-length-3 c = search needs
 
 returns-3 : tie.Need-returns-3
-returns-3 c = λ σ h ok n p. sealed (c .before .before) (c .enum-told2 .given .1) σ h ok n p (c .before .before .before .before .before .before .before .set-mark .ensures)
+returns-3 c = λ σ h ok n p. writes-by (c .before .before) (c .enum-told2 .given .1) σ h ok n p (c .before .before .before .before .before .before .before .set-mark .ensures)
 
 pub mark-write-spec : {M : Type 1} → statement M
 mark-write-spec =

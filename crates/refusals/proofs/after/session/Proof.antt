@@ -31,19 +31,19 @@ due-requires : tie.Need-due-requires
 due-requires c κs = search needs
 
 -- by whether the session that was loaded is due
-left : (c : tie.After-due) {t : Bool} → c .due .result ≡ t → (σ : State) → let a = c .before .before .before .before .before .before .before .args in Holds (a .s .now) σ → sound σ ≡ true
+left-told : (c : tie.After-due) {t : Bool} → c .due .result ≡ t → (σ : State) → let a = c .before .before .before .before .before .before .before .args in Holds (a .s .now) σ → sound σ ≡ true
     → leftOf (if t then noSession else session (c .before .load .result)) ≡ leftOf (sessionOf (expire (a .time) σ) (a .n))
-left c e σ h ok =
+left-told c e σ h ok =
     let load = c .before .load in
     let i = c .before .before .before .i in
     let find = c .before .before .before .before .before .find in
     ap leftOf (sym (left-by σ ok _ _ (sym (find .ensures .0 σ h) ∙ i .given .1) (load .ensures σ h) (sym (c .due .ensures) ∙ e)))
 
 returns-2 : tie.Need-returns-2
-returns-2 c = left (c .before) (c .if1 .taken)
+returns-2 c = left-told (c .before) (c .if1 .taken)
 
 returns-3 : tie.Need-returns-3
-returns-3 c = left (c .before) (c .if1 .left)
+returns-3 c = left-told (c .before) (c .if1 .left)
 
 pub session-spec : {M : Type 1} → statement M
 session-spec =

@@ -36,9 +36,9 @@ first-on-requires : tie.Need-first-on-requires
 first-on-requires c κs = search needs
 
 -- no row and no lease stays on the key
-leaseless : (c : tie.After-first-on) {d : Found} → c .first-on .result ≡ d → (σ : State) → let a = c .before .before .before .before .before .before .args in Holds (a .s .now) σ → sound σ ≡ true → (n : ℕ)
+leases-by : (c : tie.After-first-on) {d : Found} → c .first-on .result ≡ d → (σ : State) → let a = c .before .before .before .before .before .before .args in Holds (a .s .now) σ → sound σ ≡ true → (n : ℕ)
     → (isAt d || isNone (cached σ (a .k))) ≡ wouldLease (expire (a .time) σ) n (a .k)
-leaseless c e σ h ok n =
+leases-by c e σ h ok n =
     let if2 = c .before .if2 in
     let is-leaseless = c .before .before .is-leaseless in
     let if1 = c .before .before .before .if1 in
@@ -50,7 +50,7 @@ enum-told : tie.Need-enum-told
 enum-told c = search needs
 
 returns-3 : tie.Need-returns-3
-returns-3 c = leaseless (c .before .before) (c .enum-told .given .1)
+returns-3 c = leases-by (c .before .before) (c .enum-told .given .1)
 
 enum-told-2 : tie.Need-enum-told-2
 enum-told-2 c = search needs
@@ -59,7 +59,7 @@ has-value-requires : tie.Need-has-value-requires
 has-value-requires c κs = search needs
 
 returns-4 : tie.Need-returns-4
-returns-4 c = λ σ h ok n. ap not (c .has-value .ensures σ h) ∙ Bool·not-not _ ∙ leaseless (c .before .before .before) (c .before .enum-told2 .given .1) σ h ok n
+returns-4 c = λ σ h ok n. ap not (c .has-value .ensures σ h) ∙ Bool·not-not _ ∙ leases-by (c .before .before .before) (c .before .enum-told2 .given .1) σ h ok n
 
 pub would-lease-spec : {M : Type 1} → statement M
 would-lease-spec =
