@@ -7,9 +7,10 @@ use Prim.Native.Nat.{ℕ, _≤_, _<_}
 use lib.ListN.{length, set}
 use Rattle.machine.specs.Sizes.{keyCount, stepMax, valueMax}
 use Rattle.machine.specs.Words.{isOperation, ARG, LONG, INCREMENTAL}
-use Rattle.machine.specs.State.{Value, session, Staged, Row, State, stagedIn, rowOf, rowAt, cached}
+use Rattle.machine.specs.State.{Value, session, Row, State, stagedIn, rowOf, rowAt, cached}
 use Rattle.machine.specs.Expiry.{withSessions, withRows}
-use Rattle.machine.specs.Effects.{told, changed, stagedAnswer, restaged, effect}
+use Rattle.machine.specs.Effects.{told, orDrop, changed, stagedAnswer, restaged, effect}
+use Rattle.machine.specs.Sound.{sound}
 use Rattle.machine.specs.declared.Session.{Session}
 use Rattle.machine.specs.declared.Answer.{Answer}
 use Rattle.machine.specs.declared.Command.the-variants.{Delta}
@@ -18,8 +19,9 @@ use Rattle.outcome.specs.Outcome.{tried, Gives}
 use Rattle.layout.specs.Holds.{Holds}
 use Rattle.stages.specs.Staging.{stagingOf}
 use Rattle.stages.specs.declared.Staging.{Staging}
-use Rattle.stages.proofs.Staged.{stagedBy, staged-by}
-use Rattle.deltas.specs.Changes.{changedIn, changes}
+use Rattle.stages.proofs.Staged.{stagedBy, staged-by, staging-at}
+use Rattle.deltas.specs.declared.Changed.{Changed}
+use Rattle.deltas.specs.Changes.{valueIn, changedIn, changes}
 
 -- DELTA's arguments are right
 pub record Right (m k o : ℕ) (x : Value) : Type 0 where
@@ -54,15 +56,16 @@ module _ (s : State) (n step k operation : ℕ) (x : Value) where
         (staged-by s n step k INCREMENTAL (changed operation x (stagedIn (rowOf s n k)) (cached s k)) e)
 
     -- the session at place i and its row at place j: the session's next record, and then the row's change
-    pub delta-changes : (i j : ℕ) (y : Session) → stagingOf s n step k INCREMENTAL ≡ Staging.At i j y → rowOf s n k ≡ rowAt s j
+    pub delta-changes : sound s ≡ true → (i j : ℕ) (y : Session) → stagingOf s n step k INCREMENTAL ≡ Staging.At i j y
         → tried s 0 (Delta n step k operation) x ≡ changes (withSessions s (set (s .sessions) i (session y))) j k operation x
     unfolding changes
-    delta-changes i j y e r = delta-found e ∙ ap (λ (u : Row). stagedBy s (changed operation x (stagedIn u) (cached s k)) (Staging.At i j y)) r
+    delta-changes ok i j y e =
+        delta-found e ∙ ap (λ (u : Row). stagedBy s (changed operation x (stagedIn u) (cached s k)) (Staging.At i j y)) (staging-at s n step k INCREMENTAL ok i j y e .row)
 
 -- ---- what is staged
 
--- the change of row i on key k, once u is what it stages
-pub change-gives : (s : State) (i k operation : ℕ) (x : Value) {u : Staged} {b : List ℕ} → u ≡ changedIn s i k operation x
-    → Holds b (withRows s (set (s .rows) i (restaged u (rowAt s i)))) → Gives (changes s i k operation x) (stagedAnswer u) b
+-- the change of row i on key k, once what was made is known: a, which the buffer o has, is to be staged, and d, which is a, is staged
+pub change-gives : (s : State) (i k operation : ℕ) (x : Value) (o : List ℕ) {a d : Changed} {b : List ℕ} → orDrop (valueIn a o) ≡ changedIn s i k operation x → a ≡ d
+    → Holds b (withRows s (set (s .rows) i (restaged (orDrop (valueIn d o)) (rowAt s i)))) → Gives (changes s i k operation x) (stagedAnswer (orDrop (valueIn d o))) b
 unfolding changes
-change-gives s i k operation x e h = rw (← e) (record { answer = refl; holds = h })
+change-gives s i k operation x o made e h = rw (← made, e) (record { answer = refl; holds = h })

@@ -26,7 +26,7 @@ use Rattle.layout.specs.Search.{found}
 use Rattle.layout.specs.declared.Found.{Found}
 use Rattle.outcome.specs.Outcome.{unless, tried, Gives}
 use Rattle.sights.specs.Sights.{placed}
-use Rattle.sights.proofs.Sights.{row-taken, row-missing, sight-row, sight-cached}
+use Rattle.sights.proofs.Sights.{row-taken, row-missing, sight-by}
 use Rattle.gets.specs.Got.{asked, absent, looked, others}
 use Rattle.sights.specs.declared.Sight.{Sight}
 
@@ -101,7 +101,7 @@ module _ (s : State) (now n k : ℕ) where
 
       -- a row of its own was found, or none
       pub got-held : {b : List ℕ} {i : ℕ} {r : Answer} → Holds b s → found rowCount (rowPlace s n k) ≡ Found.At i → r ≡ asked (placed (rowSight i k (rowAt s i) (cached s k))) → Gives (tried s now (Get n k) []) r b
-      got-held {b} {i} {r} g f q = go (sight s n k) refl (q ∙ sym (ap (λ (o : Option Seen). asked (placed o)) (sight-row s n k i f)))
+      got-held {b} {i} {r} g f q = go (sight s n k) refl (q ∙ sym (ap (λ (o : Option Seen). asked (placed o)) (sight-by s n k (g .fits .rows) f)))
         where
           go : (o : Option Seen) → sight s n k ≡ o → r ≡ asked (placed o) → Gives (tried s now (Get n k) []) r b
           go none p q = rw (got-ask p (row-taken s n k i (g .fits .rows) f)) (record { answer = q; holds = g })
@@ -109,7 +109,7 @@ module _ (s : State) (now n k : ℕ) where
 
       pub got-others : {b : List ℕ} → Holds b s → found rowCount (rowPlace s n k) ≡ Found.Nothing → tried s now (Get n k) [] ≡ others s now k
       unfolding others
-      got-others g f = go (cachedSight k (cached s k)) (sight-cached s n k (g .fits .rows) f)
+      got-others g f = go (cachedSight k (cached s k)) (sight-by s n k (g .fits .rows) f)
         where
           go : (o : Option Seen) → sight s n k ≡ o → tried s now (Get n k) [] ≡ looked s now k o
           go none p = got-absent p (rw (row-missing s n k (g .fits .rows) f))

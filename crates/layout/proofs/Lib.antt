@@ -6,3 +6,4 @@ pub mod Formed
 pub mod Held
 pub mod Parts
 pub mod Search
+pub mod Walked

@@ -12,7 +12,7 @@ use Rattle.lent.proofs.Choices.{clash, zero-one}
 use Rattle.machine.specs.Sizes.{sessionCount, stepMax}
 use Rattle.machine.specs.Tables.{first}
 use Rattle.machine.specs.Session.{isDue, advanced, sealed, isSealed, validationOf}
-use Rattle.machine.specs.State.{Slot, noSession, session, State, numbered, sessionPlace, sessionOf, sessionAt, rowPlace, rowOf}
+use Rattle.machine.specs.State.{Slot, noSession, session, State, free, numbered, sessionPlace, sessionOf, sessionAt, rowPlace, rowOf}
 use Rattle.machine.specs.Expiry.{expire}
 use Rattle.machine.specs.Sound.{sound}
 use Rattle.machine.specs.Refusals.{countOf, stagingRefusals, refusals}
@@ -42,13 +42,22 @@ use Rattle.refusals.proofs.Expired.{due-freed-was, session-expired, row
 pub meets : {o p : Option ℕ} → p ≡ o → refusalOf o ≡ refusalOf p
 meets e = ap refusalOf (sym e)
 
-pub left-is : (e : Slot) (x : Session) → leftOf e ≡ Left.Is x → e ≡ session x
-left-is noSession x q = zero-one cc
-left-is (session y) x q = let f : y ≡ x = cc in ap session f
+-- r, the code's word for what is left at e, is that x is, or that nobody is
+pub left-is : (e : Slot) {r : Left} {x : Session} → r ≡ leftOf e → r ≡ Left.Is x → e ≡ session x
+left-is noSession p q = zero-one cc
+left-is (session y) {x = x} p q = let f : y ≡ x = cc in ap session f
 
-pub left-nobody : (e : Slot) → leftOf e ≡ Left.Nobody → e ≡ noSession
-left-nobody noSession q = refl
-left-nobody (session y) q = zero-one cc
+pub left-nobody : (e : Slot) {r : Left} → r ≡ leftOf e → r ≡ Left.Nobody → e ≡ noSession
+left-nobody noSession p q = refl
+left-nobody (session y) p q = zero-one cc
+
+abbrev pub isNobody : Left → Bool
+isNobody (Left.Is x) = false
+isNobody Left.Nobody = true
+
+pub left-free : (e : Slot) {r d : Left} → r ≡ leftOf e → r ≡ d → isNobody d ≡ free e
+left-free noSession p q = rw (← q, p)
+left-free (session y) p q = rw (← q, p)
 
 -- the refusal in what a session that stages has found, and in what VALIDATE has
 abbrev pub refusalIn : Staging → Refusal
@@ -85,12 +94,13 @@ module _ (s : State) (ok : sound s ≡ true) (now n : ℕ) where
   pub left-none : found sessionCount (sessionPlace s n) ≡ Found.Nothing → sessionOf (expire now s) n ≡ noSession
   left-none f = session-expired s ok now n ∙ ap (freeDue now) (nothing-entry (numbered n) noSession (s .sessions) sessionCount (sessions-length s ok) f)
 
-  pub left-by : (i : ℕ) → found sessionCount (sessionPlace s n) ≡ Found.At i → (t : Bool) → isDue now (sessionIn (sessionAt s i)) ≡ t
-      → sessionOf (expire now s) n ≡ (if t then noSession else session (sessionIn (sessionAt s i)))
-  left-by i f t d =
+  -- x stands where it was found
+  pub left-by : {i : ℕ} {x : Session} {t : Bool} → found sessionCount (sessionPlace s n) ≡ Found.At i → x ≡ sessionIn (sessionAt s i) → isDue now x ≡ t
+      → sessionOf (expire now s) n ≡ (if t then noSession else session x)
+  left-by {i} {x} {t} f e d =
       session-expired s ok now n
       ∙ ap (freeDue now) (found-entry (numbered n) noSession (s .sessions) sessionCount i f)
-      ∙ slot-left now n (sessionAt s i) (found-passes (numbered n) noSession (s .sessions) sessionCount i (sessions-length s ok) f) t d
+      ∙ rw e (slot-left now n (sessionAt s i) (found-passes (numbered n) noSession (s .sessions) sessionCount i (sessions-length s ok) f) t (rw e at d))
 
   -- ---- who is left
 

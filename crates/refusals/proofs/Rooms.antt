@@ -32,12 +32,19 @@ use Rattle.deadlines.specs.Deadlines.{dueSlot}
 use Rattle.sweep.specs.Lapsing.{freeDue}
 use Rattle.sweep.proofs.Lapsing.{unmapped}
 use Rattle.refusals.specs.Left.{goes}
-use Rattle.refusals.proofs.Searches.{fullBy, full-by, full-mapped}
+use Rattle.refusals.proofs.Searches.{isAt, found-any, full-mapped}
 use Rattle.refusals.proofs.Expired.{due, rows-expired, sessions-expired, due-is}
 
 grants-over-lease : (kind : ℕ) → Within INVALIDATE INCREMENTAL kind → (o : Option Lease) → grants (decision (heldBy noRow o) kind) ≡ true
 grants-over-lease kind d none = ap grants (free-grants kind (omega (arith, d .1)))
 grants-over-lease kind d (some l) = ap grants (Q-voids-I kind (d .0) (omega (arith, d .1)))
+
+-- an open session x asks for a quarantine, and the arguments are right
+pub record Asks (s : State) (n k d : ℕ) (x : Session) : Type 0 where
+  pub key : k < keyCount
+  pub kind : isKind d ≡ true
+  pub live : sessionOf s n ≡ session x
+  pub unsealed : isSealed x ≡ false
 
 module _ (s : State) (ok : sound s ≡ true) (now : ℕ) where
   sessions-full-expired : sessionsFull (expire now s) ≡ not (any free (s .sessions) || any (dueSlot now) (s .sessions))
@@ -65,11 +72,11 @@ module _ (s : State) (ok : sound s ≡ true) (now : ℕ) where
           go false = refl
 
   -- by the search for a free one
-  pub sessions-full-told : {f g : Found} {t : Bool} → f ≡ found sessionCount (place free (s .sessions)) → f ≡ g → t ≡ any (dueSlot now) (s .sessions) → fullBy g t ≡ sessionsFull (expire now s)
-  sessions-full-told {g = g} p q r = ap (fullBy g) r ∙ full-by free noSession (s .sessions) sessionCount (sessions-length s ok) g _ (sym p ∙ q) ∙ sym sessions-full-expired
+  pub sessions-full-told : {f g : Found} {t : Bool} → f ≡ found sessionCount (place free (s .sessions)) → f ≡ g → t ≡ any (dueSlot now) (s .sessions) → not (isAt g || t) ≡ sessionsFull (expire now s)
+  sessions-full-told p q r = rw (r, ← found-any free noSession (s .sessions) sessionCount (sessions-length s ok) p q) (sym sessions-full-expired)
 
-  pub rows-full-told : {f g : Found} {t : Bool} → f ≡ found rowCount (place freeRow (s .rows)) → f ≡ g → t ≡ any (goes now s) (s .rows) → fullBy g t ≡ rowsFull (expire now s)
-  rows-full-told {g = g} p q r = ap (fullBy g) r ∙ full-by freeRow noRow (s .rows) rowCount (rows-length s ok) g _ (sym p ∙ q) ∙ sym rows-full-expired
+  pub rows-full-told : {f g : Found} {t : Bool} → f ≡ found rowCount (place freeRow (s .rows)) → f ≡ g → t ≡ any (goes now s) (s .rows) → not (isAt g || t) ≡ rowsFull (expire now s)
+  rows-full-told p q r = rw (r, ← found-any freeRow noRow (s .rows) rowCount (rows-length s ok) p q) (sym rows-full-expired)
 
   module _ (full : rowsFull (expire now s) ≡ true) where
     rows-stay : expire now s .rows ≡ s .rows
@@ -90,9 +97,8 @@ module _ (s : State) (ok : sound s ≡ true) (now : ℕ) where
         go noRow = grants-over-lease kind d (leaseOn (expire now s) k) ∙ sym (grants-over-lease kind d (leaseOn s k))
         go (row m j d u) = refl
 
-    -- QUAR by an open session x: refused if it would be granted on the state as it is
-    module _ (n k kind : ℕ) (a : k < keyCount) (d : isKind kind ≡ true) (x : Session) (e : sessionOf (expire now s) n ≡ session x) (u : isSealed x ≡ false) where
-      pub quar-expired : {t : Bool} → wouldGrant s (x .number) k kind ≡ t → first (refusals (expire now s) (Quar n k kind) []) ≡ (if t then some ROOM else none)
-      quar-expired {t} g =
-          quar-full (expire now s) n k kind [] a d x e u full
-          ∙ ap (λ (b : Bool). if b then some ROOM else none) (grants-expired n k kind (is-kind kind d) ∙ ap (λ (m : ℕ). wouldGrant s m k kind) (sym (session-of-number (expire now s) n x e)) ∙ g)
+    -- QUAR by an open session is refused if it would be granted on the state as it is
+    pub quar-expired : {n k kind : ℕ} {x : Session} {t : Bool} → Asks (expire now s) n k kind x → wouldGrant s (x .number) k kind ≡ t → first (refusals (expire now s) (Quar n k kind) []) ≡ (if t then some ROOM else none)
+    quar-expired {n} {k} {kind} {x} w g =
+        quar-full (expire now s) n k kind [] (w .key) (w .kind) x (w .live) (w .unsealed) full
+        ∙ ap (λ (b : Bool). if b then some ROOM else none) (grants-expired n k kind (is-kind kind (w .kind)) ∙ ap (λ (m : ℕ). wouldGrant s m k kind) (sym (session-of-number (expire now s) n x (w .live))) ∙ g)

@@ -18,10 +18,10 @@ use Rattle.layout.specs.declared.Found.{Found}
 use Rattle.layout.proofs.Search.{found-at, found-passes, found-full, count-most}
 use Rattle.endings.proofs.Searches.{any-hit}
 
--- what a search for a free entry tells of a full table: none, and that nothing else frees one
-abbrev pub fullBy : Found → Bool → Bool
-fullBy (Found.At i) t = false
-fullBy Found.Nothing t = not t
+-- a search has found something
+abbrev pub isAt : Found → Bool
+isAt (Found.At i) = true
+isAt Found.Nothing = false
 
 module _ {A : Type 0} (p : A → Bool) where
   -- ---- by the count of the others
@@ -43,16 +43,12 @@ module _ {A : Type 0} (p : A → Bool) where
   -- ---- by the search for its place
 
   module _ (d : A) (l : List A) (n : ℕ) (e : length l ≡ n) where
-    pub found-any : (i : ℕ) → found n (place p l) ≡ Found.At i → any p l ≡ true
-    found-any i f = let q = found-at n (place p l) i f in any-hit p d l i (omega arith) (found-passes p d l n i e f)
-
-    pub nothing-any : found n (place p l) ≡ Found.Nothing → any p l ≡ false
-    nothing-any f = not-true (any p l) (sym (full-any l n e) ∙ found-full p d l n e f)
-
-    -- whether no entry passes and nothing else does, by what is found
-    pub full-by : (f : Found) (t : Bool) → found n (place p l) ≡ f → fullBy f t ≡ not (any p l || t)
-    full-by (Found.At i) t g = rw (found-any i g)
-    full-by Found.Nothing t g = rw (nothing-any g)
+    pub found-any : {f g : Found} → f ≡ found n (place p l) → f ≡ g → any p l ≡ isAt g
+    found-any a b = go _ (sym a ∙ b)
+      where
+        go : (g : Found) → found n (place p l) ≡ g → any p l ≡ isAt g
+        go (Found.At i) f = let q = found-at n (place p l) i f in any-hit p d l i (omega arith) (found-passes p d l n i e f)
+        go Found.Nothing f = not-true (any p l) (sym (full-any l n e) ∙ found-full p d l n e f)
 
   -- ---- two tests
 

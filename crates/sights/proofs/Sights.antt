@@ -1,17 +1,18 @@
 -- What is seen on a key, by the marks in the bytes: a row's mark and kind decide between its staged value, nothing and the cached value, and
 -- a lookup decides between a row of one's own and none.
 use mathlib.Core.Path.{_≡_, refl}
-use mathlib.Core.Bool.{true, false}
+use mathlib.Core.Bool.{Bool, true, false}
 use mathlib.Core.Option.{Option, none, some}
 use Prim.Native.Nat.{ℕ}
 use native.Mathlib.Omega.{arith}
+use lib.Dec.{eqb}
 use lib.ListN.{length}
-use borrow.Author.Tests.{eq-eqb, ne-eqb}
+use Rattle.lent.specs.Tables.{if_then_else_}
 use Rattle.lent.proofs.Choices.{clash}
 use Rattle.machine.specs.Sizes.{rowCount, valueAt, stagedAt}
 use Rattle.machine.specs.Tables.{isNone}
 use Rattle.machine.specs.State.{Value, nothing, staged, DROP, Row, noRow, row, State, freeRow, ofOn, kindOf, stagedIn, rowAt, rowOf, rowPlace, cached}
-use Rattle.machine.specs.Refusals.{cachedSight, rowSight, sight}
+use Rattle.machine.specs.Refusals.{Sight as Seen, cachedSight, rowSight, sight}
 use Rattle.machine.specs.Words.{INVALIDATE}
 use Rattle.machine.proofs.Views.{of-on-taken}
 use Rattle.layout.specs.Fields.{VALUED, DROPPED, valueLength, stagedMark, stagedLength}
@@ -47,26 +48,19 @@ module _ (i k : ℕ) (c : Option Value) where
   row-dropped (row n j d (staged v)) e = absurd (omega arith)
   row-dropped (row n j d DROP) e = refl
 
-  module _ (r : Row) (value : stagedMark (stagedIn r) ≡ VALUED → ⊥) (drop : stagedMark (stagedIn r) ≡ DROPPED → ⊥) where
-    pub row-invalidates : kindOf r ≡ INVALIDATE → rowSight i k r c ≡ none
-    row-invalidates e = go r value drop e
-      where
-        go : (x : Row) → (stagedMark (stagedIn x) ≡ VALUED → ⊥) → (stagedMark (stagedIn x) ≡ DROPPED → ⊥) → kindOf x ≡ INVALIDATE → rowSight i k x c ≡ none
-        go noRow p q e = absurd (omega arith)
-        go (row n j d nothing) p q e = rw (eq-eqb d INVALIDATE e)
-        go (row n j d (staged v)) p q e = absurd (p refl)
-        go (row n j d DROP) p q e = absurd (q refl)
-
-    pub row-unstaged : (kindOf r ≡ INVALIDATE → ⊥) → rowSight i k r c ≡ cachedSight k c
-    row-unstaged e = go r value drop e
-      where
-        go : (x : Row) → (stagedMark (stagedIn x) ≡ VALUED → ⊥) → (stagedMark (stagedIn x) ≡ DROPPED → ⊥) → (kindOf x ≡ INVALIDATE → ⊥) → rowSight i k x c ≡ cachedSight k c
-        go noRow p q e = refl
-        go (row n j d nothing) p q e = rw (ne-eqb d INVALIDATE e)
-        go (row n j d (staged v)) p q e = absurd (p refl)
-        go (row n j d DROP) p q e = absurd (q refl)
+  -- nothing is staged: by its kind
+  pub row-unstaged : (r : Row) → (stagedMark (stagedIn r) ≡ VALUED → ⊥) → (stagedMark (stagedIn r) ≡ DROPPED → ⊥) → {t : Bool} → eqb (kindOf r) INVALIDATE ≡ t
+      → rowSight i k r c ≡ (if t then none else cachedSight k c)
+  row-unstaged noRow p q e = rw (← e)
+  row-unstaged (row n j d nothing) p q e = rw (← e)
+  row-unstaged (row n j d (staged v)) p q e = absurd (p refl)
+  row-unstaged (row n j d DROP) p q e = absurd (q refl)
 
 -- ---- a lookup
+
+abbrev pub sightBy : State → ℕ → Found → Option Seen
+sightBy s k (Found.At i) = rowSight i k (rowAt s i) (cached s k)
+sightBy s k Found.Nothing = cachedSight k (cached s k)
 
 module _ (s : State) (n k : ℕ) where
   pub row-taken : (i : ℕ) → length (s .rows) ≡ rowCount → found rowCount (rowPlace s n k) ≡ Found.At i → freeRow (rowOf s n k) ≡ false
@@ -77,10 +71,11 @@ module _ (s : State) (n k : ℕ) where
   pub row-missing : length (s .rows) ≡ rowCount → found rowCount (rowPlace s n k) ≡ Found.Nothing → rowOf s n k ≡ noRow
   row-missing l e = nothing-entry (ofOn n k) noRow (s .rows) rowCount l e
 
-  pub sight-row : (i : ℕ) → found rowCount (rowPlace s n k) ≡ Found.At i → sight s n k ≡ rowSight i k (rowAt s i) (cached s k)
+  -- by what the search for the row told
+  pub sight-by : length (s .rows) ≡ rowCount → {r : Found} → found rowCount (rowPlace s n k) ≡ r → sight s n k ≡ sightBy s k r
   unfolding sight
-  sight-row i e = rw (found-at rowCount (rowPlace s n k) i e .0)
-
-  pub sight-cached : length (s .rows) ≡ rowCount → found rowCount (rowPlace s n k) ≡ Found.Nothing → sight s n k ≡ cachedSight k (cached s k)
-  unfolding sight
-  sight-cached l e = rw (row-missing l e)
+  sight-by l e = go _ e
+    where
+      go : (r : Found) → found rowCount (rowPlace s n k) ≡ r → rowSight (rowPlace s n k) k (rowOf s n k) (cached s k) ≡ sightBy s k r
+      go (Found.At i) e = rw (found-at rowCount (rowPlace s n k) i e .0)
+      go Found.Nothing e = rw (row-missing l e)

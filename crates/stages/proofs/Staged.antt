@@ -88,3 +88,8 @@ module _ (s : State) (n step k kind : ℕ) where
             number = rw (← b) (omega arith);
             count = rw (← b) (omega arith);
           }
+
+  -- there the session's next record can be stored, and then the row staged in
+  pub staging-stored : sound s ≡ true → {i j : ℕ} {x : Session} → stagingOf s n step k kind ≡ Staging.At i j x → {A B : Type 0}
+      → (0 < x .number → x .count < 2 ^ 16 → A) → (A → freeRow (rowAt s j) ≡ false → B) → B
+  staging-stored ok e store stage = let a = staging-at ok _ _ _ e in stage (store (a .number) (a .count)) (a .taken)

@@ -1,6 +1,6 @@
 -- What SHOW comes to, case by case, and that the value which is seen stands at its place in the bytes: a cached value in its key's record, a
 -- staged one in its row's.
-use mathlib.Core.Path.{_≡_, refl, ap, _∙_, subst}
+use mathlib.Core.Path.{_≡_, refl, ap, subst}
 use mathlib.Core.Bool.{Bool, true, false, not, _&&_}
 use mathlib.Core.List.{List, []}
 use mathlib.Core.Option.{Option, none, some}
@@ -10,7 +10,6 @@ use lib.ListN.{length}
 use borrow.Author.Tests.{le-leb, lt-leb, leb-true, leb-false}
 use Rattle.lent.specs.Bytes.{win}
 use Rattle.lent.specs.Tables.{if_then_else_}
-use Rattle.lent.proofs.Choices.{zero-one}
 use Rattle.lent.proofs.Splice.{win-none}
 use Rattle.machine.specs.Sizes.{keyCount, valueAt, stagedAt}
 use Rattle.machine.specs.State.{Value, nothing, staged, DROP, Row, noRow, row, State, stagedIn, rowPlace, rowOf, rowAt, cached}
@@ -24,6 +23,8 @@ use Rattle.layout.specs.Holds.{Holds}
 use Rattle.layout.proofs.Held.{value-stands, staged-stands}
 use Rattle.sights.specs.Sights.{placed}
 use Rattle.sights.specs.declared.Sight.{Sight}
+use Rattle.stretches.specs.Stretch.{spanOf}
+use Rattle.stretches.specs.declared.Span.{Span}
 
 -- ---- where the value stands
 
@@ -60,11 +61,18 @@ module _ {b : List ℕ} {s : State} (h : Holds b s) (k : ℕ) (l : k < keyCount)
 abbrev pub bare : Answer → Shown
 bare a = record { answer = a; at = 0; value = [] }
 
--- a value is shown: its length and its place
-pub record Shows (x : Shown) (at n : ℕ) : Type 0 where
-  pub answer : x .answer ≡ Answer.Value n
-  pub place : x .at ≡ at
-  pub size : length (x .value) ≡ n
+-- what is answered and handed back where d is seen
+abbrev pub answerTo : Sight → Answer
+answerTo (Sight.At at m) = Answer.Value m
+answerTo Sight.Nothing = Answer.None
+
+abbrev pub spanTo : Sight → Span
+spanTo (Sight.At at m) = record { at = at; length = m }
+spanTo Sight.Nothing = record { at = 0; length = 0 }
+
+pub record Shows (x : Shown) (d : Sight) : Type 0 where
+  pub answer : answerTo d ≡ x .answer
+  pub span : spanTo d ≡ spanOf x
 
 module _ (s : State) (n k : ℕ) where
   pub shown-key : keyCount ≤ k → show s n k ≡ bare (Answer.Refused ARG)
@@ -81,19 +89,12 @@ module _ (s : State) (n k : ℕ) where
       unfolding show
       shown-seen = rw (lt-leb keyCount k l, e)
 
-      pub shown-none : placed (sight s n k) ≡ Sight.Nothing → show s n k ≡ bare Answer.None
-      shown-none p = shown-seen ∙ go (sight s n k) p
+      pub shown-by : {d : Sight} → placed (sight s n k) ≡ d → Shows (show s n k) d
+      shown-by p = rw (shown-seen, ← p) (go (sight s n k))
         where
-          go : (o : Option Seen) → placed o ≡ Sight.Nothing → seen o ≡ bare Answer.None
-          go none p = refl
-          go (some x) p = zero-one cc
-
-      pub shown-at : (at m : ℕ) → placed (sight s n k) ≡ Sight.At at m → Shows (show s n k) at m
-      shown-at at m p = rw shown-seen (go (sight s n k) p)
-        where
-          go : (o : Option Seen) → placed o ≡ Sight.At at m → Shows (seen o) at m
-          go none p = zero-one cc
-          go (some x) p = let z : length (x .value) ≡ m = cc in record { answer = ap Answer.Value z; place = cc; size = z }
+          go : (o : Option Seen) → Shows (seen o) (placed o)
+          go none = record { answer = refl; span = refl }
+          go (some x) = record { answer = refl; span = refl }
 
   -- what is handed back stands in the lent bytes, at its place
   pub shown-stands : {b : List ℕ} → Holds b s → Stands b (show s n k .at) (show s n k .value)

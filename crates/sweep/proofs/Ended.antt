@@ -10,28 +10,19 @@ use lib.ListN.{length, getD, set, take, drop}
 use lib.Seq.{take-suc}
 use Rattle.lent.specs.Tables.{if_then_else_}
 use Rattle.lent.proofs.Walks.{iter}
-use Rattle.machine.specs.Sizes.{keyCount, sessionCount}
 use Rattle.machine.specs.Session.{isDue}
-use Rattle.machine.specs.State.{blank, Slot, noSession, session, State, sessionAt}
-use Rattle.machine.specs.Expiry.{withKeys, withSessions, lapsedLease, those}
+use Rattle.machine.specs.State.{Slot, noSession, session, State, sessionAt}
+use Rattle.machine.specs.Expiry.{withSessions, those}
 use Rattle.endings.proofs.Passes.{next-old, pass-part, pass-whole}
-use Rattle.sweep.specs.Lapsing.{lapseKey, freeDue, noted, endDue}
+use Rattle.sweep.specs.Lapsing.{freeDue, noted, endDue}
 
 -- a pass over a table that lies in a state, with nothing handed along
 module _ {A : Type 0} (f : A → A) (d : A) (with : List A → State) (step : ℕ → State → State) (turn : (i : ℕ) (l : List A) → step i (with l) ≡ with (set l i (f (getD l i d)))) (l : List A) (n : ℕ) where
-  passed : length l ≡ n → iter step n (with l) ≡ with (map f l)
+  pub passed : length l ≡ n → iter step n (with l) ≡ with (map f l)
   passed = pass-whole f (λ x b. b) d (λ l b. with l) step (λ i l b. turn i l) l (tt {0}) n
 
   passed-part : n ≤ length l → iter step n (with l) ≡ with (map f (take n l) ++ drop n l)
   passed-part = pass-part f (λ x b. b) d (λ l b. with l) step (λ i l b. turn i l) l (tt {0}) n
-
-pub keys-lapsed : (now : ℕ) (s : State) → length (s .keys) ≡ keyCount → iter (lapseKey now) keyCount s ≡ withKeys s (map (lapsedLease now) (s .keys))
-unfolding lapseKey
-keys-lapsed now s h = passed (lapsedLease now) blank (withKeys s) (lapseKey now) (λ i l. refl) (s .keys) keyCount h
-
-pub sessions-ended : (now : ℕ) (s : State) → length (s .sessions) ≡ sessionCount → iter (endDue now) sessionCount s ≡ withSessions s (map (freeDue now) (s .sessions))
-unfolding endDue
-sessions-ended now s h = passed (freeDue now) noSession (withSessions s) (endDue now) (λ i l. refl) (s .sessions) sessionCount h
 
 -- a session that the loop has not come to stands as before
 session-ahead : (now : ℕ) (s : State) (i : ℕ) → i < length (s .sessions) → sessionAt (iter (endDue now) i s) i ≡ sessionAt s i

@@ -36,18 +36,10 @@ none-those now (session x ∷ l) h = let b = or-no (isDue now x) (any (dueSlot n
 
 -- of no sessions
 free-none : (l : List Slot) → map (freeSession []) l ≡ l
-free-none l = map-same (freeSession []) go l
-  where
-    go : (e : Slot) → freeSession [] e ≡ e
-    go noSession = refl
-    go (session x) = refl
+free-none l = map-same (freeSession []) (λ e. elim e [ noSession ↦ refl | session x ↦ refl ]) l
 
 rows-none : (rs : List Row) → map (freeIfOf []) rs ≡ rs
-rows-none rs = map-same (freeIfOf []) go rs
-  where
-    go : (r : Row) → freeIfOf [] r ≡ r
-    go noRow = refl
-    go (row n k d u) = refl
+rows-none rs = map-same (freeIfOf []) (λ r. elim r [ noRow ↦ refl | row n k d u ↦ refl ]) rs
 
 settle-none : (f : Staged → Option Value) (rs : List Row) (ks : List Key) → settle [] f rs ks ≡ ks
 settle-none f [] ks = refl

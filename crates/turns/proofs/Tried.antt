@@ -29,7 +29,7 @@ use Rattle.machine.proofs.SoundMeans.{sessions-length}
 use Rattle.layout.specs.Fields.{sessionIn}
 use Rattle.layout.specs.Search.{found}
 use Rattle.layout.specs.declared.Found.{Found}
-use Rattle.layout.proofs.Search.{nothing-entry, place-passes}
+use Rattle.layout.proofs.Search.{found-at, nothing-entry, place-passes}
 use Rattle.outcome.specs.Outcome.{unless, tried}
 
 -- ---- the session that was found, as it was loaded
@@ -49,6 +49,10 @@ located s n {i} {x} ok d (p, l) = go (sessionAt s i) refl (rw (← p) (place-pas
     go (session y) q h =
         let f : x ≡ y = d ∙ ap sessionIn q in
         rw f (record { place = p; is = q; number = eqb-true (y .number) n (rw q at h); of = ap (sessionAt s) p ∙ q })
+
+-- the search r told of place i
+pub located-at : (s : State) (n : ℕ) {i : ℕ} {x : Session} {r : Found} → sound s ≡ true → r ≡ found sessionCount (sessionPlace s n) → r ≡ Found.At i → x ≡ sessionIn (sessionAt s i) → Located s n i x
+located-at s n ok f q d = located s n ok d (found-at sessionCount _ _ (sym f ∙ q))
 
 pub unlocated : (s : State) (n : ℕ) → sound s ≡ true → found sessionCount (sessionPlace s n) ≡ Found.Nothing → sessionOf s n ≡ noSession
 unlocated s n ok e = nothing-entry (numbered n) noSession (s .sessions) sessionCount (sessions-length s ok) e

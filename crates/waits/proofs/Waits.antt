@@ -30,14 +30,19 @@ numbered-end : (n : ℕ) (e : Slot) → numbered n e ≡ true → slotEnd e ≡ 
 numbered-end n noSession p = clash false p refl
 numbered-end n (session x) p = refl
 
-module _ (s : State) (n : ℕ) (l : length (s .sessions) ≡ sessionCount) where
-  pub end-found : (j : ℕ) → found sessionCount (sessionPlace s n) ≡ Found.At j → slotEnd (sessionOf s n) ≡ lifeEnd (sessionIn (sessionAt s j) .life)
-  end-found j f =
-      rw (found-entry (numbered n) noSession (s .sessions) sessionCount j f)
-      (numbered-end n (sessionAt s j) (found-passes (numbered n) noSession (s .sessions) sessionCount j l f))
+-- the end of the session that a search told of, which is sealed where there is none
+abbrev pub endBy : State → Found → Option ℕ
+endBy s (Found.At j) = lifeEnd (sessionIn (sessionAt s j) .life)
+endBy s Found.Nothing = none
 
-  pub end-missing : found sessionCount (sessionPlace s n) ≡ Found.Nothing → slotEnd (sessionOf s n) ≡ none
-  end-missing f = rw (nothing-entry (numbered n) noSession (s .sessions) sessionCount l f)
+pub end-by : (s : State) (n : ℕ) → length (s .sessions) ≡ sessionCount → {r : Found} → found sessionCount (sessionPlace s n) ≡ r → slotEnd (sessionOf s n) ≡ endBy s r
+end-by s n l f = go _ f
+  where
+    go : (r : Found) → found sessionCount (sessionPlace s n) ≡ r → slotEnd (sessionOf s n) ≡ endBy s r
+    go (Found.At j) f =
+        rw (found-entry (numbered n) noSession (s .sessions) sessionCount j f)
+        (numbered-end n (sessionAt s j) (found-passes (numbered n) noSession (s .sessions) sessionCount j l f))
+    go Found.Nothing f = rw (nothing-entry (numbered n) noSession (s .sessions) sessionCount l f)
 
 -- ---- what a row adds
 

@@ -34,21 +34,13 @@ same-length : tie.Need-same-length
 same-length c = search needs
 
 returns : tie.Need-returns
-returns c = let stage = c .before .before .stage in
-    let n = c .before .before .before .before .before .before .n in
-    let work = c .before .before .before .before .before .before .before .before .before .work in
-    let args = c .before .before .before .before .before .before .before .before .before .before .before .before .before .before .args in
-    λ σ h taken. change-gives σ (args .row) (args .k) (args .operation) (args .operand .now) (rw (n .given .1) at (work .ensures .0 σ h)) (stage .ensures σ h taken)
+returns c = λ σ h taken. change-gives _ _ _ _ _ _ (c .before .before .before .before .before .before .before .before .before .work .ensures .0 σ h) (c .before .before .before .before .before .before .n .given .1) (c .before .before .stage .ensures σ h taken)
 
 same-length-2 : tie.Need-same-length-2
 same-length-2 c = search needs
 
 returns-2 : tie.Need-returns-2
-returns-2 c = let stage-drop = c .before .before .stage-drop in
-    let told = c .before .before .before .before .enum-told in
-    let work = c .before .before .before .before .before .before .before .work in
-    let args = c .before .before .before .before .before .before .before .before .before .before .before .before .args in
-    λ σ h taken. change-gives σ (args .row) (args .k) (args .operation) (args .operand .now) (rw (told .given .1) at (work .ensures .0 σ h)) (stage-drop .ensures σ h taken)
+returns-2 c = λ σ h taken. change-gives _ _ _ _ _ _ (c .before .before .before .before .before .before .before .work .ensures .0 σ h) (c .before .before .before .before .enum-told .given .1) (c .before .before .stage-drop .ensures σ h taken)
 
 pub change-spec : {M : Type 1} → statement M
 change-spec =

@@ -2,7 +2,7 @@
 use mathlib.Core.Path.{sym, _∙_}
 use borrow.Author.Needs.{needs}
 use Rattle.lent.proofs.Choices.{test-failed, test-passed}
-use Rattle.stages.proofs.Staged.{staging-at}
+use Rattle.stages.proofs.Staged.{staging-stored}
 use Rattle.outcome.proofs.Told.{gives}
 use Rattle.deltas.proofs.Tried.{Right, delta-key, delta-operation, delta-step, delta-long, delta-found, delta-changes}
 use Rattle.deltas.proofs.delta.Statement.{statement}
@@ -52,8 +52,14 @@ change-requires c κs = let place = c .before .before .before .before .before .b
     (search needs, (rw (place .given .1) at (find .ensures .1) .1, if1 .left))
 
 -- the tests before the search are passed
-right : (c : tie.After-find) → Right (c .before .before .before .before .before .before .before .before .before .args .step) (c .before .before .before .before .before .before .before .before .before .args .key) (c .before .before .before .before .before .before .before .before .before .args .operation) (c .before .before .before .before .before .before .before .before .before .args .operand .now)
-right c = record { key = c .before .before .before .before .before .before .if1 .left; operation = test-passed (c .before .before .before .before .before .is-operation .ensures) (c .before .before .before .before .if2 .left); step = c .before .before .before .if3 .left; short = c .before .before .if4 .left }
+right : (c : tie.After-find) → let a = c .before .before .before .before .before .before .before .before .before .args in Right (a .step) (a .key) (a .operation) (a .operand .now)
+right c =
+    let if4 = c .before .before .if4 in
+    let if3 = c .before .before .before .if3 in
+    let if2 = c .before .before .before .before .if2 in
+    let is-operation = c .before .before .before .before .before .is-operation in
+    let if1 = c .before .before .before .before .before .before .if1 in
+    record { key = if1 .left; operation = test-passed (is-operation .ensures) (if2 .left); step = if3 .left; short = if4 .left }
 
 same-length : tie.Need-same-length
 same-length c = search needs
@@ -71,10 +77,12 @@ same-length-3 : tie.Need-same-length-3
 same-length-3 c = search needs
 
 returns-7 : tie.Need-returns-7
-returns-7 c = λ σ h ok.
-    let q = sym (c .before .before .before .before .before .before .before .before .before .before .before .find .ensures .0 σ h) ∙ c .before .before .before .before .before .before .before .before .before .place .given .1 in
-    let a = staging-at σ _ _ _ _ ok _ _ _ q in
-    rw (delta-changes _ _ _ _ _ _ (right (c .before .before .before .before .before .before .before .before .before .before .before)) _ _ _ q (a .row)) (c .before .before .change .ensures _ (c .before .before .before .before .before .before .store .ensures σ h (a .number) (a .count)) (a .taken))
+returns-7 c = let change = c .before .before .change in
+    let store = c .before .before .before .before .before .before .store in
+    let place = c .before .before .before .before .before .before .before .before .before .place in
+    let searched = c .before .before .before .before .before .before .before .before .before .before .before in
+    λ σ h ok. let q = sym (searched .find .ensures .0 σ h) ∙ place .given .1 in
+    rw (delta-changes _ _ _ _ _ _ (right searched) ok _ _ _ q) (staging-stored σ _ _ _ _ ok q (store .ensures σ h) (change .ensures _))
 
 pub delta-spec : {M : Type 1} → statement M
 delta-spec =

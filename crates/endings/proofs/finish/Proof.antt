@@ -11,9 +11,7 @@ same-length : tie.Need-same-length
 same-length c = search needs
 
 returns : tie.Need-returns
-returns c = let end = c .before .before .end in
-    let args = c .before .before .before .before .before .args in
-    λ σ h ok here. rw (← finish-whole σ ok (args .n) (args .place) here) (end .ensures σ h)
+returns c = λ σ h ok here. rw (← finish-whole σ ok _ _ here) (c .before .before .end .ensures σ h)
 
 pub finish-spec : {M : Type 1} → statement M
 finish-spec = tie.close (tie.spec end-requires same-length returns)

@@ -11,9 +11,7 @@ same-length : tie.Need-same-length
 same-length c = search needs
 
 returns : tie.Need-returns
-returns c = let end = c .before .before .end in
-    let args = c .before .before .before .before .before .args in
-    λ σ h ok here. rw (← leave-whole σ ok (args .n) (args .place) here) (end .ensures σ h)
+returns c = λ σ h ok here. rw (← leave-whole σ ok _ _ here) (c .before .before .end .ensures σ h)
 
 pub leave-spec : {M : Type 1} → statement M
 leave-spec = tie.close (tie.spec end-requires same-length returns)

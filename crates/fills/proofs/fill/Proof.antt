@@ -10,12 +10,10 @@ use Rattle.fills.proofs.fill.Statement.{statement}
 use Rattle.fills.proofs.fill.Tie as tie
 
 returns : tie.Need-returns
-returns c = let args = c .before .before .before .args in
-    λ σ h e. gives (fill-key σ (args .token) (args .key) (args .value .now) (omega arith)) h
+returns c = λ σ h e. gives (fill-key _ _ _ _ (omega arith)) h
 
 returns-2 : tie.Need-returns-2
-returns-2 c = let args = c .before .before .before .before .args in
-    λ σ h e. gives (fill-long σ (args .token) (args .key) (args .value .now) (omega arith) (omega arith)) h
+returns-2 c = λ σ h e. gives (fill-long _ _ _ _ (omega arith) (omega arith)) h
 
 lease-token-requires : tie.Need-lease-token-requires
 lease-token-requires c κs = search needs
@@ -28,16 +26,14 @@ same-length c = search needs
 
 returns-3 : tie.Need-returns-3
 returns-3 c = let lease-token = c .before .lease-token in
-    let args = c .before .before .before .before .before .before .before .args in
-    λ σ h e. gives (fill-unleased σ (args .token) (args .key) (args .value .now) (omega arith) (omega arith) (key-fits h (args .key) (omega arith) .lease) (sym (lease-token .ensures σ h) ∙ c .if3 .taken)) h
+    λ σ h e. gives (fill-unleased _ _ _ _ (omega arith) (omega arith) (key-fits h _ (omega arith) .lease) (sym (lease-token .ensures σ h) ∙ c .if3 .taken)) h
 
 same-length-2 : tie.Need-same-length-2
 same-length-2 c = search needs
 
 returns-4 : tie.Need-returns-4
 returns-4 c = let lease-token = c .before .before .lease-token in
-    let args = c .before .before .before .before .before .before .before .before .args in
-    λ σ h e. gives (fill-other σ (args .token) (args .key) (args .value .now) (omega arith) (omega arith) (λ q. c .if4 .taken (lease-token .ensures σ h ∙ q))) h
+    λ σ h e. gives (fill-other _ _ _ _ (omega arith) (omega arith) (λ q. c .if4 .taken (lease-token .ensures σ h ∙ q))) h
 
 fill-requires : tie.Need-fill-requires
 fill-requires c κs = search needs
@@ -50,8 +46,7 @@ returns-5 c = let fill = c .before .before .fill in
     let if4 = c .before .before .before .before .if4 in
     let if3 = c .before .before .before .before .before .if3 in
     let lease-token = c .before .before .before .before .before .before .lease-token in
-    let args = c .before .before .before .before .before .before .before .before .before .before .before .before .args in
-    λ σ h e. gives (fill-stored σ (args .token) (args .key) (args .value .now) (omega arith) (omega arith) (λ q. if3 .left (lease-token .ensures σ h ∙ q)) (sym (lease-token .ensures σ h) ∙ if4 .left)) (fill .ensures σ h)
+    λ σ h e. gives (fill-stored _ _ _ _ (omega arith) (omega arith) (λ q. if3 .left (lease-token .ensures σ h ∙ q)) (sym (lease-token .ensures σ h) ∙ if4 .left)) (fill .ensures σ h)
 
 pub fill-spec : {M : Type 1} → statement M
 fill-spec =

@@ -1,10 +1,17 @@
 -- A row decides, by its kind, which a sound state keeps to 1 to 3; without one, the I lease.
-use mathlib.Core.Path.{sym, _∙_}
+use mathlib.Core.Path.{_≡_, sym, _∙_}
+use mathlib.Core.Bool.{Bool}
 use native.Mathlib.Omega.{arith}
 use Prim.Native.Nat.{_<_}
+use lib.Dec.{eqb}
+use borrow.Author.Tests.{eq-eqb, ne-eqb}
+use Rattle.lent.specs.Tables.{if_then_else_}
 use Rattle.machine.specs.Sizes.{rowCount}
+use Rattle.machine.specs.State.{State}
+use Rattle.machine.specs.Refusals.{heldOn}
+use Rattle.layout.specs.Holds.{Holds}
 use Rattle.layout.proofs.Held.{key-fits}
-use Rattle.holdings.proofs.Holdings.{held-row, held-free, held-lease}
+use Rattle.holdings.proofs.Holdings.{held-row, held-leased}
 use borrow.Author.Needs.{needs}
 use Rattle.holdings.proofs.held.Statement.{statement}
 use Rattle.holdings.proofs.held.Tie as tie
@@ -37,19 +44,18 @@ enum-told c = search needs
 lease-token-requires : tie.Need-lease-token-requires
 lease-token-requires c κs = search needs
 
+-- no row is on the key
+held-by : (c : tie.After-lease-token) {t : Bool} → eqb (c .lease-token .result) 0 ≡ t → (σ : State) → let a = c .before .before .before .before .before .args in Holds (a .s .now) σ → (if t then 0 else 1) ≡ heldOn σ (a .k)
+held-by c q σ h =
+    let told = c .before .enum-told in
+    let first-on = c .before .before .before .first-on in
+    sym (held-leased σ _ (h .fits .rows) (sym (first-on .ensures .0 σ h) ∙ told .given .1) (key-fits h _ (omega arith) .lease) (rw (c .lease-token .ensures σ h) at q))
+
 returns-2 : tie.Need-returns-2
-returns-2 c = let lease-token = c .before .lease-token in
-    let enum-told = c .before .before .enum-told in
-    let first-on = c .before .before .before .before .first-on in
-    let k = c .before .before .before .before .before .before .args .k in
-    (λ σ h e. sym (held-free σ k (h .fits .rows) (sym (first-on .ensures .0 σ h) ∙ enum-told .given .1) (key-fits h k (omega arith) .lease) (sym (lease-token .ensures σ h) ∙ c .if1 .taken)), omega arith)
+returns-2 c = (λ σ h e. held-by (c .before) (eq-eqb _ _ (c .if1 .taken)) σ h, omega arith)
 
 returns-3 : tie.Need-returns-3
-returns-3 c = let lease-token = c .before .lease-token in
-    let enum-told = c .before .before .enum-told in
-    let first-on = c .before .before .before .before .first-on in
-    let k = c .before .before .before .before .before .before .args .k in
-    (λ σ h e. sym (held-lease σ k (h .fits .rows) (sym (first-on .ensures .0 σ h) ∙ enum-told .given .1) (λ q. c .if1 .left (lease-token .ensures σ h ∙ q))), omega arith)
+returns-3 c = (λ σ h e. held-by (c .before) (ne-eqb _ _ (c .if1 .left)) σ h, omega arith)
 
 pub held-spec : {M : Type 1} → statement M
 held-spec =

@@ -20,8 +20,7 @@ same-length c = search needs
 
 returns : tie.Need-returns
 returns c = let free-place = c .before .before .free-place in
-    let args = c .before .before .before .before .before .args in
-    λ σ h g. gives (grant-full σ (args .n) (args .k) (args .kind) (h .fits .rows) (sym (free-place .ensures .0 σ h) ∙ c .enum-told .given .1)) h
+    λ σ h g. gives (grant-full _ _ _ _ (h .fits .rows) (sym (free-place .ensures .0 σ h) ∙ c .enum-told .given .1)) h
 
 put-requires : tie.Need-put-requires
 put-requires c κs = (search needs, rw (c .before .before .i .given .1) at (c .before .before .before .before .free-place .ensures .1))
@@ -38,7 +37,7 @@ returns-2 c = let drop-lease = c .before .before .drop-lease in
     let i = c .before .before .before .before .before .before .before .before .before .i in
     let free-place = c .before .before .before .before .before .before .before .before .before .before .before .free-place in
     let args = c .before .before .before .before .before .before .before .before .before .before .before .before .before .before .args in
-    λ σ h g. gives (grant-room σ (args .n) (args .k) (args .kind) (h .fits .rows) (i .given .0 .0) (sym (free-place .ensures .0 σ h) ∙ i .given .1)) (drop-lease .ensures _ (put .ensures σ h g))
+    λ σ h g. gives (grant-room σ (args .n) (args .k) (args .kind) (h .fits .rows) _ (sym (free-place .ensures .0 σ h) ∙ i .given .1)) (drop-lease .ensures _ (put .ensures σ h g))
 
 pub grant-spec : {M : Type 1} → statement M
 grant-spec =

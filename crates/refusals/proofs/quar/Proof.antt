@@ -1,20 +1,25 @@
 -- Key and kind, then whoever is left; the last test is of two parts, and where the rows are full the other is as it was.
 use mathlib.Core.Path.{_≡_, sym, _∙_}
-use mathlib.Core.Bool.{Bool}
+use mathlib.Core.Bool.{Bool, true}
 use mathlib.Core.List.{[]}
 use mathlib.Core.Option.{none, some}
 use native.Mathlib.Omega.{arith}
 use Rattle.lent.specs.Tables.{if_then_else_}
 use Rattle.lent.proofs.Choices.{test-failed, test-passed}
 use Rattle.machine.specs.Tables.{first}
-use Rattle.machine.specs.Words.{ROOM}
+use Rattle.machine.specs.Words.{ROOM, INVALIDATE, INCREMENTAL}
+use Rattle.machine.specs.State.{State}
+use Rattle.machine.specs.Expiry.{expire}
+use Rattle.machine.specs.Sound.{sound}
+use Rattle.machine.specs.WellFormed.{Within}
 use Rattle.machine.specs.Refusals.{refusals}
 use Rattle.machine.specs.declared.Command.the-variants.{Quar}
 use Rattle.machine.proofs.Accepted.{is-kind}
 use Rattle.machine.proofs.FirstRefusal.{quar-key, quar-kind, quar-not-live, quar-sealed, quar-room}
+use Rattle.layout.specs.Holds.{Holds}
 use Rattle.refusals.specs.Met.{refusalOf, Meets}
 use Rattle.refusals.proofs.Lefts.{left-is, left-nobody, meets}
-use Rattle.refusals.proofs.Rooms.{quar-expired}
+use Rattle.refusals.proofs.Rooms.{Asks, quar-expired}
 use borrow.Author.Needs.{needs}
 use Rattle.refusals.proofs.quar.Statement.{statement}
 use Rattle.refusals.proofs.quar.Tie as tie
@@ -41,7 +46,7 @@ returns-3 : tie.Need-returns-3
 returns-3 c =
     let key = c .before .before .before .before .before .if1 .left in
     let kind = test-passed (c .before .before .before .before .is-kind .ensures) (c .before .before .before .if2 .left) in
-    λ σ h ok. meets (quar-not-live _ _ _ _ _ key kind (left-nobody _ (sym (c .before .before .session .ensures σ h ok) ∙ c .enum-told .given .1)))
+    λ σ h ok. meets (quar-not-live _ _ _ _ _ key kind (left-nobody _ (c .before .before .session .ensures σ h ok) (c .enum-told .given .1)))
 
 is-sealed-requires : tie.Need-is-sealed-requires
 is-sealed-requires c κs = search needs
@@ -50,49 +55,51 @@ returns-4 : tie.Need-returns-4
 returns-4 c =
     let key = c .before .before .before .before .before .before .before .before .if1 .left in
     let kind = test-passed (c .before .before .before .before .before .before .before .is-kind .ensures) (c .before .before .before .before .before .before .if2 .left) in
-    λ σ h ok. meets (quar-sealed _ _ _ _ _ key kind _ (left-is _ _ (sym (c .before .before .before .before .before .session .ensures σ h ok) ∙ c .before .before .before .x .given .1)) (sym (c .before .is-sealed .ensures) ∙ c .if3 .taken))
+    λ σ h ok. meets (quar-sealed _ _ _ _ _ key kind _ (left-is _ (c .before .before .before .before .before .session .ensures σ h ok) (c .before .before .before .x .given .1)) (sym (c .before .is-sealed .ensures) ∙ c .if3 .taken))
 
 rows-full-requires : tie.Need-rows-full-requires
 rows-full-requires c κs = search needs
 
+-- the tests before that of the rows are passed
+asks : (c : tie.After-rows-full) (σ : State) → let a = c .before .before .before .before .before .before .before .before .before .before .before .args in Holds (a .s .now) σ → sound σ ≡ true
+    → Asks (expire (a .time) σ) (a .session) (a .key) (a .kind) (c .before .before .before .before .x .given .0 .0)
+asks c σ h ok =
+    let if3 = c .before .if3 in
+    let is-sealed = c .before .before .is-sealed in
+    let x = c .before .before .before .before .x in
+    let session = c .before .before .before .before .before .before .session in
+    let if2 = c .before .before .before .before .before .before .before .if2 in
+    let is-kind = c .before .before .before .before .before .before .before .before .is-kind in
+    let if1 = c .before .before .before .before .before .before .before .before .before .if1 in
+    record {
+      key = if1 .left;
+      kind = test-passed (is-kind .ensures) (if2 .left);
+      live = left-is _ (session .ensures σ h ok) (x .given .1);
+      unsealed = sym (is-sealed .ensures) ∙ if3 .left;
+    }
+
 returns-5 : tie.Need-returns-5
-returns-5 c =
-    let key = c .before .before .before .before .before .before .before .before .before .before .if1 .left in
-    let kind = test-passed (c .before .before .before .before .before .before .before .before .before .is-kind .ensures) (c .before .before .before .before .before .before .before .before .if2 .left) in
-    let unsealed = sym (c .before .before .before .is-sealed .ensures) ∙ c .before .before .if3 .left in
-    λ σ h ok.
-    let live = left-is _ _ (sym (c .before .before .before .before .before .before .before .session .ensures σ h ok) ∙ c .before .before .before .before .before .x .given .1) in
-    meets (quar-room _ _ _ _ _ key kind _ live unsealed (test-failed (c .before .rows-full .ensures σ h ok) (c .if4 .taken)))
+returns-5 c = λ σ h ok. let w = asks (c .before) σ h ok in
+    meets (quar-room _ _ _ _ _ (w .key) (w .kind) _ (w .live) (w .unsealed) (test-failed (c .before .rows-full .ensures σ h ok) (c .if4 .taken)))
 
 cast-would-grant : tie.Need-cast-would-grant
 cast-would-grant c = search needs
 
+-- the kind is 1, 2 or 3
+kind-within : (c : tie.After-rows-full) → Within INVALIDATE INCREMENTAL (c .before .before .before .before .before .before .before .before .before .before .before .args .kind)
+kind-within c = is-kind _ (test-passed (c .before .before .before .before .before .before .before .before .is-kind .ensures) (c .before .before .before .before .before .before .before .if2 .left))
+
 cast-would-grant-2 : tie.Need-cast-would-grant-2
-cast-would-grant-2 c =
-    let if2 = c .before .before .before .before .before .before .before .before .if2 in
-    let the-is-kind = c .before .before .before .before .before .before .before .before .before .is-kind in
-    let args = c .before .before .before .before .before .before .before .before .before .before .before .before .args in
-    omega (arith, is-kind (args .kind) (test-passed (the-is-kind .ensures) (if2 .left)) .1)
+cast-would-grant-2 c = omega (arith, kind-within (c .before) .1)
 
 would-grant-requires : tie.Need-would-grant-requires
-would-grant-requires c κs =
-    let if2 = c .before .before .before .before .before .before .before .before .if2 in
-    let the-is-kind = c .before .before .before .before .before .before .before .before .before .is-kind in
-    let args = c .before .before .before .before .before .before .before .before .before .before .before .before .args in
-    let d = is-kind (args .kind) (test-passed (the-is-kind .ensures) (if2 .left)) in
-    (search needs, (d .0, omega (arith, d .1)))
+would-grant-requires c κs = let w = kind-within (c .before) in (search needs, (w .0, omega (arith, w .1)))
 
 -- where the rows are full, what would be granted is refused
 by-grant : (c : tie.After-would-grant) {t : Bool} → c .would-grant .result ≡ t
     → let a = c .before .before .before .before .before .before .before .before .before .before .before .before .before .args in Meets (a .s .now) (a .time) (λ σ. first (refusals σ (Quar (a .session) (a .key) (a .kind)) [])) (refusalOf (if t then some ROOM else none))
-by-grant c g =
-    let key = c .before .before .before .before .before .before .before .before .before .before .before .if1 .left in
-    let kind = test-passed (c .before .before .before .before .before .before .before .before .before .before .is-kind .ensures) (c .before .before .before .before .before .before .before .before .before .if2 .left) in
-    let unsealed = sym (c .before .before .before .before .is-sealed .ensures) ∙ c .before .before .before .if3 .left in
-    λ σ h ok.
-    let live = left-is _ _ (sym (c .before .before .before .before .before .before .before .before .session .ensures σ h ok) ∙ c .before .before .before .before .before .before .x .given .1) in
-    let full = test-passed (c .before .before .rows-full .ensures σ h ok) (c .before .if4 .left) in
-    meets (quar-expired _ ok _ full _ _ _ key kind _ live unsealed (sym (c .would-grant .ensures σ h ok) ∙ g))
+by-grant c g = λ σ h ok. let full = test-passed (c .before .before .rows-full .ensures σ h ok) (c .before .if4 .left) in
+    meets (quar-expired _ ok _ full (asks (c .before .before) σ h ok) (sym (c .would-grant .ensures σ h ok) ∙ g))
 
 returns-6 : tie.Need-returns-6
 returns-6 c = by-grant (c .before) (c .if5 .taken)

@@ -20,7 +20,7 @@ enum-told c = search needs
 returns : tie.Need-returns
 returns c =
     let a = c .before .before .before .before .args in
-    λ σ h ok. meets (staging-not-live (expire (a .time) σ) (a .session) (a .step) (a .k) (a .kind) (left-nobody _ (sym (c .before .before .session .ensures σ h ok) ∙ c .enum-told .given .1)))
+    λ σ h ok. meets (staging-not-live (expire (a .time) σ) (a .session) (a .step) (a .k) (a .kind) (left-nobody _ (c .before .before .session .ensures σ h ok) (c .enum-told .given .1)))
 
 enum-told-2 : tie.Need-enum-told-2
 enum-told-2 c = search needs
@@ -40,7 +40,7 @@ enum-told-4 c = search needs
 -- the refusal is in what he finds
 by-finding : (c : tie.After-find) {r : Staging} → c .find .result ≡ r
     → let a = c .before .before .before .before .before .args in Meets (a .s .now) (a .time) (λ σ. first (stagingRefusals σ (a .session) (a .step) (a .k) (a .kind))) (refusalIn r)
-by-finding c e = λ σ h ok. left-stages _ ok _ _ _ (left-is _ _ (sym (c .before .before .before .session .ensures σ h ok) ∙ c .before .enum-told2 .given .1)) _ _ _ (sym (c .find .ensures .0 σ h) ∙ e)
+by-finding c e = λ σ h ok. left-stages _ ok _ _ _ (left-is _ (c .before .before .before .session .ensures σ h ok) (c .before .enum-told2 .given .1)) _ _ _ (sym (c .find .ensures .0 σ h) ∙ e)
 
 returns-2 : tie.Need-returns-2
 returns-2 c = by-finding (c .before .before .before) (c .before .e .given .1)

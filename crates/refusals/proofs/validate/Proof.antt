@@ -25,7 +25,7 @@ enum-told : tie.Need-enum-told
 enum-told c = search needs
 
 returns-2 : tie.Need-returns-2
-returns-2 c = λ σ h ok. meets (validate-not-live _ _ _ _ (c .before .before .before .if1 .left) (left-nobody _ (sym (c .before .before .session .ensures σ h ok) ∙ c .enum-told .given .1)))
+returns-2 c = λ σ h ok. meets (validate-not-live _ _ _ _ (c .before .before .before .if1 .left) (left-nobody _ (c .before .before .session .ensures σ h ok) (c .enum-told .given .1)))
 
 validate-requires : tie.Need-validate-requires
 validate-requires c κs = search needs
@@ -42,7 +42,7 @@ enum-told-4 c = search needs
 -- the refusal is by what he is told
 by-validation : (c : tie.After-validate) {r : Validation} → c .validate .result ≡ r
     → let a = c .before .before .before .before .before .before .before .args in Meets (a .s .now) (a .time) (λ σ. first (refusals σ (Validate (a .session) (a .count)) [])) (clashIn r)
-by-validation c e = λ σ h ok. validates _ _ _ _ (left-is _ _ (sym (c .before .before .before .before .session .ensures σ h ok) ∙ c .before .before .x .given .1)) (c .before .before .before .before .before .if1 .left) (sym (c .validate .ensures) ∙ e)
+by-validation c e = λ σ h ok. validates _ _ _ _ (left-is _ (c .before .before .before .before .session .ensures σ h ok) (c .before .before .x .given .1)) (c .before .before .before .before .before .if1 .left) (sym (c .validate .ensures) ∙ e)
 
 returns-3 : tie.Need-returns-3
 returns-3 c = by-validation (c .before .before) (c .enum-told2 .given .1)

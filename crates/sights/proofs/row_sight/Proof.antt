@@ -1,9 +1,17 @@
 -- A row's mark and kind say which of the three is seen.
-use mathlib.Core.Path.{sym, ap, _∙_}
+use mathlib.Core.Path.{_≡_, sym, ap, _∙_}
+use mathlib.Core.Bool.{Bool}
+use mathlib.Core.Option.{none}
 use native.Mathlib.Omega.{arith}
-use Rattle.machine.specs.State.{rowAt, cached}
+use lib.Dec.{eqb}
+use borrow.Author.Tests.{eq-eqb, ne-eqb}
+use Rattle.lent.specs.Tables.{if_then_else_}
+use Rattle.machine.specs.State.{State, rowAt, cached}
+use Rattle.machine.specs.Refusals.{cachedSight, rowSight}
+use Rattle.machine.specs.Words.{INVALIDATE}
+use Rattle.layout.specs.Holds.{Holds}
 use Rattle.sights.specs.Sights.{placed}
-use Rattle.sights.proofs.Sights.{row-staged, row-dropped, row-invalidates, row-unstaged}
+use Rattle.sights.proofs.Sights.{row-staged, row-dropped, row-unstaged}
 use borrow.Author.Needs.{needs}
 use Rattle.sights.proofs.row_sight.Statement.{statement}
 use Rattle.sights.proofs.row_sight.Tie as tie
@@ -34,31 +42,24 @@ returns-2 c = let a = c .before .before .before .before .args in
 kind-requires : tie.Need-kind-requires
 kind-requires c κs = search needs
 
+-- nothing is staged
+row-sight-by : (c : tie.After-kind) {t : Bool} → eqb (c .kind .result) INVALIDATE ≡ t → (σ : State) → let a = c .before .before .before .before .before .args in Holds (a .s .now) σ
+    → placed (if t then none else cachedSight (a .k) (cached σ (a .k))) ≡ placed (rowSight (a .i) (a .k) (rowAt σ (a .i)) (cached σ (a .k)))
+row-sight-by c q σ h =
+    let if2 = c .before .if2 in
+    let if1 = c .before .before .if1 in
+    let mark = c .before .before .before .mark in
+    let a = c .before .before .before .before .before .args in
+    sym (ap placed (row-unstaged (a .i) (a .k) (cached σ (a .k)) (rowAt σ (a .i)) (λ e. if1 .left (mark .ensures σ h ∙ e)) (λ e. if2 .left (mark .ensures σ h ∙ e)) (rw (c .kind .ensures σ h) at q)))
+
 returns-3 : tie.Need-returns-3
-returns-3 c = let kind = c .before .kind in
-    let if2 = c .before .before .if2 in
-    let if1 = c .before .before .before .if1 in
-    let mark = c .before .before .before .before .mark in
-    let args = c .before .before .before .before .before .before .args in (
-      λ σ h. sym (ap placed (row-invalidates (args .i) (args .k) (cached σ (args .k)) (rowAt σ (args .i))
-          (λ e. if1 .left (mark .ensures σ h ∙ e)) (λ e. if2 .left (mark .ensures σ h ∙ e)) (sym (kind .ensures σ h) ∙ c .if3 .taken))),
-      tt,
-    )
+returns-3 c = (row-sight-by (c .before) (eq-eqb _ _ (c .if3 .taken)), tt)
 
 cached-sight-requires : tie.Need-cached-sight-requires
 cached-sight-requires c κs = search needs
 
 returns-4 : tie.Need-returns-4
-returns-4 c = let if3 = c .before .if3 in
-    let kind = c .before .before .kind in
-    let if2 = c .before .before .before .if2 in
-    let if1 = c .before .before .before .before .if1 in
-    let mark = c .before .before .before .before .before .mark in
-    let args = c .before .before .before .before .before .before .before .args in (
-      λ σ h. c .cached-sight .ensures .0 σ h ∙ sym (ap placed (row-unstaged (args .i) (args .k) (cached σ (args .k)) (rowAt σ (args .i))
-          (λ e. if1 .left (mark .ensures σ h ∙ e)) (λ e. if2 .left (mark .ensures σ h ∙ e)) (λ e. if3 .left (kind .ensures σ h ∙ e)))),
-      c .cached-sight .ensures .1,
-    )
+returns-4 c = (λ σ h. c .cached-sight .ensures .0 σ h ∙ row-sight-by (c .before .before) (ne-eqb _ _ (c .before .if3 .left)) σ h, c .cached-sight .ensures .1)
 
 pub row-sight-spec : {M : Type 1} → statement M
 row-sight-spec =

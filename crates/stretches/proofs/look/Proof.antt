@@ -1,10 +1,14 @@
 -- A row of the session's own decides; without one, the cached value.
-use mathlib.Core.Path.{sym, ap, _∙_}
+use mathlib.Core.Path.{_≡_, sym, ap, _∙_}
 use native.Mathlib.Omega.{arith}
 use Prim.Native.Nat.{_<_}
 use Rattle.machine.specs.Sizes.{rowCount}
+use Rattle.machine.specs.State.{State}
+use Rattle.machine.specs.Refusals.{sight}
+use Rattle.layout.specs.Holds.{Holds}
+use Rattle.layout.specs.declared.Found.{Found}
 use Rattle.sights.specs.Sights.{placed}
-use Rattle.sights.proofs.Sights.{sight-row, sight-cached}
+use Rattle.sights.proofs.Sights.{sightBy, sight-by}
 use borrow.Author.Needs.{needs}
 use Rattle.stretches.proofs.look.Statement.{statement}
 use Rattle.stretches.proofs.look.Tie as tie
@@ -24,17 +28,15 @@ enum-told c = search needs
 cached-sight-requires : tie.Need-cached-sight-requires
 cached-sight-requires c κs = search needs
 
+-- by what the search for the row told
+sees : (c : tie.After-find) {d : Found} → c .find .result ≡ d → (σ : State) → let a = c .before .before .args in Holds (a .s .now) σ → placed (sightBy σ (a .k) d) ≡ placed (sight σ (a .session) (a .k))
+sees c e σ h = let a = c .before .before .args in sym (ap placed (sight-by σ (a .session) (a .k) (h .fits .rows) (sym (c .find .ensures .0 σ h) ∙ e)))
+
 returns : tie.Need-returns
-returns c = let row = c .before .before .row in
-    let find = c .before .before .before .before .find in
-    let args = c .before .before .before .before .before .before .args in
-    (λ σ h. c .row-sight .ensures .0 σ h ∙ sym (ap placed (sight-row σ (args .session) (args .k) (row .given .0 .0) (sym (find .ensures .0 σ h) ∙ row .given .1))), c .row-sight .ensures .1)
+returns c = (λ σ h. c .row-sight .ensures .0 σ h ∙ sees (c .before .before .before .before) (c .before .before .row .given .1) σ h, c .row-sight .ensures .1)
 
 returns-2 : tie.Need-returns-2
-returns-2 c = let enum-told = c .before .enum-told in
-    let find = c .before .before .before .find in
-    let args = c .before .before .before .before .before .args in
-    (λ σ h. c .cached-sight .ensures .0 σ h ∙ sym (ap placed (sight-cached σ (args .session) (args .k) (h .fits .rows) (sym (find .ensures .0 σ h) ∙ enum-told .given .1))), c .cached-sight .ensures .1)
+returns-2 c = (λ σ h. c .cached-sight .ensures .0 σ h ∙ sees (c .before .before .before) (c .before .enum-told .given .1) σ h, c .cached-sight .ensures .1)
 
 pub look-spec : {M : Type 1} → statement M
 look-spec =

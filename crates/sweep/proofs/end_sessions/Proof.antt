@@ -6,26 +6,25 @@ use native.Mathlib.Omega.{arith}
 use lib.ListN.{length, take}
 use lib.Seq.{take-all}
 use borrow.Author.Needs.{needs}
-use Rattle.lent.proofs.Walks.{iter-more, iter}
-use Rattle.machine.specs.State.{State}
+use Rattle.machine.specs.State.{noSession, State}
 use Rattle.machine.specs.Sizes.{stateSize, sessionCount}
 use Rattle.machine.specs.Session.{isDue}
-use Rattle.machine.specs.Expiry.{those}
+use Rattle.machine.specs.Expiry.{withSessions, those}
 use Rattle.layout.specs.Holds.{Holds}
-use Rattle.sweep.specs.Lapsing.{endDue}
-use Rattle.sweep.proofs.Ended.{noted-next, sessions-ended}
+use Rattle.layout.proofs.Walked.{Walked, walked-none, walked-more, walked-all}
+use Rattle.sweep.specs.Lapsing.{freeDue, endDue}
+use Rattle.sweep.proofs.Ended.{passed, noted-next}
 use Rattle.sweep.proofs.end_sessions.Statement.{statement}
 use Rattle.sweep.proofs.end_sessions.Tie as tie
 
 abbrev Inv-loop : tie.InvT-loop
-Inv-loop s₀ time ns₀ count₀ i₀ s ns count i = (i ≤ sessionCount) × (length s ≡ stateSize) × (length ns ≡ sessionCount) × (count ≤ i) × ((σ : State) → Holds s₀ σ → Holds s (iter (endDue time) i σ) × (take count ns ≡ those (isDue time) (take i (σ .sessions))))
+Inv-loop s₀ time ns₀ count₀ i₀ s ns count i = (i ≤ sessionCount) × (length s ≡ stateSize) × (length ns ≡ sessionCount) × (count ≤ i) × Walked (endDue time) i s₀ s × ((σ : State) → Holds s₀ σ → take count ns ≡ those (isDue time) (take i (σ .sessions)))
 
 abbrev μ-loop : tie.MeasureT-loop
 μ-loop s₀ time ns₀ count₀ i₀ s ns count i = sessionCount - i
 
 loop-holds : tie.Need-loop-holds Inv-loop μ-loop
-unfolding iter
-loop-holds c = (search needs, search needs, search needs, search needs, λ σ h. (h, refl))
+loop-holds c = (search needs, search needs, search needs, search needs, walked-none, λ σ h. refl)
 
 end-due-requires : tie.Need-end-due-requires Inv-loop μ-loop
 end-due-requires c κs = search needs
@@ -39,15 +38,13 @@ loop-less c = search needs
 loop-again : tie.Need-loop-again Inv-loop μ-loop
 loop-again c = let end-due = c .before .before .before .before .end-due in
     let loop = c .before .before .before .before .before .before .before .before .loop in
-    let args = c .before .before .before .before .before .before .before .before .before .before .before .args in (
+    (
       search needs,
       search needs,
       search needs,
       search needs,
-      λ σ h.
-          let was = loop .inv .4 σ h in
-          let ends = end-due .ensures .1 (iter (endDue (args .time)) (loop .i) σ) (was .0) in
-          (rw (iter-more (endDue (args .time)) (loop .i) σ) (ends .0), rw (ends .1, was .1) (noted-next (args .time) σ (loop .i) (omega (arith, h .fits .sessions)))),
+      walked-more (loop .inv .4) (λ σ h. end-due .ensures .1 σ h .0),
+      λ σ h. rw (end-due .ensures .1 _ (loop .inv .4 .holds σ h) .1, loop .inv .5 σ h) (noted-next _ σ (loop .i) (omega (arith, h .fits .sessions))),
     )
 
 same-length : tie.Need-same-length Inv-loop μ-loop
@@ -57,15 +54,13 @@ same-length-2 : tie.Need-same-length-2 Inv-loop μ-loop
 same-length-2 c = search needs
 
 returns : tie.Need-returns Inv-loop μ-loop
-returns c = let loop = c .before .loop in
-    let args = c .before .before .before .before .args in (
+unfolding endDue
+returns c = let loop = c .before .loop in (
       search needs,
-      λ σ h.
-          let e : loop .i ≡ sessionCount = omega arith in
-          let was = loop .inv .4 σ h in (
-            rw (← sessions-ended (args .time) σ (h .fits .sessions), ← e) (was .0),
-            was .1 ∙ ap (those (isDue (args .time))) (take-all (loop .i) (σ .sessions) (omega (arith, h .fits .sessions))),
-          ),
+      λ σ h. (
+        walked-all (loop .inv .4) (omega arith) h (passed (freeDue _) noSession (withSessions σ) (endDue _) (λ i l. refl) (σ .sessions) _ (h .fits .sessions)),
+        loop .inv .5 σ h ∙ ap (those (isDue _)) (take-all (loop .i) (σ .sessions) (omega (arith, h .fits .sessions))),
+      ),
     )
 
 pub end-sessions-spec : {M : Type 1} → statement M

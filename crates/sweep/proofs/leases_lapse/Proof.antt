@@ -1,6 +1,5 @@
 -- As long as no lease passed has lapsed, none before key k has; one that has is a hit for all.
 use Prim.Native.Nat.{_≤_, _-_}
-use mathlib.Core.Path.{refl}
 use native.Mathlib.Omega.{arith}
 use borrow.Author.Needs.{needs}
 use Rattle.machine.specs.Sizes.{keyCount}
@@ -11,7 +10,7 @@ use Rattle.sweep.proofs.leases_lapse.Statement.{statement}
 use Rattle.sweep.proofs.leases_lapse.Tie as tie
 
 abbrev Inv-loop : tie.InvT-loop
-Inv-loop s time k₀ k = (k ≤ keyCount) × Scanned (lapsedOn time) blank (λ σ. σ .keys) s k
+Inv-loop s time k₀ k = (k ≤ keyCount) × Scanned (λ σ. lapsedOn time) blank (λ σ. σ .keys) s k
 
 abbrev μ-loop : tie.MeasureT-loop
 μ-loop s time k₀ k = keyCount - k
@@ -23,7 +22,7 @@ lease-lapsed-requires : tie.Need-lease-lapsed-requires Inv-loop μ-loop
 lease-lapsed-requires c κs = search needs
 
 returns : tie.Need-returns Inv-loop μ-loop
-returns c = scanned-hit (c .before .before .before .loop .inv .1) (c .before .lease-lapsed .ensures) refl (c .if1 .taken)
+returns c = scanned-hit (c .before .before .before .loop .inv .1) (c .before .lease-lapsed .ensures) (omega arith) (λ σ h. h .fits .keys) (c .if1 .taken)
 
 add-k : tie.Need-add-k Inv-loop μ-loop
 add-k c = search needs

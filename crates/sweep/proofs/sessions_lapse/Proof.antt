@@ -1,6 +1,5 @@
 -- As long as no session passed is due, none before the place is; one that is due is a hit for all.
 use Prim.Native.Nat.{_≤_, _-_}
-use mathlib.Core.Path.{refl}
 use native.Mathlib.Omega.{arith}
 use borrow.Author.Needs.{needs}
 use Rattle.machine.specs.Sizes.{sessionCount}
@@ -11,7 +10,7 @@ use Rattle.sweep.proofs.sessions_lapse.Statement.{statement}
 use Rattle.sweep.proofs.sessions_lapse.Tie as tie
 
 abbrev Inv-loop : tie.InvT-loop
-Inv-loop s time place₀ place = (place ≤ sessionCount) × Scanned (dueSlot time) noSession (λ σ. σ .sessions) s place
+Inv-loop s time place₀ place = (place ≤ sessionCount) × Scanned (λ σ. dueSlot time) noSession (λ σ. σ .sessions) s place
 
 abbrev μ-loop : tie.MeasureT-loop
 μ-loop s time place₀ place = sessionCount - place
@@ -23,7 +22,7 @@ session-due-requires : tie.Need-session-due-requires Inv-loop μ-loop
 session-due-requires c κs = search needs
 
 returns : tie.Need-returns Inv-loop μ-loop
-returns c = scanned-hit (c .before .before .before .loop .inv .1) (c .before .session-due .ensures) refl (c .if1 .taken)
+returns c = scanned-hit (c .before .before .before .loop .inv .1) (c .before .session-due .ensures) (omega arith) (λ σ h. h .fits .sessions) (c .if1 .taken)
 
 add-place : tie.Need-add-place Inv-loop μ-loop
 add-place c = search needs

@@ -4,11 +4,11 @@ use Rattle.lent.proofs.Choices.{test-failed, test-passed}
 use Rattle.machine.specs.State.{State}
 use Rattle.machine.specs.Sound.{sound}
 use Rattle.layout.specs.Holds.{Holds}
-use mathlib.Core.Path.{_≡_, sym, _∙_}
+use mathlib.Core.Path.{_≡_}
 use Rattle.outcome.proofs.Told.{gives}
 use Rattle.machine.specs.Sizes.{sessionCount}
-use Rattle.layout.proofs.Search.{found-at, found-below}
-use Rattle.turns.proofs.Tried.{Located, located, number-here, done-none, done-open, done-is}
+use Rattle.layout.proofs.Search.{found-below}
+use Rattle.turns.proofs.Tried.{Located, located-at, number-here, done-none, done-open, done-is}
 use borrow.Author.Needs.{needs}
 use Rattle.turns.proofs.done.Statement.{statement}
 use Rattle.turns.proofs.done.Tie as tie
@@ -35,8 +35,8 @@ is-sealed-requires : tie.Need-is-sealed-requires
 is-sealed-requires c κs = search needs
 
 -- the session that was found and loaded
-here : (c : tie.After-load) → (σ : State) → Holds (c .before .before .before .before .before .before .before .before .args .s .now) σ → sound σ ≡ true → Located σ (c .before .before .before .before .before .before .before .before .args .session) (c .before .before .before .i .given .0 .0) (c .load .result)
-here c σ h ok = located σ _ ok (c .load .ensures σ h) (found-at sessionCount _ _ (sym (c .before .before .before .before .before .find .ensures .0 σ h) ∙ c .before .before .before .i .given .1))
+here : (c : tie.After-load) (σ : State) → let a = c .before .before .before .before .before .before .before .before .args in Holds (a .s .now) σ → sound σ ≡ true → Located σ (a .session) (c .before .before .before .i .given .0 .0) (c .load .result)
+here c σ h ok = located-at σ _ ok (c .before .before .before .before .before .find .ensures .0 σ h) (c .before .before .before .i .given .1) (c .load .ensures σ h)
 
 same-length-2 : tie.Need-same-length-2
 same-length-2 c = search needs

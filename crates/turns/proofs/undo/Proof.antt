@@ -1,9 +1,9 @@
 -- The search finds no session (`undo-none`) or its place, and the session leaves, open or sealed.
-use mathlib.Core.Path.{refl, sym, _∙_}
+use mathlib.Core.Path.{refl}
 use Rattle.outcome.proofs.Told.{gives}
 use Rattle.machine.specs.Sizes.{sessionCount}
-use Rattle.layout.proofs.Search.{found-at, found-below}
-use Rattle.turns.proofs.Tried.{located, number-same, number-here, undo-none, undo-is}
+use Rattle.layout.proofs.Search.{found-below}
+use Rattle.turns.proofs.Tried.{located-at, number-same, number-here, undo-none, undo-is}
 use borrow.Author.Needs.{needs}
 use Rattle.turns.proofs.undo.Statement.{statement}
 use Rattle.turns.proofs.undo.Tie as tie
@@ -34,7 +34,7 @@ same-length-2 c = search needs
 
 returns-2 : tie.Need-returns-2
 returns-2 c = λ σ h ok.
-    let w = located σ _ ok refl (found-at sessionCount _ _ (sym (c .before .before .before .before .before .before .before .before .before .find .ensures .0 σ h) ∙ c .before .before .before .before .before .before .before .i .given .1)) in
+    let w = located-at σ _ ok (c .before .before .before .before .before .before .before .before .before .find .ensures .0 σ h) (c .before .before .before .before .before .before .before .i .given .1) refl in
     let e = number-same w (c .before .before .before .before .number .ensures σ h) in
     gives (undo-is σ _ w) (rw (← e) (c .before .before .leave .ensures σ h ok (number-here w e)))
 

@@ -6,8 +6,8 @@ use Rattle.layout.specs.Holds.{Holds}
 use mathlib.Core.Path.{_≡_, sym, _∙_}
 use Rattle.outcome.proofs.Told.{gives}
 use Rattle.machine.specs.Sizes.{sessionCount}
-use Rattle.layout.proofs.Search.{found-at, found-below}
-use Rattle.turns.proofs.Tried.{Located, located, number-here, validate-far, validate-none, validate-by, seals-fit}
+use Rattle.layout.proofs.Search.{found-below}
+use Rattle.turns.proofs.Tried.{Located, located-at, number-here, validate-far, validate-none, validate-by, seals-fit}
 use borrow.Author.Needs.{needs}
 use Rattle.turns.proofs.validate.Statement.{statement}
 use Rattle.turns.proofs.validate.Tie as tie
@@ -52,8 +52,8 @@ enum-told-3 : tie.Need-enum-told-3
 enum-told-3 c = search needs
 
 -- the session that was found and loaded
-here : (c : tie.After-load) → (σ : State) → Holds (c .before .before .before .before .before .before .before .before .before .args .s .now) σ → sound σ ≡ true → Located σ (c .before .before .before .before .before .before .before .before .before .args .session) (c .before .before .before .i .given .0 .0) (c .load .result)
-here c σ h ok = located σ _ ok (c .load .ensures σ h) (found-at sessionCount _ _ (sym (c .before .before .before .before .before .find .ensures .0 σ h) ∙ c .before .before .before .i .given .1))
+here : (c : tie.After-load) (σ : State) → let a = c .before .before .before .before .before .before .before .before .before .args in Holds (a .s .now) σ → sound σ ≡ true → Located σ (a .session) (c .before .before .before .i .given .0 .0) (c .load .result)
+here c σ h ok = located-at σ _ ok (c .before .before .before .before .before .find .ensures .0 σ h) (c .before .before .before .i .given .1) (c .load .ensures σ h)
 
 same-length-2 : tie.Need-same-length-2
 same-length-2 c = search needs

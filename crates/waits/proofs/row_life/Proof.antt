@@ -1,13 +1,16 @@
 -- A free row and one on another key add nothing; one on the key adds the life of its session, if the search finds it.
-use mathlib.Core.Path.{sym, ap, _∙_}
+use mathlib.Core.Path.{_≡_, sym, ap, _∙_}
 use native.Mathlib.Omega.{arith}
 use Prim.Native.Nat.{_<_}
 use Rattle.machine.specs.Sizes.{sessionCount}
-use Rattle.machine.specs.State.{rowAt}
+use Rattle.machine.specs.State.{State, rowAt}
 use Rattle.machine.specs.Effects.{lifeEnd}
-use Rattle.layout.proofs.Held.{row-fits}
-use Rattle.waits.proofs.Waits.{end-found, end-missing, row-end-free, row-end-other, row-end-on}
 use Rattle.machine.specs.declared.Session.{Session}
+use Rattle.layout.specs.Holds.{Holds}
+use Rattle.layout.specs.declared.Found.{Found}
+use Rattle.layout.proofs.Held.{row-fits}
+use Rattle.waits.specs.Waits.{rowEnd}
+use Rattle.waits.proofs.Waits.{endBy, end-by, row-end-free, row-end-other, row-end-on}
 use borrow.Author.Needs.{needs}
 use Rattle.waits.proofs.row_life.Statement.{statement}
 use Rattle.waits.proofs.row_life.Tie as tie
@@ -32,6 +35,17 @@ cast-find c = search needs
 find-requires : tie.Need-find-requires
 find-requires c κs = search needs
 
+-- the row is on the key, and the search for its session told d
+ends-by : (c : tie.After-find) {d : Found} → c .find .result ≡ d → (σ : State) → let a = c .before .before .before .before .before .before .args in Holds (a .s .now) σ → endBy σ d ≡ rowEnd σ (a .k) (rowAt σ (a .i))
+ends-by c e σ h =
+    let if2 = c .before .if2 in
+    let key = c .before .before .key in
+    let if1 = c .before .before .before .if1 in
+    let session = c .before .before .before .before .session in
+    let a = c .before .before .before .before .before .before .args in
+    sym (row-end-on σ (a .k) (rowAt σ (a .i)) (λ q. if1 .left (session .ensures σ h ∙ q)) (sym (key .ensures .0 σ h) ∙ if2 .left)
+    ∙ rw (← session .ensures σ h) (end-by σ (session .result) (h .fits .sessions) (sym (c .find .ensures .0 σ h) ∙ e)))
+
 enum-known-place : tie.Need-enum-known-place
 enum-known-place c = search needs
 
@@ -39,29 +53,13 @@ enum-told : tie.Need-enum-told
 enum-told c = search needs
 
 returns-3 : tie.Need-returns-3
-returns-3 c = let find = c .before .before .find in
-    let if2 = c .before .before .before .if2 in
-    let key = c .before .before .before .before .key in
-    let if1 = c .before .before .before .before .before .if1 in
-    let session = c .before .before .before .before .before .before .session in
-    let args = c .before .before .before .before .before .before .before .before .args in
-    λ σ h. sym (row-end-on σ (args .k) (rowAt σ (args .i)) (λ q. if1 .left (session .ensures σ h ∙ q)) (sym (key .ensures .0 σ h) ∙ if2 .left)
-    ∙ rw (← session .ensures σ h) (end-missing σ (session .result) (h .fits .sessions) (sym (find .ensures .0 σ h) ∙ c .enum-told .given .1)))
+returns-3 c = ends-by (c .before .before) (c .enum-told .given .1)
 
 load-requires : tie.Need-load-requires
 load-requires c κs = let l : c .before .place .given .0 .0 < sessionCount = rw (c .before .place .given .1) at (c .before .before .before .find .ensures .1) in omega arith
 
 returns-4 : tie.Need-returns-4
-returns-4 c = let place = c .before .before .place in
-    let find = c .before .before .before .before .find in
-    let if2 = c .before .before .before .before .before .if2 in
-    let key = c .before .before .before .before .before .before .key in
-    let if1 = c .before .before .before .before .before .before .before .if1 in
-    let session = c .before .before .before .before .before .before .before .before .session in
-    let args = c .before .before .before .before .before .before .before .before .before .before .args in
-    λ σ h. ap (λ (x : Session). lifeEnd (x .life)) (c .load .ensures σ h)
-    ∙ sym (row-end-on σ (args .k) (rowAt σ (args .i)) (λ q. if1 .left (session .ensures σ h ∙ q)) (sym (key .ensures .0 σ h) ∙ if2 .left)
-    ∙ rw (← session .ensures σ h) (end-found σ (session .result) (h .fits .sessions) (place .given .0 .0) (sym (find .ensures .0 σ h) ∙ place .given .1)))
+returns-4 c = λ σ h. ap (λ (x : Session). lifeEnd (x .life)) (c .load .ensures σ h) ∙ ends-by (c .before .before .before .before) (c .before .before .place .given .1) σ h
 
 pub row-life-spec : {M : Type 1} → statement M
 row-life-spec =

@@ -2,8 +2,12 @@
 use mathlib.Core.Path.{_≡_, sym, _∙_}
 use mathlib.Core.Bool.{true}
 use Rattle.lent.proofs.Choices.{test-failed, test-passed}
+use Rattle.machine.specs.Sizes.{sessionCount}
+use Rattle.machine.specs.State.{sessionPlace}
 use Rattle.layout.specs.Layout.{decode}
 use Rattle.layout.specs.WellFormed.{wellFormed}
+use Rattle.layout.specs.Search.{found}
+use Rattle.layout.specs.declared.Found.{Found}
 use Rattle.layout.proofs.Formed.{formed, holds-decoded}
 use Rattle.layout.proofs.Search.{found-below}
 use Rattle.writes.proofs.Written.{written-damaged, written-nobody, written-at}
@@ -25,11 +29,16 @@ find-requires c κs = formed (c .before .before .before .before .args .cache .no
 enum-known-place : tie.Need-enum-known-place
 enum-known-place c = search needs
 
+-- the buffer is well formed, and the search for the session told d
+formed-and-found : (c : tie.After-find) {d : Found} → c .find .result ≡ d → let x = c .before .before .before .before .before .args .cache .now in (wellFormed x ≡ true) × (found sessionCount (sessionPlace (decode x) (c .before .before .before .before .before .args .session)) ≡ d)
+formed-and-found c q =
+    let e = test-passed (c .before .before .well-formed .ensures) (c .before .if1 .left) in
+    (e, sym (c .find .ensures .0 _ (holds-decoded _ e)) ∙ q)
+
 mark-write-requires : tie.Need-mark-write-requires
-mark-write-requires c κs =
-    let s = c .before .before .before .before .before .before .before .before .before in
-    let size = formed (s .args .cache .now) (test-passed (c .before .before .before .before .before .before .well-formed .ensures) (c .before .before .before .before .before .if1 .left)) .size in
-    (size, (s .pre, found-below _ _ _ (c .before .before .place .given .1) (c .before .before .before .before .find .ensures .1)))
+mark-write-requires c κs = let at = c .before .before .place .given .1 in
+    let searched = c .before .before .before .before in
+    (formed _ (formed-and-found searched at .0) .size, (c .before .before .before .before .before .before .before .before .before .pre, found-below _ _ _ at (searched .find .ensures .1)))
 
 enum-told : tie.Need-enum-told
 enum-told c = search needs
@@ -38,18 +47,10 @@ same-length : tie.Need-same-length
 same-length c = search needs
 
 returns-2 : tie.Need-returns-2
-returns-2 c =
-    let a = c .before .before .before .before .before .before .before .before .before .before .before .before .args in
-    let e : wellFormed (a .cache .now) ≡ true = test-passed (c .before .before .before .before .before .before .before .before .before .well-formed .ensures) (c .before .before .before .before .before .before .before .before .if1 .left) in
-    let at = sym (c .before .before .before .before .before .before .before .find .ensures .0 (decode (a .cache .now)) (holds-decoded (a .cache .now) e)) ∙ c .before .before .before .before .before .place .given .1 in
-    written-at (a .cache .now) (a .book .now) (a .session) (a .key) e _ _ _ at (c .before .before .mark-write .ensures)
+returns-2 c = let w = formed-and-found (c .before .before .before .before .before .before .before) (c .before .before .before .before .before .place .given .1) in written-at _ _ _ _ (w .0) _ _ _ (w .1) (c .before .before .mark-write .ensures)
 
 returns-3 : tie.Need-returns-3
-returns-3 c =
-    let a = c .before .before .before .before .before .before .before .args in
-    let e : wellFormed (a .cache .now) ≡ true = test-passed (c .before .before .before .before .well-formed .ensures) (c .before .before .before .if1 .left) in
-    let nothing = sym (c .before .before .find .ensures .0 (decode (a .cache .now)) (holds-decoded (a .cache .now) e)) ∙ c .enum-told .given .1 in
-    written-nobody (a .cache .now) (a .book .now) (a .session) (a .key) e nothing
+returns-3 c = let w = formed-and-found (c .before .before) (c .enum-told .given .1) in written-nobody _ _ _ _ (w .0) (w .1)
 
 pub note-write-spec : {M : Type 1} → statement M
 note-write-spec =
