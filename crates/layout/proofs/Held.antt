@@ -11,7 +11,7 @@ use lib.Dec.{eqb}
 use lib.ListN.{length, getD, set, length-set}
 use borrow.Author.Tests.{eqb-true}
 use Rattle.lent.specs.Bytes.{le32, le64, splice, win}
-use Rattle.lent.proofs.Numbers.{le32-win, le64-win}
+use Rattle.lent.proofs.Numbers.{width32, width64, le-win}
 use Rattle.lent.proofs.Splice.{getD-win, length-splice, splice-over, splice-self, splice-win, win-splice, win-win}
 use Rattle.lent.proofs.Tables.{each-at, each-set}
 use Rattle.lent.proofs.Choices.{clash, zero-one}
@@ -60,7 +60,7 @@ pub record Stands {A : Type 0} {P : A → Type 0} {enc : A → List ℕ} {free :
 
 -- the first number of w bytes
 pub le32-front : (b : List ℕ) (a w : ℕ) → 4 ≤ w → le32 (win b a w) 0 ≡ le32 b a
-le32-front b a w h = rw add-zero at (le32-win b a w 0 h)
+le32-front b a w h = rw add-zero at (le-win width32 b a w 0 h)
 
 module _ {A : Type 0} {P : A → Type 0} {enc : A → List ℕ} {free : A} {w from n : ℕ} {xs : List A} {to : List A → State} {t : Table P enc free w from n xs to} {b : List ℕ} {i : ℕ} where
   record-stands : Holds b (to xs) → i < n → Stands t b i
@@ -83,7 +83,7 @@ module _ {A : Type 0} {P : A → Type 0} {enc : A → List ℕ} {free : A} {w fr
     byte-at j h e = field-at (λ y. getD y j 0) (getD-win b (from + i * w) w j h) (λ x p. e x)
 
     le32-at : {f : A → ℕ} (j : ℕ) → j + 4 ≤ w → ((x : A) → P x → le32 (enc x) j ≡ f x) → le32 b (from + i * w + j) ≡ f (getD xs i free)
-    le32-at j h = field-at (λ y. le32 y j) (le32-win b (from + i * w) w j h)
+    le32-at j h = field-at (λ y. le32 y j) (le-win width32 b (from + i * w) w j h)
 
     -- its first field
     byte-first : 1 ≤ w → getD b (from + i * w) 0 ≡ getD (enc (getD xs i free)) 0 0
@@ -151,7 +151,7 @@ module _ {b : List ℕ} {s : State} (h : Holds b s) where
     token-held = le32-at key-stands keyTokenField (omega arith) key-token
 
     pub until-held : le64 b (keysFrom + k * keyWidth + keyUntilField) ≡ leaseUntil (leaseOn s k)
-    until-held = field-at key-stands (λ y. le64 y keyUntilField) (le64-win b _ keyWidth keyUntilField (omega arith)) key-until
+    until-held = field-at key-stands (λ y. le64 y keyUntilField) (le-win width64 b _ keyWidth keyUntilField (omega arith)) key-until
 
   -- a row
   module _ (i : ℕ) (l : i < rowCount) where

@@ -8,7 +8,7 @@ use lib.ListN.{length, getD, set, drop, length-append}
 use lib.Seq.{drop-at}
 use Rattle.lent.specs.Bytes.{splice, win, zeros}
 use Rattle.lent.specs.Tables.{Each, readTab, tabOf}
-use Rattle.lent.proofs.Numbers.{le32-win, le64-win}
+use Rattle.lent.proofs.Numbers.{width32, width64, le-win}
 use Rattle.lent.proofs.Splice.{splice-front, splice-whole, win-front, win-whole}
 use Rattle.lent.proofs.Tables.{Wide, each-map, put-tab-at, read-tab, win-tab-at}
 use Rattle.machine.specs.Sizes.{keyCount, sessionCount, rowCount, headSize, keysFrom, keyWidth, rowsFrom, rowWidth, sessionsFrom, sessionWidth, restSize, readLifeField, writeLifeField, nextSessionField, nextTokenField}
@@ -24,11 +24,11 @@ head-win : (b : List ℕ) → decHead (win b 0 headSize) ≡ decHead b
 unfolding decHead
 head-win b =
     rw (
-      le64-win b 0 headSize 0 (omega arith),
-      le32-win b 0 headSize readLifeField (omega arith),
-      le32-win b 0 headSize writeLifeField (omega arith),
-      le32-win b 0 headSize nextSessionField (omega arith),
-      le32-win b 0 headSize nextTokenField (omega arith),
+      le-win width64 b 0 headSize 0 (omega arith),
+      le-win width32 b 0 headSize readLifeField (omega arith),
+      le-win width32 b 0 headSize writeLifeField (omega arith),
+      le-win width32 b 0 headSize nextSessionField (omega arith),
+      le-win width32 b 0 headSize nextTokenField (omega arith),
     )
 
 -- ---- a table, what comes before it and what comes behind it

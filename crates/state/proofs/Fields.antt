@@ -10,7 +10,7 @@ use lib.Dec.{eqb}
 use borrow.Author.Tests.{eqb-true}
 use Rattle.lent.specs.Bytes.{le32, le64, win}
 use Rattle.lent.specs.Tables.{if_then_else_}
-use Rattle.lent.proofs.Numbers.{le32-win}
+use Rattle.lent.proofs.Numbers.{width32, le-win}
 use Rattle.lent.proofs.Splice.{getD-win}
 use Rattle.lent.proofs.Tables.{read-tab-at}
 use Rattle.machine.specs.Sizes.{keyCount, keysFrom, keyWidth, rowCount, rowsFrom, rowWidth, sessionCount, sessionsFrom, sessionWidth}
@@ -63,7 +63,7 @@ module _ (s : List ℕ) where
   number-at j h = ap numberIn (session-at j h) ∙ number-decoded (sessionBytes j) ∙ le32-front s (sessionsFrom + j * sessionWidth) sessionWidth (omega arith)
 
   pub token-at : (k : ℕ) → k < keyCount → tokenAt (decode s) k ≡ le32 s (keysFrom + k * keyWidth + 4)
-  token-at k h = ap (λ (y : Key). tokenIn (y .lease)) (key-at k h) ∙ token-decoded (keyBytes k) ∙ le32-win s (keysFrom + k * keyWidth) keyWidth 4 (omega arith)
+  token-at k h = ap (λ (y : Key). tokenIn (y .lease)) (key-at k h) ∙ token-decoded (keyBytes k) ∙ le-win width32 s (keysFrom + k * keyWidth) keyWidth 4 (omega arith)
 
   -- row i, free or not
   abbrev pub rowOr : Bool → ℕ → Row
