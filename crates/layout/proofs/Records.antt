@@ -65,24 +65,18 @@ unfolding win
 value-bytes v none = take-at v _ (length v) refl
 value-bytes v (some l) = take-at v _ (length v) refl
 
-lease-token : (o : Option Value) (l : Option Lease) → LeaseFits l → le32 (keyBytes o l) keyTokenField ≡ tokenIn l
-lease-token none none f = refl
-lease-token none (some l) f = le-bytes width32 (l .token) (f .token)
-lease-token (some v) none f = refl
-lease-token (some v) (some l) f = le-bytes width32 (l .token) (f .token)
-
-lease-until : (o : Option Value) (l : Option Lease) → LeaseFits l → le64 (keyBytes o l) keyUntilField ≡ leaseUntil l
-lease-until none none f = refl
-lease-until none (some l) f = le-bytes width64 (l .until) (f .until)
-lease-until (some v) none f = refl
-lease-until (some v) (some l) f = le-bytes width64 (l .until) (f .until)
+lease-said : (o : Option Value) (l : Option Lease) → LeaseFits l → (le32 (keyBytes o l) keyTokenField ≡ tokenIn l) × (le64 (keyBytes o l) keyUntilField ≡ leaseUntil l)
+lease-said none none f = (refl, refl)
+lease-said none (some l) f = (le-bytes width32 (l .token) (f .token), le-bytes width64 (l .until) (f .until))
+lease-said (some v) none f = (refl, refl)
+lease-said (some v) (some l) f = (le-bytes width32 (l .token) (f .token), le-bytes width64 (l .until) (f .until))
 
 value-read : (o : Option Value) (l : Option Lease) → decValue (keyBytes o l) ≡ o
 value-read none l = refl
 value-read (some v) l = ap some (value-bytes v l)
 
 lease-read : (o : Option Value) (l : Option Lease) → LeaseFits l → decLease (keyBytes o l) ≡ l
-lease-read o l f = rw (lease-token o l f, lease-until o l f) (go l f)
+lease-read o l f = rw (lease-said o l f .0, lease-said o l f .1) (go l f)
   where
     go : (l : Option Lease) → LeaseFits l → (if eqb (tokenIn l) 0 then none else some (record { token = tokenIn l; until = leaseUntil l })) ≡ l
     go none f = refl
@@ -103,11 +97,11 @@ module _ (k : Key) where
 
   pub key-token : KeyFits k → le32 (encKey k) keyTokenField ≡ tokenIn (k .lease)
   unfolding encKey
-  key-token f = lease-token (k .value) (k .lease) (f .lease)
+  key-token f = lease-said (k .value) (k .lease) (f .lease) .0
 
   pub key-until : KeyFits k → le64 (encKey k) keyUntilField ≡ leaseUntil (k .lease)
   unfolding encKey
-  key-until f = lease-until (k .value) (k .lease) (f .lease)
+  key-until f = lease-said (k .value) (k .lease) (f .lease) .1
 
   pub key-read : KeyFits k → decKey (encKey k) ≡ k
   unfolding encKey decKey

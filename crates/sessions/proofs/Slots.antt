@@ -23,7 +23,7 @@ use Rattle.layout.specs.Layout.{encSession, lifeMark, lifeTime, decLife, sessio
 use Rattle.layout.specs.Holds.{Live, SlotFits, Holds}
 use Rattle.layout.specs.Search.{found, startsWith}
 use Rattle.layout.specs.declared.Found.{Found}
-use Rattle.layout.proofs.Held.{le32-front, number-held, session-stands, session-fits}
+use Rattle.layout.proofs.Held.{le32-front, number-held, session-stands}
 use Rattle.layout.proofs.Formed.{holds-size}
 use Rattle.layout.proofs.Search.{first-held, found-none}
 
@@ -80,7 +80,7 @@ module _ {b : List ℕ} {s : State} (h : Holds b s) where
       → first (startsWith b sessionsFrom sessionWidth n) Found.At Found.Nothing 0 sessionCount ≡ found sessionCount (place p (s .sessions))
   number-search p n q =
       first-held p noSession (startsWith b sessionsFrom sessionWidth n) (s .sessions) sessionCount (h .fits .sessions) (λ i l.
-      rw (number-held h i l) (q (sessionAt s i) (session-fits h i l)))
+      rw (number-held h i l) (q (sessionAt s i) (session-stands h i l .fits)))
 
   pub session-search : (n : ℕ) → (n ≡ 0 → ⊥) → first (startsWith b sessionsFrom sessionWidth n) Found.At Found.Nothing 0 sessionCount ≡ found sessionCount (sessionPlace s n)
   session-search n z = number-search (numbered n) n (λ e f. numbered-is n e z)
@@ -89,4 +89,4 @@ module _ {b : List ℕ} {s : State} (h : Holds b s) where
   free-search = number-search free 0 number-free
 
   pub none-zero : found sessionCount (sessionPlace s 0) ≡ Found.Nothing
-  none-zero = found-none (numbered 0) noSession (s .sessions) sessionCount (h .fits .sessions) (λ i l. numbered-zero (sessionAt s i) (session-fits h i l))
+  none-zero = found-none (numbered 0) noSession (s .sessions) sessionCount (h .fits .sessions) (λ i l. numbered-zero (sessionAt s i) (session-stands h i l .fits))

@@ -3,7 +3,7 @@ use mathlib.Core.Path.{sym, _∙_}
 use native.Mathlib.Omega.{arith}
 use Prim.Native.Nat.{_<_}
 use Rattle.machine.specs.Sizes.{rowCount}
-use Rattle.layout.proofs.Held.{key-fits}
+use Rattle.layout.proofs.Held.{key-stands}
 use Rattle.holdings.proofs.Holdings.{held-row, held-free, held-lease}
 use borrow.Author.Needs.{needs}
 use Rattle.holdings.proofs.held.Statement.{statement}
@@ -42,7 +42,7 @@ returns-2 c = let lease-token = c .before .lease-token in
     let enum-told = c .before .before .enum-told in
     let first-on = c .before .before .before .before .first-on in
     let k = c .before .before .before .before .before .before .args .k in
-    (λ σ h e. sym (held-free σ k (h .fits .rows) (sym (first-on .ensures .0 σ h) ∙ enum-told .given .1) (key-fits h k (omega arith) .lease) (sym (lease-token .ensures σ h) ∙ c .if1 .taken)), omega arith)
+    (λ σ h e. sym (held-free σ k (h .fits .rows) (sym (first-on .ensures .0 σ h) ∙ enum-told .given .1) (key-stands h k (omega arith) .fits .lease) (sym (lease-token .ensures σ h) ∙ c .if1 .taken)), omega arith)
 
 returns-3 : tie.Need-returns-3
 returns-3 c = let lease-token = c .before .lease-token in

@@ -5,7 +5,7 @@ use Prim.Native.Nat.{_<_}
 use Rattle.machine.specs.Sizes.{sessionCount}
 use Rattle.machine.specs.State.{rowAt}
 use Rattle.machine.specs.Effects.{lifeEnd}
-use Rattle.layout.proofs.Held.{row-fits}
+use Rattle.layout.proofs.Held.{row-stands}
 use Rattle.waits.proofs.Waits.{end-found, end-missing, row-end-free, row-end-other, row-end-on}
 use Rattle.machine.specs.declared.Session.{Session}
 use borrow.Author.Needs.{needs}
@@ -17,7 +17,7 @@ session-requires c κs = search needs
 
 returns : tie.Need-returns
 returns c = λ σ h. let a = c .before .before .before .args in
-    sym (row-end-free σ (a .k) (rowAt σ (a .i)) (row-fits h (a .i) (omega arith)) (sym (c .before .session .ensures σ h) ∙ c .if1 .taken))
+    sym (row-end-free σ (a .k) (rowAt σ (a .i)) (row-stands h (a .i) (omega arith) .fits) (sym (c .before .session .ensures σ h) ∙ c .if1 .taken))
 
 key-requires : tie.Need-key-requires
 key-requires c κs = search needs
