@@ -14,7 +14,7 @@ use borrow.Author.Tests.{ltb-true, ltb-false, lt-ltb}
 use Rattle.lent.specs.Bytes.{le32, bytes32, bytes64, win, splice, zeros}
 use Rattle.lent.specs.Tables.{if_then_else_}
 use Rattle.lent.proofs.Choices.{if-ind}
-use Rattle.lent.proofs.Numbers.{width32, le-bytes, le-win}
+use Rattle.lent.proofs.Numbers.{width32, le-bytes, le-front}
 use Rattle.lent.proofs.Splice.{getD-splice-after, getD-splice-before, getD-splice-in, length-splice, win-splice, win-splice-after, win-splice-before, win-splice-in}
 use Rattle.machine.specs.Sizes.{keyCount, sessionCount, valueMax}
 use Rattle.machine.specs.State.{Value}
@@ -232,7 +232,7 @@ module _ (b : List ℕ) (e : length b ≡ bookSize) (i : ℕ) (h : i < sessionCo
   pub mark-same : n < 2 ^ 32 → mark (withMark b i n) i ≡ n
   unfolding mark withMark
   mark-same g =
-      sym (rw add-zero at (le-win width32 (splice b (marksFrom + i * markWidth) (bytes32 n)) (marksFrom + i * markWidth) markWidth 0 (omega arith)))
+      sym (le-front width32 (splice b (marksFrom + i * markWidth) (bytes32 n)) (marksFrom + i * markWidth) markWidth (omega arith))
       ∙ ap (λ (s : List ℕ). le32 s 0) (win-splice b (marksFrom + i * markWidth) (bytes32 n) markWidth refl (omega arith))
       ∙ le-bytes width32 n g
 

@@ -5,15 +5,13 @@ use mathlib.Core.Bool.{true, false, not}
 use mathlib.Core.List.{List}
 use mathlib.Core.Option.{some}
 use Prim.Native.Nat.{ℕ, _+_, _*_, _≤_, _<_}
-use native.Mathlib.Nat.{add-zero}
 use native.Mathlib.Omega.{arith}
 use lib.Dec.{eqb}
-use lib.ListN.{length, getD, set, length-set}
+use lib.ListN.{length, getD}
 use borrow.Author.Tests.{eqb-true}
 use Rattle.lent.specs.Bytes.{le32, le64, splice, win}
-use Rattle.lent.proofs.Numbers.{width32, width64, le-win}
-use Rattle.lent.proofs.Splice.{getD-win, length-splice, splice-over, splice-self, splice-win, win-splice, win-win}
-use Rattle.lent.proofs.Tables.{each-at, each-set}
+use Rattle.lent.proofs.Numbers.{width32, width64}
+use Rattle.lent.proofs.Splice.{length-splice, splice-over, splice-self, splice-win, win-splice}
 use Rattle.lent.proofs.Choices.{clash, zero-one}
 use Rattle.machine.specs.Sizes.{keyCount, sessionCount, rowCount, headSize, keysFrom, keyWidth, rowsFrom, rowWidth, sessionsFrom, sessionWidth, valueMax, valueAt, stagedAt}
 use Rattle.machine.specs.Sizes.{readLifeField, writeLifeField, nextSessionField, nextTokenField, keyLengthField, keyTokenField, keyUntilField, keyValueField, rowKeyField, rowKindField, rowStagedField, rowLengthField, rowValueField}
@@ -23,7 +21,7 @@ use Rattle.machine.specs.Expiry.{withHead}
 use Rattle.machine.specs.Sound.{tokenIn, numberIn}
 use Rattle.layout.specs.Layout.{encHead, decHead, sessionFrom}
 use Rattle.layout.specs.Fields.{valueLength, leaseUntil, rowSession, rowKey, stagedMark, stagedLength, sessionIn}
-use Rattle.layout.specs.Holds.{HeadFits, KeyFits, SlotFits, RowFits, Holds}
+use Rattle.layout.specs.Holds.{HeadFits, SlotFits, RowFits, Holds}
 use Rattle.layout.proofs.Records.{key-there, key-length, key-value, key-token, key-until, row-session, row-key, row-kind-byte, row-mark, row-length, row-value, session-number-bytes, session-from}
 use Rattle.layout.proofs.Places.{Stands, record-stands, win-at, le-at, byte-at, byte-first, le32-first, keys-table, rows-table, sessions-table, head-at, put-head, head-decoded}
 
@@ -49,10 +47,6 @@ module _ (b : List ℕ) (a w : ℕ) (l : a + w ≤ length b) where
       ∙ sym (splice-win d a w i y (omega arith) h)
       ∙ ap (λ (r : List ℕ). splice d a (splice r i y)) wd
       ∙ splice-over b x (splice x i y) a w m ly l
-
--- the first number of w bytes
-pub le32-front : (b : List ℕ) (a w : ℕ) → 4 ≤ w → le32 (win b a w) 0 ≡ le32 b a
-le32-front b a w h = rw add-zero at (le-win width32 b a w 0 h)
 
 -- ---- the state that is held
 

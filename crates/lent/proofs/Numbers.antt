@@ -4,16 +4,15 @@ use mathlib.Core.Path.{_≡_, refl, sym, ap, ap₂, _∙_}
 use mathlib.Core.Bool.{_&&_}
 use mathlib.Core.List.{List, [], _∷_, _++_}
 use Prim.Native.Nat.{ℕ, zero, suc, _+_, _*_, _/_, _%_, _^_, _≤_, _<_}
-use native.Mathlib.Nat.{add-assoc, div-add-mod', div-div-eq-div-mul, div-lt-iff-lt-mul, div-one, mod-lt, mul-comm, pow-suc, suc-add, suc-mul, zero-add}
+use native.Mathlib.Nat.{add-assoc, add-zero, div-add-mod', div-div-eq-div-mul, div-lt-iff-lt-mul, div-one, mod-lt, mul-comm, pow-suc, suc-add, zero-add}
 use native.Mathlib.Omega.{arith}
 use lib.Arith.{digits-div, digits-mod, mod-mul}
 use lib.Dec.{eqb, eqb·suc-zero}
 use lib.ListN.{length, getD}
-use borrow.Author.Tests.{eq-eqb, ne-eqb}
+use borrow.Author.Tests.{ne-eqb}
 use Rattle.lent.specs.Bytes.{Bytes, le16, bytes16, le32, bytes32, le64, bytes64, win}
 use Rattle.lent.specs.Tables.{allZero}
-use Rattle.lent.proofs.Splice.{bytes-win, getD-win, length-win, win-whole, win-add, win-cons, win-none}
-use Rattle.lent.proofs.Zeros.{zero-append}
+use Rattle.lent.proofs.Splice.{bytes-win, getD-win, length-win, win-whole, win-cons, win-none}
 
 -- the n low bytes of v, the number that bytes say, and the one that the n bytes at a place say
 abbrev digits : ℕ → ℕ → List ℕ
@@ -105,6 +104,9 @@ module _ {m : ℕ} {le : List ℕ → ℕ → ℕ} {bytes : ℕ → List ℕ} (w
   -- in a window
   pub le-win : (s : List ℕ) (a n i : ℕ) → i + m ≤ n → le (win s a n) i ≡ le s (a + i)
   le-win s a n i h = w .reads (win s a n) i ∙ said-win m s a n i h ∙ sym (w .reads s (a + i))
+
+  pub le-front : (s : List ℕ) (a n : ℕ) → m ≤ n → le (win s a n) 0 ≡ le s a
+  le-front s a n h = le-win s a n 0 (omega arith) ∙ rw add-zero
 
   -- the number that a window says
   number-le : (s : List ℕ) (a : ℕ) → a + m ≤ length s → number (win s a m) ≡ le s a

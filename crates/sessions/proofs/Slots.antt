@@ -10,7 +10,7 @@ use lib.ListN.{length, getD, set}
 use borrow.Author.Tests.{ne-eqb}
 use Rattle.lent.specs.Bytes.{le16, bytes16, le32, bytes32, le64, bytes64, splice, win}
 use Rattle.lent.specs.Tables.{first}
-use Rattle.lent.proofs.Numbers.{width16, width64, le-win}
+use Rattle.lent.proofs.Numbers.{width16, width32, width64, le-front, le-win}
 use Rattle.lent.proofs.Splice.{getD-win, splice-next}
 use Rattle.machine.specs.Sizes.{sessionCount, sessionsFrom, sessionWidth}
 use Rattle.machine.specs.Tables.{place}
@@ -23,7 +23,7 @@ use Rattle.layout.specs.Layout.{encSession, lifeMark, lifeTime, decLife, sessio
 use Rattle.layout.specs.Holds.{Live, SlotFits, Holds}
 use Rattle.layout.specs.Search.{found, startsWith}
 use Rattle.layout.specs.declared.Found.{Found}
-use Rattle.layout.proofs.Held.{le32-front, number-held, session-stands}
+use Rattle.layout.proofs.Held.{number-held, session-stands}
 use Rattle.layout.proofs.Formed.{holds-size}
 use Rattle.layout.proofs.Search.{first-held, found-none}
 
@@ -38,7 +38,7 @@ module _ (b : List ℕ) (a : ℕ) where
       rw (getD-win b a sessionWidth 4 (omega arith), ne-eqb (getD b (a + 4) 0) 2 n, le-win width64 b a sessionWidth 8 (omega arith))
 
   pub session-loaded : sessionFrom (win b a sessionWidth) ≡ record { number = le32 b a; life = decLife (win b a sessionWidth); count = le16 b (a + 6) }
-  session-loaded = rw (le32-front b a sessionWidth (omega arith), le-win width16 b a sessionWidth 6 (omega arith))
+  session-loaded = rw (le-front width32 b a sessionWidth (omega arith), le-win width16 b a sessionWidth 6 (omega arith))
 
 -- the four stores of a session, one behind the other
 session-written : (b : List ℕ) (a n m c t : ℕ) → a + sessionWidth ≤ length b

@@ -1,12 +1,7 @@
 -- `command` meets its contract: the shape, the numbers and what ends the line, in the order of `commandLine`.
-use mathlib.Core.Path.{_≡_, sym, _∙_}
-use mathlib.Core.List.{List}
-use Prim.Native.Nat.{ℕ}
-use Rattle.lent.specs.Bytes.{splice}
-use Rattle.hex.specs.Hex.{lengthRead, valueRead}
-use Rattle.hex.specs.declared.Hex.{Hex}
+use mathlib.Core.Path.{sym, _∙_}
 use Rattle.lines.specs.Fields.{fieldsAt, ending}
-use Rattle.lines.specs.Lines.{orUnreadable, shapeOf, commandLine, Gives}
+use Rattle.lines.specs.Lines.{orUnreadable, shapeOf, commandLine}
 use Rattle.lines.specs.declared.Line.{Line}
 use Rattle.lines.proofs.Saying.{gives-none, GivesBy, gives-valued}
 use borrow.Author.Needs.{needs}

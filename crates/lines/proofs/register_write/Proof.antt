@@ -1,13 +1,7 @@
 -- `register_write` meets its contract: the key is tested before the value is read, and `last_value` refuses a value that is too long before it writes.
-use mathlib.Core.Path.{_≡_}
-use mathlib.Core.List.{List}
-use Prim.Native.Nat.{ℕ}
 use borrow.Author.Tests.{lt-ltb, le-ltb}
-use Rattle.lent.specs.Bytes.{splice}
-use Rattle.hex.specs.Hex.{lengthRead, valueRead}
-use Rattle.hex.specs.declared.Hex.{Hex}
 use Rattle.lines.specs.Fields.{fieldsAt, lastValue}
-use Rattle.lines.specs.Lines.{orUnreadable, writeLine, keyMax, valueMax, Gives}
+use Rattle.lines.specs.Lines.{orUnreadable, writeLine, keyMax, valueMax}
 use Rattle.lines.specs.declared.Line.{Line}
 use Rattle.lines.proofs.Saying.{gives-none, GivesBy, gives-valued}
 use borrow.Author.Needs.{needs}
