@@ -14,7 +14,7 @@ use borrow.Author.Tests.{ltb-true, ltb-false, lt-ltb}
 use Rattle.lent.specs.Bytes.{le32, bytes32, bytes64, win, splice, zeros}
 use Rattle.lent.specs.Tables.{if_then_else_}
 use Rattle.lent.proofs.Choices.{if-ind}
-use Rattle.lent.proofs.Numbers.{le32-bytes, le32-win}
+use Rattle.lent.proofs.Numbers.{width32, le-bytes, le-front}
 use Rattle.lent.proofs.Splice.{getD-splice-after, getD-splice-before, getD-splice-in, length-splice, win-splice, win-splice-after, win-splice-before, win-splice-in}
 use Rattle.machine.specs.Sizes.{keyCount, sessionCount, valueMax}
 use Rattle.machine.specs.State.{Value}
@@ -79,6 +79,12 @@ granted-is : (b b′ : List ℕ) (k : ℕ) → (k < keyCount → note b′ (keyC
 unfolding granted
 granted-is b b′ k h = note-is b b′ k (keyCount + k) h
 
+-- c has the size of a book, and says what b does of START and of the sessions' table
+pub record Kept (b c : List ℕ) : Type 0 where
+  pub size : length c ≡ bookSize
+  pub flag : started c ≡ started b
+  pub marks : (i : ℕ) → mark c i ≡ mark b i
+
 -- ---- START is noted
 
 module _ (b : List ℕ) (e : length b ≡ bookSize) where
@@ -108,13 +114,13 @@ unfolding win
 win-tail m v = take-length v
 
 module _ (b : List ℕ) (e : length b ≡ bookSize) (i : ℕ) (h : i < keyCount + keyCount) (v : Value) (l : length v ≤ valueMax) where
-  length-note : length (withNote b i v) ≡ bookSize
+  note-keeps : Kept b (withNote b i v)
   unfolding withNote
-  length-note = length-splice b (noteAt i) (length v ∷ v) (omega arith) ∙ e
-
-  started-note : started (withNote b i v) ≡ started b
-  unfolding withNote
-  started-note = started-apart b (noteAt i) (length v ∷ v) (omega arith) (omega arith)
+  note-keeps = record {
+    size = length-splice b (noteAt i) (length v ∷ v) (omega arith) ∙ e;
+    flag = started-apart b (noteAt i) (length v ∷ v) (omega arith) (omega arith);
+    marks = λ j. mark-apart b (noteAt i) (length v ∷ v) (omega arith) j (inr (omega arith));
+  }
 
   note-same : note (withNote b i v) i ≡ v
   unfolding note withNote
@@ -130,10 +136,6 @@ module _ (b : List ℕ) (e : length b ≡ bookSize) (i : ℕ) (h : i < keyCount 
       go true q = inl (omega (arith, ltb-true j i q))
       go false q = inr (omega (arith, ltb-false j i q, n))
 
-  mark-note : (j : ℕ) → mark (withNote b i v) j ≡ mark b j
-  unfolding withNote
-  mark-note j = mark-apart b (noteAt i) (length v ∷ v) (omega arith) j (inr (omega arith))
-
 -- ---- the note i is written for the key k, if it is one
 
 module _ (b : List ℕ) (e : length b ≡ bookSize) (k i : ℕ) (h : k < keyCount → i < keyCount + keyCount) (v : Value) (l : length v ≤ valueMax) where
@@ -143,28 +145,18 @@ module _ (b : List ℕ) (e : length b ≡ bookSize) (k i : ℕ) (h : k < keyCoun
   noted-ind : (P : List ℕ → Type 0) → (k < keyCount → P (withNote b i v)) → P b → P noted
   noted-ind P f g = if-ind P (ltb k keyCount) (λ q. f (ltb-true k keyCount q)) (λ q. g)
 
-  length-noted : length noted ≡ bookSize
-  length-noted = noted-ind (λ x. length x ≡ bookSize) (λ g. length-note b e i (h g) v l) e
-
-  started-noted : started noted ≡ started b
-  started-noted = noted-ind (λ x. started x ≡ started b) (λ g. started-note b e i (h g) v l) refl
+  noted-keeps : Kept b noted
+  noted-keeps = noted-ind (Kept b) (λ g. note-keeps b e i (h g) v l) (record { size = e; flag = refl; marks = λ j. refl })
 
   note-unnoted : (j : ℕ) → (k < keyCount → j ≡ i → ⊥) → note noted j ≡ note b j
   note-unnoted j n = noted-ind (λ x. note x j ≡ note b j) (λ g. note-other b e i (h g) v l j (n g)) refl
 
-  mark-noted : (j : ℕ) → mark noted j ≡ mark b j
-  mark-noted j = noted-ind (λ x. mark x j ≡ mark b j) (λ g. mark-note b e i (h g) v l j) refl
-
 module _ (b : List ℕ) (e : length b ≡ bookSize) (k : ℕ) (v : Value) (l : length v ≤ valueMax) where
   -- ---- the register writes the value v to the key k
 
-  pub length-registered : length (withRegistered b k v) ≡ bookSize
+  pub registered-keeps : Kept b (withRegistered b k v)
   unfolding withRegistered
-  length-registered = length-noted b e k k (λ h. omega arith) v l
-
-  pub started-registered : started (withRegistered b k v) ≡ started b
-  unfolding withRegistered
-  started-registered = started-noted b e k k (λ h. omega arith) v l
+  registered-keeps = noted-keeps b e k k (λ h. omega arith) v l
 
   pub registered-same : k < keyCount → registered (withRegistered b k v) k ≡ v
   unfolding registered withRegistered
@@ -178,19 +170,11 @@ module _ (b : List ℕ) (e : length b ≡ bookSize) (k : ℕ) (v : Value) (l : l
   unfolding withRegistered
   granted-registered j = granted-is b _ j (λ g. note-unnoted b e k k (λ h. omega arith) v l (keyCount + j) (λ h q. omega arith))
 
-  pub mark-registered : (i : ℕ) → mark (withRegistered b k v) i ≡ mark b i
-  unfolding withRegistered
-  mark-registered = mark-noted b e k k (λ h. omega arith) v l
-
   -- ---- a grant on the key k is noted with the value v
 
-  pub length-granted : length (withGranted b k v) ≡ bookSize
+  pub granted-keeps : Kept b (withGranted b k v)
   unfolding withGranted
-  length-granted = length-noted b e k (keyCount + k) (λ h. omega arith) v l
-
-  pub started-granted : started (withGranted b k v) ≡ started b
-  unfolding withGranted
-  started-granted = started-noted b e k (keyCount + k) (λ h. omega arith) v l
+  granted-keeps = noted-keeps b e k (keyCount + k) (λ h. omega arith) v l
 
   pub granted-same : k < keyCount → granted (withGranted b k v) k ≡ v
   unfolding granted withGranted
@@ -203,10 +187,6 @@ module _ (b : List ℕ) (e : length b ≡ bookSize) (k : ℕ) (v : Value) (l : l
   pub registered-granted : (j : ℕ) → registered (withGranted b k v) j ≡ registered b j
   unfolding withGranted
   registered-granted j = registered-is b _ j (λ g. note-unnoted b e k (keyCount + k) (λ h. omega arith) v l j (λ h q. omega arith))
-
-  pub mark-granted : (i : ℕ) → mark (withGranted b k v) i ≡ mark b i
-  unfolding withGranted
-  mark-granted = mark-noted b e k (keyCount + k) (λ h. omega arith) v l
 
 -- ---- a place of the sessions' table is marked
 
@@ -232,9 +212,9 @@ module _ (b : List ℕ) (e : length b ≡ bookSize) (i : ℕ) (h : i < sessionCo
   pub mark-same : n < 2 ^ 32 → mark (withMark b i n) i ≡ n
   unfolding mark withMark
   mark-same g =
-      sym (rw add-zero at (le32-win (splice b (marksFrom + i * markWidth) (bytes32 n)) (marksFrom + i * markWidth) markWidth 0 (omega arith)))
+      sym (le-front width32 (splice b (marksFrom + i * markWidth) (bytes32 n)) (marksFrom + i * markWidth) markWidth (omega arith))
       ∙ ap (λ (s : List ℕ). le32 s 0) (win-splice b (marksFrom + i * markWidth) (bytes32 n) markWidth refl (omega arith))
-      ∙ le32-bytes n g
+      ∙ le-bytes width32 n g
 
   pub mark-other : (j : ℕ) → (j ≡ i → ⊥) → mark (withMark b i n) j ≡ mark b j
   unfolding withMark

@@ -1,6 +1,6 @@
 -- The parts of a step as the code takes them, said of the bytes: what is held after the clock's test, after the command, after expiry,
 -- and after the check of the whole buffer.
-use mathlib.Core.Path.{_≡_, refl}
+use mathlib.Core.Path.{_≡_, refl, sym, ap, _∙_}
 use mathlib.Core.Bool.{true, false, or-true}
 use mathlib.Core.List.{List}
 use mathlib.Core.Option.{Option, none, some}
@@ -23,7 +23,7 @@ use Rattle.layout.specs.Holds.{Holds}
 use Rattle.layout.proofs.Formed.{formed, holds-decoded}
 use Rattle.outcome.specs.Outcome.{tried, acted, isRefused, Gives, Does}
 use Rattle.outcome.proofs.Told.{gives}
-use Rattle.outcome.proofs.Steps.{acted-clock, acted-refused, acted-accepted, step-still}
+use Rattle.outcome.proofs.Steps.{acted-clock, acted-in-time, step-still}
 use Rattle.refusals.specs.Met.{refusalOf}
 use Rattle.refusals.specs.declared.Refusal.{Refusal}
 use Rattle.cache.specs.Run.{encoded, ran}
@@ -49,11 +49,11 @@ module _ (s : State) (now : ℕ) (c : Command) (v : Value) where
 
   -- the command itself
   pub refused-still : {a : Answer} {b : List ℕ} → s .head .clock ≤ now → now ≤ timeMax → isRefused a ≡ true → Gives (tried s now c v) a b → Gives (acted s now c v) a b
-  refused-still p q r g = rw (acted-refused s now c v (in-time p q) (rw (← g .answer) r)) g
+  refused-still p q r g = rw (acted-in-time s now c v (in-time p q) (sym (ap isRefused (g .answer)) ∙ r)) g
 
   pub accepted-still : {a : Answer} {b d : List ℕ} → s .head .clock ≤ now → now ≤ timeMax → isRefused a ≡ false → Gives (tried s now c v) a b
       → Holds d (withClock (tried s now c v .after) now) → Gives (acted s now c v) a d
-  accepted-still p q r g h = rw (acted-accepted s now c v (in-time p q) (rw (← g .answer) r)) (record { answer = g .answer; holds = h })
+  accepted-still p q r g h = rw (acted-in-time s now c v (in-time p q) (sym (ap isRefused (g .answer)) ∙ r)) (record { answer = g .answer; holds = h })
 
   -- after expiry
   pub refused-expired : {e : ℕ} {b : List ℕ} → refusalOf (refusal (expire now s) now c v) ≡ Refusal.Is e → Holds b s → Gives (step s now c v) (Answer.Refused e) b

@@ -19,7 +19,8 @@ use Rattle.layout.specs.Fields.{VALUED, stagedMark}
 use Rattle.layout.specs.Holds.{RowFits, Holds}
 use Rattle.layout.proofs.Widths.{length-padded}
 use Rattle.layout.proofs.Formed.{holds-size}
-use Rattle.layout.proofs.Held.{row-stands, row-fits, win-at}
+use Rattle.layout.proofs.Places.{win-at}
+use Rattle.layout.proofs.Held.{row-stands}
 use Rattle.layout.proofs.Parts.{value-put}
 
 -- a row with the mark of a value has one staged
@@ -60,7 +61,7 @@ module _ {b : List ℕ} {s : State} (h : Holds b s) (k i : ℕ) (l : k < keyCoun
   pub staged-copied : stagedMark (stagedIn (rowAt s i)) ≡ VALUED
       → Holds (splice marked (valueAt k) (win marked (stagedAt i) valueMax)) (withKeys s (setValue (s .keys) k (toCache (stagedIn (rowAt s i)))))
   staged-copied e =
-      let w = staged-is (rowAt s i) (row-fits h i m) e in
+      let w = staged-is (rowAt s i) (row-stands h i m .fits) e in
       let mark : win b (from + 6) 2 ≡ VALUED ∷ length (w .0) ∷ [] = win-at (row-stands h i m) 6 2 (omega arith) ∙ staged-mark (w .0) (rowAt s i) (w .1) in
       let value : win b (stagedAt i) valueMax ≡ padded (w .0) = win-at (row-stands h i m) 8 valueMax (omega arith) ∙ staged-value (w .0) (rowAt s i) (w .1) (w .2) in
       let same : win (splice b at (VALUED ∷ length (w .0) ∷ [])) (stagedAt i) valueMax ≡ win b (stagedAt i) valueMax = win-splice-after b at (VALUED ∷ length (w .0) ∷ []) (stagedAt i) valueMax (omega (arith, holds-size h)) (omega arith) in

@@ -5,15 +5,13 @@ use mathlib.Core.Bool.{true, false, not}
 use mathlib.Core.List.{List}
 use mathlib.Core.Option.{some}
 use Prim.Native.Nat.{ℕ, _+_, _*_, _≤_, _<_}
-use native.Mathlib.Nat.{add-zero}
 use native.Mathlib.Omega.{arith}
 use lib.Dec.{eqb}
-use lib.ListN.{length, getD, set, length-set}
+use lib.ListN.{length, getD}
 use borrow.Author.Tests.{eqb-true}
 use Rattle.lent.specs.Bytes.{le32, le64, splice, win}
-use Rattle.lent.proofs.Numbers.{le32-win, le64-win}
-use Rattle.lent.proofs.Splice.{getD-win, length-splice, splice-over, splice-self, splice-win, win-splice, win-win}
-use Rattle.lent.proofs.Tables.{each-at, each-set}
+use Rattle.lent.proofs.Numbers.{width32, width64}
+use Rattle.lent.proofs.Splice.{length-splice, splice-over, splice-self, splice-win, win-splice}
 use Rattle.lent.proofs.Choices.{clash, zero-one}
 use Rattle.machine.specs.Sizes.{keyCount, sessionCount, rowCount, headSize, keysFrom, keyWidth, rowsFrom, rowWidth, sessionsFrom, sessionWidth, valueMax, valueAt, stagedAt}
 use Rattle.machine.specs.Sizes.{readLifeField, writeLifeField, nextSessionField, nextTokenField, keyLengthField, keyTokenField, keyUntilField, keyValueField, rowKeyField, rowKindField, rowStagedField, rowLengthField, rowValueField}
@@ -23,9 +21,9 @@ use Rattle.machine.specs.Expiry.{withHead}
 use Rattle.machine.specs.Sound.{tokenIn, numberIn}
 use Rattle.layout.specs.Layout.{encHead, decHead, sessionFrom}
 use Rattle.layout.specs.Fields.{valueLength, leaseUntil, rowSession, rowKey, stagedMark, stagedLength, sessionIn}
-use Rattle.layout.specs.Holds.{HeadFits, KeyFits, SlotFits, RowFits, Holds}
+use Rattle.layout.specs.Holds.{HeadFits, SlotFits, RowFits, Holds}
 use Rattle.layout.proofs.Records.{key-there, key-length, key-value, key-token, key-until, row-session, row-key, row-kind-byte, row-mark, row-length, row-value, session-number-bytes, session-from}
-use Rattle.layout.proofs.Places.{Table, record-at, record-put, keys-table, rows-table, sessions-table, head-at, put-head, head-decoded}
+use Rattle.layout.proofs.Places.{Stands, record-stands, win-at, le-at, byte-at, byte-first, le32-first, keys-table, rows-table, sessions-table, head-at, put-head, head-decoded}
 
 staged-short : (r : Row) (v : Value) → RowFits r → stagedIn r ≡ staged v → length v ≤ valueMax
 staged-short noRow v f e = zero-one cc
@@ -49,48 +47,6 @@ module _ (b : List ℕ) (a w : ℕ) (l : a + w ≤ length b) where
       ∙ sym (splice-win d a w i y (omega arith) h)
       ∙ ap (λ (r : List ℕ). splice d a (splice r i y)) wd
       ∙ splice-over b x (splice x i y) a w m ly l
-
--- ---- a record of a table
-
--- record i of a table stands in the bytes b at its place, it fits, and one that fits, written there, makes the bytes of the state with it
-pub record Stands {A : Type 0} {P : A → Type 0} {enc : A → List ℕ} {free : A} {w from n : ℕ} {xs : List A} {to : List A → State} (t : Table P enc free w from n xs to) (b : List ℕ) (i : ℕ) : Type 0 where
-  pub held : win b (from + i * w) w ≡ enc (getD xs i free)
-  pub fits : P (getD xs i free)
-  pub store : (x : A) → P x → Holds (splice b (from + i * w) (enc x)) (to (set xs i x))
-
--- the first number of w bytes
-pub le32-front : (b : List ℕ) (a w : ℕ) → 4 ≤ w → le32 (win b a w) 0 ≡ le32 b a
-le32-front b a w h = rw add-zero at (le32-win b a w 0 h)
-
-module _ {A : Type 0} {P : A → Type 0} {enc : A → List ℕ} {free : A} {w from n : ℕ} {xs : List A} {to : List A → State} {t : Table P enc free w from n xs to} {b : List ℕ} {i : ℕ} where
-  record-stands : Holds b (to xs) → i < n → Stands t b i
-  record-stands h l = record {
-    held = rw (h .bytes) (record-at t i l);
-    fits = each-at P xs free i (rw (t .long) l) (t .each);
-    store = λ x g. record { bytes = rw (h .bytes) (record-put t i x g l); fits = t .fits (set xs i x) (length-set xs i x ∙ t .long) (each-set P xs i x g (t .each)) };
-  }
-
-  module _ (r : Stands t b i) where
-    -- bytes of the record
-    pub win-at : (j m : ℕ) → j + m ≤ w → win b (from + i * w + j) m ≡ win (enc (getD xs i free)) j m
-    win-at j m h = sym (win-win b (from + i * w) w j m h) ∙ ap (λ (y : List ℕ). win y j m) (r .held)
-
-    -- a field that each record has, z as it is read in the whole
-    field-at : {f : A → ℕ} {z : ℕ} (read : List ℕ → ℕ) → read (win b (from + i * w) w) ≡ z → ((x : A) → P x → read (enc x) ≡ f x) → z ≡ f (getD xs i free)
-    field-at read q e = sym q ∙ ap read (r .held) ∙ e (getD xs i free) (r .fits)
-
-    byte-at : {f : A → ℕ} (j : ℕ) → j < w → ((x : A) → getD (enc x) j 0 ≡ f x) → getD b (from + i * w + j) 0 ≡ f (getD xs i free)
-    byte-at j h e = field-at (λ y. getD y j 0) (getD-win b (from + i * w) w j h) (λ x p. e x)
-
-    le32-at : {f : A → ℕ} (j : ℕ) → j + 4 ≤ w → ((x : A) → P x → le32 (enc x) j ≡ f x) → le32 b (from + i * w + j) ≡ f (getD xs i free)
-    le32-at j h = field-at (λ y. le32 y j) (le32-win b (from + i * w) w j h)
-
-    -- its first field
-    byte-first : 1 ≤ w → getD b (from + i * w) 0 ≡ getD (enc (getD xs i free)) 0 0
-    byte-first h = rw add-zero at (byte-at 0 h (λ x. refl))
-
-    le32-first : {f : A → ℕ} → 4 ≤ w → ((x : A) → P x → le32 (enc x) 0 ≡ f x) → le32 b (from + i * w) ≡ f (getD xs i free)
-    le32-first h e = rw add-zero at (le32-at 0 h e)
 
 -- ---- the state that is held
 
@@ -131,10 +87,7 @@ module _ {b : List ℕ} {s : State} (h : Holds b s) where
   -- a key
   module _ (k : ℕ) (l : k < keyCount) where
     pub key-stands : Stands (keys-table s (h .fits)) b k
-    key-stands = record-stands h l
-
-    pub key-fits : KeyFits (keyOf s k)
-    key-fits = key-stands .fits
+    key-stands = record-stands _ h l
 
     pub value-there : eqb (getD b (keysFrom + k * keyWidth) 0) 1 ≡ not (isNone (cached s k))
     value-there = rw (byte-first key-stands (omega arith)) (key-there (keyOf s k))
@@ -144,22 +97,19 @@ module _ {b : List ℕ} {s : State} (h : Holds b s) where
 
     pub value-stands : (v : Value) → cached s k ≡ some v → win b (valueAt k) (length v) ≡ v
     value-stands v e =
-        let f : length v ≤ valueMax = rw e at (key-fits .value) in
+        let f : length v ≤ valueMax = rw e at (key-stands .fits .value) in
         win-at key-stands keyValueField (length v) (omega arith) ∙ key-value (keyOf s k) v e
 
     pub token-held : le32 b (keysFrom + k * keyWidth + keyTokenField) ≡ tokenIn (leaseOn s k)
-    token-held = le32-at key-stands keyTokenField (omega arith) key-token
+    token-held = le-at key-stands width32 keyTokenField (omega arith) key-token
 
     pub until-held : le64 b (keysFrom + k * keyWidth + keyUntilField) ≡ leaseUntil (leaseOn s k)
-    until-held = field-at key-stands (λ y. le64 y keyUntilField) (le64-win b _ keyWidth keyUntilField (omega arith)) key-until
+    until-held = le-at key-stands width64 keyUntilField (omega arith) key-until
 
   -- a row
   module _ (i : ℕ) (l : i < rowCount) where
     pub row-stands : Stands (rows-table s (h .fits)) b i
-    row-stands = record-stands h l
-
-    pub row-fits : RowFits (rowAt s i)
-    row-fits = row-stands .fits
+    row-stands = record-stands _ h l
 
     pub owner-held : le32 b (rowsFrom + i * rowWidth) ≡ rowSession (rowAt s i)
     owner-held = le32-first row-stands (omega arith) row-session
@@ -178,26 +128,23 @@ module _ {b : List ℕ} {s : State} (h : Holds b s) where
 
     pub staged-stands : (v : Value) → stagedIn (rowAt s i) ≡ staged v → win b (stagedAt i) (length v) ≡ v
     staged-stands v e =
-        let f : length v ≤ valueMax = staged-short (rowAt s i) v row-fits e in
+        let f : length v ≤ valueMax = staged-short (rowAt s i) v (row-stands .fits) e in
         win-at row-stands rowValueField (length v) (omega arith) ∙ row-value (rowAt s i) v e
 
   -- a session
   module _ (i : ℕ) (l : i < sessionCount) where
     pub session-stands : Stands (sessions-table s (h .fits)) b i
-    session-stands = record-stands h l
-
-    pub session-fits : SlotFits (sessionAt s i)
-    session-fits = session-stands .fits
+    session-stands = record-stands _ h l
 
     pub number-held : le32 b (sessionsFrom + i * sessionWidth) ≡ numberIn (sessionAt s i)
     number-held = le32-first session-stands (omega arith) session-number-bytes
 
     pub session-is : sessionFrom (win b (sessionsFrom + i * sessionWidth) sessionWidth) ≡ sessionIn (sessionAt s i)
-    session-is = ap sessionFrom (session-stands .held) ∙ session-from (sessionAt s i) session-fits
+    session-is = ap sessionFrom (session-stands .held) ∙ session-from (sessionAt s i) (session-stands .fits)
 
     -- 0 is the number of no session
     pub number-given : (n : ℕ) → numbered n (sessionAt s i) ≡ true → 1 ≤ n
-    number-given n q = go (sessionAt s i) session-fits q
+    number-given n q = go (sessionAt s i) (session-stands .fits) q
       where
         go : (e : Slot) → SlotFits e → numbered n e ≡ true → 1 ≤ n
         go noSession f t = clash false t refl

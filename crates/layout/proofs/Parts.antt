@@ -20,7 +20,7 @@ use Rattle.layout.specs.Fields.{valueLength}
 use Rattle.layout.specs.Holds.{HeadFits, ValueFits, LeaseFits, KeyFits, StagedFits, RowFits, Holds}
 use Rattle.layout.proofs.Widths.{length-mark, length-lease, length-value, length-staged}
 use Rattle.layout.proofs.Formed.{holds-size}
-use Rattle.layout.proofs.Held.{part-none, part-more, head-held, store-head, key-stands, key-fits, row-stands, row-fits}
+use Rattle.layout.proofs.Held.{part-none, part-more, head-held, store-head, key-stands, row-stands}
 
 -- ---- parts of any record
 
@@ -91,16 +91,16 @@ module _ {b : List ℕ} {s : State} (h : Holds b s) (k : ℕ) (l : k < keyCount)
       let valued : Key = record { value = o; lease = keyOf s k .lease } in
       let mark = valueTag o ∷ valueLength o ∷ [] in
       rw (parts-put b (keysFrom + k * keyWidth) keyWidth (encKey (keyOf s k)) (key-stands h k l .held) (omega (arith, holds-size h))
-      mark keyValueField (valueBytes o) (encKey valued) (omega arith) n (key-valued (keyOf s k) (key-fits h k l) o g))
-      (key-stands h k l .store valued (record { value = g; lease = key-fits h k l .lease }))
+      mark keyValueField (valueBytes o) (encKey valued) (omega arith) n (key-valued (keyOf s k) (key-stands h k l .fits) o g))
+      (key-stands h k l .store valued (record { value = g; lease = key-stands h k l .fits .lease }))
 
   pub lease-put : (o : Option Lease) → LeaseFits o → Holds (splice b (keysFrom + k * keyWidth + keyTokenField) (leaseBytes o)) (withKeys s (setLease (s .keys) k o))
   lease-put o g =
       let n : keyTokenField + length (leaseBytes o) ≤ keyWidth = rw (length-lease o) (omega arith) in
       let leased : Key = record { value = keyOf s k .value; lease = o } in
       rw (part-put b (keysFrom + k * keyWidth) keyWidth (encKey (keyOf s k)) (key-stands h k l .held) (omega (arith, holds-size h))
-      keyTokenField (leaseBytes o) (encKey leased) n (key-leased (keyOf s k) (key-fits h k l) o))
-      (key-stands h k l .store leased (record { value = key-fits h k l .value; lease = g }))
+      keyTokenField (leaseBytes o) (encKey leased) n (key-leased (keyOf s k) (key-stands h k l .fits) o))
+      (key-stands h k l .store leased (record { value = key-stands h k l .fits .value; lease = g }))
 
 -- ---- a row
 
@@ -114,7 +114,7 @@ module _ {b : List ℕ} {s : State} (h : Holds b s) (i : ℕ) (l : i < rowCount)
   pub staged-put : (u : Staged) → StagedFits u → freeRow (rowAt s i) ≡ false → Holds (splice b (rowsFrom + i * rowWidth + rowStagedField) (stagedBytes u)) (withRows s (set (s .rows) i (restaged u (rowAt s i))))
   staged-put u g e =
       let n : rowStagedField + length (stagedBytes u) ≤ rowWidth = rw (length-staged u g) (omega arith) in
-      let r = go (rowAt s i) (row-fits h i l) e in
+      let r = go (rowAt s i) (row-stands h i l .fits) e in
       rw (part-put b (rowsFrom + i * rowWidth) rowWidth (encRow (rowAt s i)) (row-stands h i l .held) (omega (arith, holds-size h)) rowStagedField (stagedBytes u) (encRow (restaged u (rowAt s i))) n (r .0))
       (row-stands h i l .store (restaged u (rowAt s i)) (r .1))
     where

@@ -2,20 +2,21 @@
 -- read and written at its place, and the whole state is read back as it was written.
 use mathlib.Core.Path.{_≡_, refl, sym, ap, _∙_}
 use mathlib.Core.List.{List, _++_, append-assoc}
-use Prim.Native.Nat.{ℕ, _+_, _*_, _<_}
+use Prim.Native.Nat.{ℕ, _+_, _*_, _≤_, _<_}
+use native.Mathlib.Nat.{add-zero}
 use native.Mathlib.Omega.{arith}
-use lib.ListN.{length, getD, set, drop, length-append}
+use lib.ListN.{length, getD, set, drop, length-append, length-set}
 use lib.Seq.{drop-at}
-use Rattle.lent.specs.Bytes.{splice, win, zeros}
+use Rattle.lent.specs.Bytes.{le32, splice, win, zeros}
 use Rattle.lent.specs.Tables.{Each, readTab, tabOf}
-use Rattle.lent.proofs.Numbers.{le32-win, le64-win}
-use Rattle.lent.proofs.Splice.{splice-front, splice-whole, win-front, win-whole}
-use Rattle.lent.proofs.Tables.{Wide, each-map, put-tab-at, read-tab, win-tab-at}
+use Rattle.lent.proofs.Numbers.{Width, width32, width64, le-win}
+use Rattle.lent.proofs.Splice.{getD-win, splice-front, splice-whole, win-front, win-whole, win-win}
+use Rattle.lent.proofs.Tables.{Wide, each-at, each-map, each-set, put-tab-at, read-tab, win-tab-at}
 use Rattle.machine.specs.Sizes.{keyCount, sessionCount, rowCount, headSize, keysFrom, keyWidth, rowsFrom, rowWidth, sessionsFrom, sessionWidth, restSize, readLifeField, writeLifeField, nextSessionField, nextTokenField}
 use Rattle.machine.specs.State.{Head, noSession, noRow, State, blank}
 use Rattle.machine.specs.Expiry.{withHead, withKeys, withSessions, withRows}
 use Rattle.layout.specs.Layout.{encHead, decHead, encKey, decKey, encRow, decRow, encSession, decSession, encode, decode}
-use Rattle.layout.specs.Holds.{KeyFits, SlotFits, RowFits, Fits}
+use Rattle.layout.specs.Holds.{KeyFits, SlotFits, RowFits, Fits, Holds}
 use Rattle.layout.proofs.Widths.{length-head, length-key, length-row, length-session, length-keys, length-rows}
 use Rattle.layout.proofs.Records.{head-read, key-read, row-read, session-read}
 
@@ -24,11 +25,11 @@ head-win : (b : List ℕ) → decHead (win b 0 headSize) ≡ decHead b
 unfolding decHead
 head-win b =
     rw (
-      le64-win b 0 headSize 0 (omega arith),
-      le32-win b 0 headSize readLifeField (omega arith),
-      le32-win b 0 headSize writeLifeField (omega arith),
-      le32-win b 0 headSize nextSessionField (omega arith),
-      le32-win b 0 headSize nextTokenField (omega arith),
+      le-win width64 b 0 headSize 0 (omega arith),
+      le-win width32 b 0 headSize readLifeField (omega arith),
+      le-win width32 b 0 headSize writeLifeField (omega arith),
+      le-win width32 b 0 headSize nextSessionField (omega arith),
+      le-win width32 b 0 headSize nextTokenField (omega arith),
     )
 
 -- ---- a table, what comes before it and what comes behind it
@@ -44,24 +45,60 @@ pub record Table {A : Type 0} (P : A → Type 0) (enc : A → List ℕ) (free : 
   pub each : Each P xs
   pub fits : (ys : List A) → length ys ≡ n → Each P ys → Fits (to ys)
 
-module _ {A : Type 0} {P : A → Type 0} {enc : A → List ℕ} {free : A} {w from n : ℕ} {xs : List A} {to : List A → State} (t : Table P enc free w from n xs to) where
-  all-wide : Wide enc w xs
-  all-wide = each-map P (λ x. length (enc x) ≡ w) xs (t .wide) (t .each)
+module _ {A : Type 0} {P : A → Type 0} {enc : A → List ℕ} {free : A} {w from n : ℕ} {xs : List A} {to : List A → State} where
+  module _ (t : Table P enc free w from n xs to) where
+    all-wide : Wide enc w xs
+    all-wide = each-map P (λ x. length (enc x) ≡ w) xs (t .wide) (t .each)
 
-  -- a record is read at its place, and written there
-  pub record-at : (i : ℕ) → i < n → win (encode (to xs)) (from + i * w) w ≡ enc (getD xs i free)
-  record-at i h = rw (t .bytes xs) (win-tab-at enc w (t .before) from (t .place) xs (t .behind) all-wide free i (rw (t .long) h))
+    -- a record is read at its place, and written there
+    record-at : (i : ℕ) → i < n → win (encode (to xs)) (from + i * w) w ≡ enc (getD xs i free)
+    record-at i h = rw (t .bytes xs) (win-tab-at enc w (t .before) from (t .place) xs (t .behind) all-wide free i (rw (t .long) h))
 
-  pub record-put : (i : ℕ) (x : A) → P x → i < n → splice (encode (to xs)) (from + i * w) (enc x) ≡ encode (to (set xs i x))
-  record-put i x g h =
-      rw (t .bytes xs) (put-tab-at enc w (t .before) from (t .place) xs (t .behind) all-wide x i (t .wide x g) (rw (t .long) h))
-      ∙ sym (t .bytes (set xs i x))
+    record-put : (i : ℕ) (x : A) → P x → i < n → splice (encode (to xs)) (from + i * w) (enc x) ≡ encode (to (set xs i x))
+    record-put i x g h =
+        rw (t .bytes xs) (put-tab-at enc w (t .before) from (t .place) xs (t .behind) all-wide x i (t .wide x g) (rw (t .long) h))
+        ∙ sym (t .bytes (set xs i x))
 
-  -- all are read back as they were written
-  table-read : (dec : List ℕ → A) → ((x : A) → P x → dec (enc x) ≡ x) → readTab dec w n (drop from (encode (to xs))) ≡ xs
-  table-read dec r =
-      rw (t .bytes xs, drop-at (t .before) (tabOf enc xs ++ t .behind) from (t .place))
-      (read-tab enc dec w xs (t .behind) n (t .long) all-wide (each-map P (λ x. dec (enc x) ≡ x) xs r (t .each)))
+    -- all are read back as they were written
+    table-read : (dec : List ℕ → A) → ((x : A) → P x → dec (enc x) ≡ x) → readTab dec w n (drop from (encode (to xs))) ≡ xs
+    table-read dec r =
+        rw (t .bytes xs, drop-at (t .before) (tabOf enc xs ++ t .behind) from (t .place))
+        (read-tab enc dec w xs (t .behind) n (t .long) all-wide (each-map P (λ x. dec (enc x) ≡ x) xs r (t .each)))
+
+    -- record i of the table stands in the bytes b at its place, it fits, and one that fits, written there, makes the bytes of the state with it
+    pub record Stands (b : List ℕ) (i : ℕ) : Type 0 where
+      pub held : win b (from + i * w) w ≡ enc (getD xs i free)
+      pub fits : P (getD xs i free)
+      pub store : (x : A) → P x → Holds (splice b (from + i * w) (enc x)) (to (set xs i x))
+
+    pub record-stands : {b : List ℕ} {i : ℕ} → Holds b (to xs) → i < n → Stands b i
+    record-stands {b} {i} h l = record {
+      held = rw (h .bytes) (record-at i l);
+      fits = each-at P xs free i (rw (t .long) l) (t .each);
+      store = λ x g. record { bytes = rw (h .bytes) (record-put i x g l); fits = t .fits (set xs i x) (length-set xs i x ∙ t .long) (each-set P xs i x g (t .each)) };
+    }
+
+  module _ {t : Table P enc free w from n xs to} {b : List ℕ} {i : ℕ} (r : Stands t b i) where
+    -- bytes of the record
+    pub win-at : (j m : ℕ) → j + m ≤ w → win b (from + i * w + j) m ≡ win (enc (getD xs i free)) j m
+    win-at j m h = sym (win-win b (from + i * w) w j m h) ∙ ap (λ (y : List ℕ). win y j m) (r .held)
+
+    -- a field that each record has, z as it is read in the whole
+    field-at : {f : A → ℕ} {z : ℕ} (read : List ℕ → ℕ) → read (win b (from + i * w) w) ≡ z → ((x : A) → P x → read (enc x) ≡ f x) → z ≡ f (getD xs i free)
+    field-at read q e = sym q ∙ ap read (r .held) ∙ e (getD xs i free) (r .fits)
+
+    pub byte-at : {f : A → ℕ} (j : ℕ) → j < w → ((x : A) → getD (enc x) j 0 ≡ f x) → getD b (from + i * w + j) 0 ≡ f (getD xs i free)
+    byte-at j h e = field-at (λ y. getD y j 0) (getD-win b (from + i * w) w j h) (λ x p. e x)
+
+    pub le-at : {m : ℕ} {le : List ℕ → ℕ → ℕ} {bytes : ℕ → List ℕ} {f : A → ℕ} → Width m le bytes → (j : ℕ) → j + m ≤ w → ((x : A) → P x → le (enc x) j ≡ f x) → le b (from + i * w + j) ≡ f (getD xs i free)
+    le-at {le = le} v j h = field-at (λ y. le y j) (le-win v b (from + i * w) w j h)
+
+    -- its first field
+    pub byte-first : 1 ≤ w → getD b (from + i * w) 0 ≡ getD (enc (getD xs i free)) 0 0
+    byte-first h = rw add-zero at (byte-at 0 h (λ x. refl))
+
+    pub le32-first : {f : A → ℕ} → 4 ≤ w → ((x : A) → P x → le32 (enc x) 0 ≡ f x) → le32 b (from + i * w) ≡ f (getD xs i free)
+    le32-first h e = rw add-zero at (le-at width32 0 h e)
 
 module _ (s : State) where
   abbrev behindRows : List ℕ

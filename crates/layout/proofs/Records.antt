@@ -12,7 +12,7 @@ use lib.Seq.{take-at}
 use borrow.Author.Tests.{ne-eqb}
 use Rattle.lent.specs.Bytes.{le32, le64, win}
 use Rattle.lent.specs.Tables.{if_then_else_}
-use Rattle.lent.proofs.Numbers.{le16-bytes, le32-bytes, le64-bytes}
+use Rattle.lent.proofs.Numbers.{width16, width32, width64, le-bytes}
 use Rattle.lent.proofs.Choices.{zero-one}
 use Rattle.machine.specs.Tables.{isNone}
 use Rattle.machine.specs.Sizes.{keyLengthField, keyTokenField, keyUntilField, keyValueField, rowKeyField, rowKindField, rowStagedField, rowLengthField, rowValueField}
@@ -45,7 +45,7 @@ slot-none (session x) f z = absurd (omega (arith, f .given))
 pub head-read : (h : Head) → HeadFits h → decHead (encHead h) ≡ h
 unfolding encHead decHead
 head-read h f =
-    rw (le64-bytes (h .clock) (f .clock), le32-bytes (h .readLife) (f .readLife), le32-bytes (h .writeLife) (f .writeLife), le32-bytes (h .nextSession) (f .nextSession), le32-bytes (h .nextToken) (f .nextToken))
+    rw (le-bytes width64 (h .clock) (f .clock), le-bytes width32 (h .readLife) (f .readLife), le-bytes width32 (h .writeLife) (f .writeLife), le-bytes width32 (h .nextSession) (f .nextSession), le-bytes width32 (h .nextToken) (f .nextToken))
 
 -- ---- a key
 
@@ -65,24 +65,18 @@ unfolding win
 value-bytes v none = take-at v _ (length v) refl
 value-bytes v (some l) = take-at v _ (length v) refl
 
-lease-token : (o : Option Value) (l : Option Lease) → LeaseFits l → le32 (keyBytes o l) keyTokenField ≡ tokenIn l
-lease-token none none f = refl
-lease-token none (some l) f = le32-bytes (l .token) (f .token)
-lease-token (some v) none f = refl
-lease-token (some v) (some l) f = le32-bytes (l .token) (f .token)
-
-lease-until : (o : Option Value) (l : Option Lease) → LeaseFits l → le64 (keyBytes o l) keyUntilField ≡ leaseUntil l
-lease-until none none f = refl
-lease-until none (some l) f = le64-bytes (l .until) (f .until)
-lease-until (some v) none f = refl
-lease-until (some v) (some l) f = le64-bytes (l .until) (f .until)
+lease-said : (o : Option Value) (l : Option Lease) → LeaseFits l → (le32 (keyBytes o l) keyTokenField ≡ tokenIn l) × (le64 (keyBytes o l) keyUntilField ≡ leaseUntil l)
+lease-said none none f = (refl, refl)
+lease-said none (some l) f = (le-bytes width32 (l .token) (f .token), le-bytes width64 (l .until) (f .until))
+lease-said (some v) none f = (refl, refl)
+lease-said (some v) (some l) f = (le-bytes width32 (l .token) (f .token), le-bytes width64 (l .until) (f .until))
 
 value-read : (o : Option Value) (l : Option Lease) → decValue (keyBytes o l) ≡ o
 value-read none l = refl
 value-read (some v) l = ap some (value-bytes v l)
 
 lease-read : (o : Option Value) (l : Option Lease) → LeaseFits l → decLease (keyBytes o l) ≡ l
-lease-read o l f = rw (lease-token o l f, lease-until o l f) (go l f)
+lease-read o l f = rw (lease-said o l f .0, lease-said o l f .1) (go l f)
   where
     go : (l : Option Lease) → LeaseFits l → (if eqb (tokenIn l) 0 then none else some (record { token = tokenIn l; until = leaseUntil l })) ≡ l
     go none f = refl
@@ -103,11 +97,11 @@ module _ (k : Key) where
 
   pub key-token : KeyFits k → le32 (encKey k) keyTokenField ≡ tokenIn (k .lease)
   unfolding encKey
-  key-token f = lease-token (k .value) (k .lease) (f .lease)
+  key-token f = lease-said (k .value) (k .lease) (f .lease) .0
 
   pub key-until : KeyFits k → le64 (encKey k) keyUntilField ≡ leaseUntil (k .lease)
   unfolding encKey
-  key-until f = lease-until (k .value) (k .lease) (f .lease)
+  key-until f = lease-said (k .value) (k .lease) (f .lease) .1
 
   pub key-read : KeyFits k → decKey (encKey k) ≡ k
   unfolding encKey decKey
@@ -118,7 +112,7 @@ module _ (k : Key) where
 pub row-session : (r : Row) → RowFits r → le32 (encRow r) 0 ≡ rowSession r
 unfolding encRow
 row-session noRow f = refl
-row-session (row n k d u) f = le32-bytes n (f .session)
+row-session (row n k d u) f = le-bytes width32 n (f .session)
 
 pub row-key : (r : Row) → getD (encRow r) rowKeyField 0 ≡ rowKey r
 unfolding encRow
@@ -169,11 +163,11 @@ row-read (row n k d u) f =
 pub session-number-bytes : (e : Slot) → SlotFits e → le32 (encSession e) 0 ≡ numberIn e
 unfolding encSession
 session-number-bytes noSession f = refl
-session-number-bytes (session x) f = le32-bytes (x .number) (f .number)
+session-number-bytes (session x) f = le-bytes width32 (x .number) (f .number)
 
 life-read : (n c : ℕ) (l : Life) → lifeTime l < 2 ^ 64 → decLife (encSession (session (record { number = n; life = l; count = c }))) ≡ l
 unfolding encSession
-life-read n c (Life.Open t) f = ap Life.Open (le64-bytes t f)
+life-read n c (Life.Open t) f = ap Life.Open (le-bytes width64 t f)
 life-read n c Life.Sealed f = refl
 
 -- also of a free place
@@ -181,7 +175,7 @@ pub session-from : (e : Slot) → SlotFits e → sessionFrom (encSession e) ≡ 
 unfolding encSession
 session-from noSession f = refl
 session-from (session x) f =
-    rw (session-number-bytes (session x) f, life-read (x .number) (x .count) (x .life) (f .until), le16-bytes (x .count) (f .count))
+    rw (session-number-bytes (session x) f, life-read (x .number) (x .count) (x .life) (f .until), le-bytes width16 (x .count) (f .count))
 
 pub session-read : (e : Slot) → SlotFits e → decSession (encSession e) ≡ e
 unfolding decSession encSession

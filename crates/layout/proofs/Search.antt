@@ -10,29 +10,18 @@ use lib.ListN.{length, getD, List·getD-eq-default}
 use borrow.Author.Tests.{le-leb, le-ltb, lt-leb, lt-ltb, ltb-false, ltb-true}
 use Rattle.lent.specs.Tables.{if_then_else_, first}
 use Rattle.lent.proofs.Walks.{Search, found, nowhere, first-search, first-cong}
-use Rattle.lent.proofs.Choices.{zero-one}
+use Rattle.lent.proofs.Choices.{if-ind, zero-one}
 use Rattle.machine.specs.Tables.{place, find, count}
 use Rattle.layout.specs.Search.{found as foundAt, Below}
 use Rattle.layout.specs.declared.Found.{Found}
 
 -- ---- what is found
 
-found-cases : (n i : ℕ) (t : Bool) → ltb i n ≡ t → foundAt n i ≡ (if t then Found.At i else Found.Nothing)
-found-cases n i t e = rw e
-
 pub found-at : (n i j : ℕ) → foundAt n i ≡ Found.At j → (i ≡ j) × (j < n)
-found-at n i j e = go (ltb i n) refl (sym (found-cases n i (ltb i n) refl) ∙ e)
-  where
-    go : (t : Bool) → ltb i n ≡ t → (if t then Found.At i else Found.Nothing) ≡ Found.At j → (i ≡ j) × (j < n)
-    go true q f = let g : i ≡ j = cc in (g, rw (← g) (ltb-true i n q))
-    go false q f = zero-one cc
+found-at n i j = if-ind (λ (r : Found). r ≡ Found.At j → (i ≡ j) × (j < n)) (ltb i n) (λ q f. let g : i ≡ j = cc in (g, rw (← g) (ltb-true i n q))) (λ q f. zero-one cc)
 
 pub found-nothing : (n i : ℕ) → foundAt n i ≡ Found.Nothing → n ≤ i
-found-nothing n i e = go (ltb i n) refl (sym (found-cases n i (ltb i n) refl) ∙ e)
-  where
-    go : (t : Bool) → ltb i n ≡ t → (if t then Found.At i else Found.Nothing) ≡ Found.Nothing → n ≤ i
-    go true q f = zero-one cc
-    go false q f = ltb-false i n q
+found-nothing n i = if-ind (λ (r : Found). r ≡ Found.Nothing → n ≤ i) (ltb i n) (λ q f. zero-one cc) (λ q f. ltb-false i n q)
 
 pub found-below : (n i : ℕ) (r : Found) → r ≡ Found.At i → Below n r → i < n
 found-below n i r e h = rw e at h

@@ -1,21 +1,20 @@
 -- Numbers in bytes: the bytes of a number say it, and bytes are those of the number that they say. Both hold for any number of bytes by
--- induction, with `digits` and `number`; the widths of `specs/` are two and four digits, and two halves of four.
-use mathlib.Core.Path.{_≡_, refl, sym, ap₂, _∙_}
+-- induction, with `digits`, `number` and `said`; the widths of `specs/` are two, four and eight digits.
+use mathlib.Core.Path.{_≡_, refl, sym, ap, ap₂, _∙_}
 use mathlib.Core.Bool.{_&&_}
 use mathlib.Core.List.{List, [], _∷_, _++_}
 use Prim.Native.Nat.{ℕ, zero, suc, _+_, _*_, _/_, _%_, _^_, _≤_, _<_}
-use native.Mathlib.Nat.{add-assoc, div-add-mod', div-div-eq-div-mul, div-lt-iff-lt-mul, pow-suc, suc-add, suc-mul}
+use native.Mathlib.Nat.{add-assoc, add-zero, div-add-mod', div-div-eq-div-mul, div-lt-iff-lt-mul, div-one, mod-lt, mul-comm, pow-suc, suc-add, zero-add}
 use native.Mathlib.Omega.{arith}
-use lib.Arith.{digits-div, digits-mod}
+use lib.Arith.{digits-div, digits-mod, mod-mul}
 use lib.Dec.{eqb, eqb·suc-zero}
 use lib.ListN.{length, getD}
-use borrow.Author.Tests.{eq-eqb, ne-eqb}
+use borrow.Author.Tests.{ne-eqb}
 use Rattle.lent.specs.Bytes.{Bytes, le16, bytes16, le32, bytes32, le64, bytes64, win}
 use Rattle.lent.specs.Tables.{allZero}
-use Rattle.lent.proofs.Splice.{bytes-win, getD-win, length-win, win-add, win-cons, win-none}
-use Rattle.lent.proofs.Zeros.{zero-append}
+use Rattle.lent.proofs.Splice.{bytes-win, getD-win, length-win, win-whole, win-cons, win-none}
 
--- the n low bytes of v, and the number that bytes say
+-- the n low bytes of v, the number that bytes say, and the one that the n bytes at a place say
 abbrev digits : ℕ → ℕ → List ℕ
 digits zero v = []
 digits (suc n) v = v % 256 ∷ digits n (v / 256)
@@ -23,6 +22,25 @@ digits (suc n) v = v % 256 ∷ digits n (v / 256)
 abbrev number : List ℕ → ℕ
 number [] = 0
 number (b ∷ l) = b + number l * 256
+
+abbrev said : ℕ → List ℕ → ℕ → ℕ
+said zero s a = 0
+said (suc n) s a = getD s a 0 + said n s (a + 1) * 256
+
+length-digits : (n v : ℕ) → length (digits n v) ≡ n
+length-digits zero v = refl
+length-digits (suc n) v = ap suc (length-digits n (v / 256))
+
+pow-pos : (n : ℕ) → 0 < 256 ^ n
+pow-pos zero = omega arith
+pow-pos (suc n) = rw (pow-suc 256 n) (omega (arith, pow-pos n))
+
+digits-add : (m n v : ℕ) → digits (m + n) v ≡ digits m (v % 256 ^ m) ++ digits n (v / 256 ^ m)
+digits-add zero n v = rw (zero-add, div-one)
+digits-add (suc m) n v =
+    let b : 0 < 256 = omega arith in
+    rw (suc-add, pow-suc 256 m, mod-mul v (pow-pos m) b, digits-mod (v / 256 % 256 ^ m) (mod-lt v b), digits-div (v / 256 % 256 ^ m) (mod-lt v b), mul-comm (256 ^ m) 256, ← div-div-eq-div-mul v 256 (256 ^ m))
+    (ap (λ (r : List ℕ). v % 256 ∷ r) (digits-add m n (v / 256)))
 
 number-digits : (n v : ℕ) → v < 256 ^ n → number (digits n v) ≡ v
 number-digits zero v h = omega arith
@@ -36,89 +54,68 @@ digits-number (b ∷ l) f =
     let e : b + number l * 256 ≡ number l * 256 + b = omega arith in
     rw (e, digits-mod (number l) (f 0), digits-div (number l) (f 0), digits-number l (λ i. f (suc i)))
 
-bytes32-digits : (v : ℕ) → bytes32 v ≡ digits 4 v
-bytes32-digits v = simp div-div-eq-div-mul
+number-said : (n : ℕ) (s : List ℕ) (a : ℕ) → a + n ≤ length s → number (win s a n) ≡ said n s a
+number-said zero s a h = rw win-none
+number-said (suc n) s a h = rw (win-cons s a n (omega arith), number-said n s (a + 1) (omega arith))
 
--- ---- a number's bytes say it
+said-win : (m : ℕ) (s : List ℕ) (a n i : ℕ) → i + m ≤ n → said m (win s a n) i ≡ said m s (a + i)
+said-win zero s a n i h = refl
+said-win (suc m) s a n i h = rw (getD-win s a n i (omega arith), said-win m s a n (i + 1) (omega arith)) (simp add-assoc)
 
-pub le16-bytes : (v : ℕ) → v < 65536 → le16 (bytes16 v) 0 ≡ v
-le16-bytes v h = omega (arith, number-digits 2 v h)
+said-digits : (n v : ℕ) → said n (digits n v) 0 ≡ number (digits n v)
+said-digits n v = sym (number-said n (digits n v) 0 (omega (arith, length-digits n v))) ∙ rw (win-whole (digits n v) n (length-digits n v))
 
-pub le32-bytes : (v : ℕ) → v < 4294967296 → le32 (bytes32 v) 0 ≡ v
-le32-bytes v h = omega (arith, simp div-div-eq-div-mul at (number-digits 4 v h))
-
-pub le64-bytes : (v : ℕ) → v < 18446744073709551616 → le64 (bytes64 v) 0 ≡ v
-le64-bytes v h =
-    rw (le32-bytes (v % 4294967296) (omega arith), le32-bytes (v / 4294967296) (omega arith)) (omega (arith, div-add-mod' v 4294967296))
-
--- ---- in a window
-
-pub le16-win : (s : List ℕ) (a n i : ℕ) → i + 2 ≤ n → le16 (win s a n) i ≡ le16 s (a + i)
-le16-win s a n i h = rw (getD-win s a n i (omega arith), getD-win s a n (i + 1) (omega arith)) (simp add-assoc)
-
-pub le32-win : (s : List ℕ) (a n i : ℕ) → i + 4 ≤ n → le32 (win s a n) i ≡ le32 s (a + i)
-le32-win s a n i h =
-    rw (getD-win s a n i (omega arith), getD-win s a n (i + 1) (omega arith), getD-win s a n (i + 2) (omega arith), getD-win s a n (i + 3) (omega arith))
-    (simp add-assoc)
-
-pub le64-win : (s : List ℕ) (a n i : ℕ) → i + 8 ≤ n → le64 (win s a n) i ≡ le64 s (a + i)
-le64-win s a n i h = rw (le32-win s a n i (omega arith), le32-win s a n (i + 4) (omega arith)) (simp add-assoc)
-
--- ---- the number that a window says
-
-number-win : (s : List ℕ) (n a : ℕ) → a < length s → number (win s a (suc n)) ≡ getD s a 0 + number (win s (a + 1) n) * 256
-number-win s n a h = rw (win-cons s a n h)
-
-number-le16 : (s : List ℕ) (a : ℕ) → a + 2 ≤ length s → number (win s a 2) ≡ le16 s a
-number-le16 s a h = rw (number-win s 1 a (omega arith), number-win s 0 (a + 1) (omega arith), win-none) (omega arith)
-
-number-le32 : (s : List ℕ) (a : ℕ) → a + 4 ≤ length s → number (win s a 4) ≡ le32 s a
-number-le32 s a h =
-    rw (number-win s 3 a (omega arith), number-win s 2 (a + 1) (omega arith), number-win s 1 (a + 1 + 1) (omega arith), number-win s 0 (a + 1 + 1 + 1) (omega arith), win-none)
-    (simp add-assoc (omega arith))
-
--- ---- bytes are those of the number that they say
-
-module _ (s : List ℕ) (f : Bytes s) where
-  le32-small : (a : ℕ) → le32 s a < 4294967296
-  le32-small a = omega (arith, f a, f (a + 1), f (a + 2), f (a + 3))
-
-  bytes-le : (n a v : ℕ) → a + n ≤ length s → number (win s a n) ≡ v → digits n v ≡ win s a n
-  bytes-le n a v h e = rw (length-win s a n h, e) at (digits-number (win s a n) (bytes-win s a n h f))
-
-  pub bytes-le16 : (a : ℕ) → a + 2 ≤ length s → bytes16 (le16 s a) ≡ win s a 2
-  bytes-le16 a h = bytes-le 2 a (le16 s a) h (number-le16 s a h)
-
-  pub bytes-le32 : (a : ℕ) → a + 4 ≤ length s → bytes32 (le32 s a) ≡ win s a 4
-  bytes-le32 a h = bytes32-digits (le32 s a) ∙ bytes-le 4 a (le32 s a) h (number-le32 s a h)
-
-  pub bytes-le64 : (a : ℕ) → a + 8 ≤ length s → bytes64 (le64 s a) ≡ win s a 8
-  bytes-le64 a h =
-      let e : le64 s a ≡ le32 s (a + 4) * 4294967296 + le32 s a = omega arith in
-      let low : le64 s a % 4294967296 ≡ le32 s a = rw e (digits-mod (le32 s (a + 4)) (le32-small a)) in
-      let high : le64 s a / 4294967296 ≡ le32 s (a + 4) = rw e (digits-div (le32 s (a + 4)) (le32-small a)) in
-      ap₂ (λ (u v : ℕ). bytes32 u ++ bytes32 v) low high
-      ∙ rw (win-add s a 4 4) (ap₂ _++_ (bytes-le32 a (omega arith)) (bytes-le32 (a + 4) (omega arith)))
-
--- ---- bytes that say 0 are 0
-
-eqb-sum : (a m k : ℕ) → 0 < k → eqb (a + m * k) 0 ≡ eqb a 0 && eqb m 0
-eqb-sum zero zero k h = eq-eqb (0 + 0 * k) 0 (omega arith)
-eqb-sum zero (suc m) k h = ne-eqb (0 + suc m * k) 0 (λ e. omega (arith, suc-mul m k)) ∙ sym (eqb·suc-zero m)
-eqb-sum (suc a) m k h = rw (suc-add, eqb·suc-zero, eqb·suc-zero)
+eqb-sum : (a m : ℕ) → eqb (a + m * 256) 0 ≡ eqb a 0 && eqb m 0
+eqb-sum zero zero = refl
+eqb-sum zero (suc m) = ne-eqb (0 + suc m * 256) 0 (λ e. omega arith) ∙ sym (eqb·suc-zero m)
+eqb-sum (suc a) m = rw (suc-add, eqb·suc-zero, eqb·suc-zero)
 
 zero-number : (l : List ℕ) → allZero l ≡ eqb (number l) 0
 unfolding allZero
 zero-number [] = refl
-zero-number (b ∷ l) = rw (zero-number l) (sym (eqb-sum b (number l) 256 (omega arith)))
+zero-number (b ∷ l) = rw (zero-number l) (sym (eqb-sum b (number l)))
 
-pub zero-le16 : (s : List ℕ) (a : ℕ) → a + 2 ≤ length s → allZero (win s a 2) ≡ eqb (le16 s a) 0
-zero-le16 s a h = zero-number (win s a 2) ∙ rw (number-le16 s a h)
+-- ---- a number of m bytes, as it is read at a place and written
 
-pub zero-le32 : (s : List ℕ) (a : ℕ) → a + 4 ≤ length s → allZero (win s a 4) ≡ eqb (le32 s a) 0
-zero-le32 s a h = zero-number (win s a 4) ∙ rw (number-le32 s a h)
+pub record Width (m : ℕ) (le : List ℕ → ℕ → ℕ) (bytes : ℕ → List ℕ) : Type 0 where
+  reads : (s : List ℕ) (a : ℕ) → le s a ≡ said m s a
+  writes : (v : ℕ) → bytes v ≡ digits m v
 
-pub zero-le64 : (s : List ℕ) (a : ℕ) → a + 8 ≤ length s → allZero (win s a 8) ≡ eqb (le64 s a) 0
-zero-le64 s a h =
-    rw (win-add s a 4 4, zero-append, zero-le32 s a (omega arith), zero-le32 s (a + 4) (omega arith))
-    (sym (eqb-sum (le32 s a) (le32 s (a + 4)) 4294967296 (omega arith)))
+pub width16 : Width 2 le16 bytes16
+width16 = record { reads = λ s a. omega arith; writes = λ v. refl }
+
+bytes32-digits : (v : ℕ) → bytes32 v ≡ digits 4 v
+bytes32-digits v = simp div-div-eq-div-mul
+
+pub width32 : Width 4 le32 bytes32
+width32 = record { reads = λ s a. simp add-assoc (omega arith); writes = bytes32-digits }
+
+pub width64 : Width 8 le64 bytes64
+width64 = record {
+  reads = λ s a. simp add-assoc (omega arith);
+  writes = λ v. ap₂ _++_ (bytes32-digits (v % 4294967296)) (bytes32-digits (v / 4294967296)) ∙ sym (digits-add 4 4 v);
+}
+
+module _ {m : ℕ} {le : List ℕ → ℕ → ℕ} {bytes : ℕ → List ℕ} (w : Width m le bytes) where
+  -- a number's bytes say it
+  pub le-bytes : (v : ℕ) → v < 256 ^ m → le (bytes v) 0 ≡ v
+  le-bytes v h = rw (w .writes v) (w .reads (digits m v) 0 ∙ said-digits m v ∙ number-digits m v h)
+
+  -- in a window
+  pub le-win : (s : List ℕ) (a n i : ℕ) → i + m ≤ n → le (win s a n) i ≡ le s (a + i)
+  le-win s a n i h = w .reads (win s a n) i ∙ said-win m s a n i h ∙ sym (w .reads s (a + i))
+
+  pub le-front : (s : List ℕ) (a n : ℕ) → m ≤ n → le (win s a n) 0 ≡ le s a
+  le-front s a n h = le-win s a n 0 (omega arith) ∙ rw add-zero
+
+  -- the number that a window says
+  number-le : (s : List ℕ) (a : ℕ) → a + m ≤ length s → number (win s a m) ≡ le s a
+  number-le s a h = number-said m s a h ∙ sym (w .reads s a)
+
+  -- bytes are those of the number that they say
+  pub bytes-le : (s : List ℕ) → Bytes s → (a : ℕ) → a + m ≤ length s → bytes (le s a) ≡ win s a m
+  bytes-le s f a h = w .writes (le s a) ∙ rw (length-win s a m h, number-le s a h) at (digits-number (win s a m) (bytes-win s a m h f))
+
+  -- bytes that say 0 are 0
+  pub zero-le : (s : List ℕ) (a : ℕ) → a + m ≤ length s → allZero (win s a m) ≡ eqb (le s a) 0
+  zero-le s a h = zero-number (win s a m) ∙ rw (number-le s a h)

@@ -2,7 +2,7 @@
 -- turn, and what its result says of the indices. All by induction on the number of indices.
 use mathlib.Core.Path.{_≡_, refl, sym, ap, _∙_}
 use mathlib.Core.Logic.{⊎-elim}
-use mathlib.Core.Bool.{Bool, true, false, not, _&&_, _||_, and-true, and-assoc, or-true}
+use mathlib.Core.Bool.{Bool, Bool·not-not, true, false, not, _&&_, _||_, and-true, and-assoc, or-true}
 use Prim.Native.Nat.{ℕ, zero, suc, _+_, _-_, _≤_, _<_}
 use native.Mathlib.Nat.{eq-or-lt-of-le, le-of-suc-le-suc, not-suc-le-zero}
 use native.Mathlib.Omega.{arith}
@@ -93,9 +93,9 @@ module _ (p : ℕ → Bool) where
   some-more i h e = rw (add-one, h, e)
 
 pub some-cong : (p q : ℕ → Bool) (n : ℕ) → ((i : ℕ) → i < n → p i ≡ q i) → some p n ≡ some q n
-unfolding some
-some-cong p q zero f = refl
-some-cong p q (suc n) f = rw (some-cong p q n (λ i h. f i (omega arith)), f n (omega arith))
+some-cong p q n f =
+    let e : not (some p n) ≡ not (some q n) = not-some p n ∙ every-cong (λ i. not (p i)) (λ i. not (q i)) n (λ i h. ap not (f i h)) ∙ sym (not-some q n) in
+    sym (Bool·not-not (some p n)) ∙ ap not e ∙ Bool·not-not (some q n)
 
 -- ---- the first index
 

@@ -123,7 +123,10 @@ abbrev pub valuedLine : (ℕ → Line) → Hex → Line
 valuedLine k Hex.Not = Line.Unreadable
 valuedLine k (Hex.Is n) = k n
 
-pub gives-valued : (o : Option (List ℕ)) (k : ℕ → Line) {x r : Hex} {before after : List ℕ} → (x ≡ lengthRead o) × (after ≡ splice before 0 (valueRead o)) → x ≡ r
-    → Gives (orUnreadable (o >>= λ v. some (record { line = k (length v); value = v }))) (valuedLine k r) before after
-gives-valued none k e q = record { line = ap (valuedLine k) (sym q ∙ e .0); value = e .1 }
-gives-valued (some v) k e q = record { line = ap (valuedLine k) (sym q ∙ e .0); value = e .1 }
+-- what is given by what may be read as a value, once it is read into the buffer
+abbrev pub GivesBy : Option (List ℕ) → Read → (ℕ → Line) → List ℕ → Type 0
+GivesBy o x k before = (y r : Hex) (after : List ℕ) → (y ≡ lengthRead o) × (after ≡ splice before 0 (valueRead o)) → y ≡ r → Gives x (valuedLine k r) before after
+
+pub gives-valued : (o : Option (List ℕ)) (k : ℕ → Line) {before : List ℕ} → GivesBy o (orUnreadable (o >>= λ v. some (record { line = k (length v); value = v }))) k before
+gives-valued none k y r after e q = record { line = ap (valuedLine k) (sym q ∙ e .0); value = e .1 }
+gives-valued (some v) k y r after e q = record { line = ap (valuedLine k) (sym q ∙ e .0); value = e .1 }

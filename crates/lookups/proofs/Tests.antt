@@ -15,7 +15,7 @@ use Rattle.layout.specs.Fields.{rowSession, rowKey}
 use Rattle.layout.specs.Holds.{RowFits, Holds}
 use Rattle.layout.specs.Search.{found, startsWith}
 use Rattle.layout.specs.declared.Found.{Found}
-use Rattle.layout.proofs.Held.{owner-held, target-held, row-fits}
+use Rattle.layout.proofs.Held.{owner-held, target-held, row-stands}
 use Rattle.layout.proofs.Search.{first-held, found-none}
 use Rattle.lookups.specs.Test.{testOf, rowTest}
 
@@ -52,7 +52,7 @@ module _ {b : List ℕ} {s : State} (h : Holds b s) where
   unfolding rowTest
   test-search p n k q =
       first-held p noRow (rowTest b n k) (s .rows) rowCount (h .fits .rows) (λ i l.
-      rw (owner-held h i l, target-held h i l) (q (rowAt s i) (row-fits h i l)))
+      rw (owner-held h i l, target-held h i l) (q (rowAt s i) (row-stands h i l .fits)))
 
   pub of-search : (n k : ℕ) → (n ≡ 0 → ⊥) → first (rowTest b n k) Found.At Found.Nothing 0 rowCount ≡ found rowCount (rowPlace s n k)
   of-search n k z = test-search (ofOn n k) n k (λ r f. of-on n k r f z)
@@ -63,7 +63,7 @@ module _ {b : List ℕ} {s : State} (h : Holds b s) where
   pub free-search : first (startsWith b rowsFrom rowWidth 0) Found.At Found.Nothing 0 rowCount ≡ found rowCount (place freeRow (s .rows))
   free-search =
       first-held freeRow noRow (startsWith b rowsFrom rowWidth 0) (s .rows) rowCount (h .fits .rows) (λ i l.
-      rw (owner-held h i l) (owner-free (rowAt s i) (row-fits h i l)))
+      rw (owner-held h i l) (owner-free (rowAt s i) (row-stands h i l .fits)))
 
   pub none-zero : (k : ℕ) → found rowCount (rowPlace s 0 k) ≡ Found.Nothing
-  none-zero k = found-none (ofOn 0 k) noRow (s .rows) rowCount (h .fits .rows) (λ i l. none-of k (rowAt s i) (row-fits h i l))
+  none-zero k = found-none (ofOn 0 k) noRow (s .rows) rowCount (h .fits .rows) (λ i l. none-of k (rowAt s i) (row-stands h i l .fits))

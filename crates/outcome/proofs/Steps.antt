@@ -2,9 +2,9 @@
 -- Where nothing lapses that is the whole step.
 use Prim.Native.Nat.{ℕ}
 use mathlib.Core.Path.{_≡_, refl}
-use mathlib.Core.Bool.{true, false}
+use mathlib.Core.Bool.{Bool, true, false}
 use mathlib.Core.Option.{Option, none, some}
-use Rattle.lent.proofs.Choices.{clash}
+use Rattle.lent.specs.Tables.{if_then_else_}
 use Rattle.machine.specs.Tables.{first}
 use Rattle.machine.specs.Words.{CLOCK}
 use Rattle.machine.specs.State.{Value, State}
@@ -27,21 +27,14 @@ module _ (s : State) (now : ℕ) (c : Command) (v : Value) where
   unfolding acted refusal settled
   acted-clock e = rw e
 
-  pub acted-refused : clockRefusal s now .0 ≡ false → isRefused (tried s now c v .answer) ≡ true → acted s now c v ≡ tried s now c v
+  -- in time the clock stays where the command is refused
+  pub acted-in-time : {t : Bool} → clockRefusal s now .0 ≡ false → isRefused (tried s now c v .answer) ≡ t → acted s now c v ≡ (if t then tried s now c v else clocked now (tried s now c v))
   unfolding acted refusal settled tried
-  acted-refused e q = rw e (go (first (refusals s c v)) q)
+  acted-in-time e q = rw (e, ← q) (go (first (refusals s c v)))
     where
-      go : (o : Option ℕ) → isRefused (unless o s (effect s now c v) .answer) ≡ true → settled s now o (effect s now c v) ≡ unless o s (effect s now c v)
-      go (some d) p = refl
-      go none p = clash (isRefused (effect s now c v .answer)) p (effect-accepts s now c v)
-
-  pub acted-accepted : clockRefusal s now .0 ≡ false → isRefused (tried s now c v .answer) ≡ false → acted s now c v ≡ clocked now (tried s now c v)
-  unfolding acted refusal settled tried
-  acted-accepted e q = rw e (go (first (refusals s c v)) q)
-    where
-      go : (o : Option ℕ) → isRefused (unless o s (effect s now c v) .answer) ≡ false → settled s now o (effect s now c v) ≡ clocked now (unless o s (effect s now c v))
-      go none p = refl
-      go (some d) p = clash true refl p
+      go : (o : Option ℕ) → let u = unless o s (effect s now c v) in settled s now o (effect s now c v) ≡ (if isRefused (u .answer) then u else clocked now u)
+      go (some d) = refl
+      go none = rw (effect-accepts s now c v)
 
 -- where nothing lapses
 pub step-still : (s : State) (now : ℕ) (c : Command) (v : Value) → expire now s ≡ s → step s now c v ≡ acted s now c v

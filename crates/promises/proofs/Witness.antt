@@ -1,7 +1,7 @@
 -- Demand 3 over bytes is not empty: on every buffer of 65,536 bytes START answers READY, and the run that the machine computes to keep the rules
 -- (`machine`, `Witness`) keeps them on the bytes, which follow the machine event by event.
 use mathlib.Core.Path.{_≡_, refl, sym, ap, subst}
-use mathlib.Core.Bool.{Bool, true, false, _&&_}
+use mathlib.Core.Bool.{Bool, true, _&&_}
 use mathlib.Core.List.{List, [], _∷_}
 use Prim.Native.Nat.{ℕ, zero, suc}
 use native.Mathlib.Omega.{arith}
@@ -11,8 +11,8 @@ use lib.ListN.{length, take, drop, take-append-drop}
 use Rattle.lent.specs.Bytes.{Bytes}
 use Rattle.lent.proofs.Choices.{and-yes}
 use Rattle.machine.specs.Sizes.{stateSize}
-use Rattle.machine.specs.State.{Value, State}
-use Rattle.machine.specs.World.{Event, command, write, World, freshWorld, AllKept, Consistent, AllBytes}
+use Rattle.machine.specs.State.{Value}
+use Rattle.machine.specs.World.{Event, command, write, World, AllKept, Consistent, AllBytes}
 use Rattle.machine.specs.Examples.{exampleReadLife, exampleWriteLife}
 use Rattle.machine.specs.Witness.{events}
 use Rattle.machine.specs.declared.Answer.{Answer}
@@ -20,7 +20,7 @@ use Rattle.machine.proofs.Witness.{witness-kept}
 use Rattle.layout.specs.WellFormed.{wellFormed}
 use Rattle.startup.specs.Start.{Reply, startOf}
 use Rattle.startup.proofs.Started.{started-ready}
-use Rattle.startup.proofs.Sound.{ready-formed, ready-decodes}
+use Rattle.startup.proofs.Sound.{ready-formed, world-fresh}
 use Rattle.promises.specs.Bytes.{ByteWorld, worldOf, begunOn, nextBytes, runBytes, AllKeptBytes}
 use Rattle.promises.proofs.Follow.{next-formed, next-follows, demand-3-bytes}
 
@@ -56,15 +56,12 @@ values-test (write n k v ∷ es) e = (tt, values-test es e)
 witness-values : AllBytes events
 witness-values = values-test events refl
 
-begun-bytes : (b : List ℕ) (readLife writeLife : ℕ) → startOf b readLife writeLife .answer ≡ Answer.Ready → worldOf (begunOn (startOf b readLife writeLife .bytes)) ≡ freshWorld readLife writeLife
-begun-bytes b readLife writeLife ready = ap (λ (s : State). record { state = s; register = λ k. []; began = λ k. []; since = λ t k. []; wrote = λ n. false }) (ready-decodes b readLife writeLife ready)
-
 module _ (b : List ℕ) (size : length b ≡ stateSize) where
   pub witness-kept-bytes : AllKeptBytes (begunOn (startOf b exampleReadLife exampleWriteLife .bytes)) events
   witness-kept-bytes =
       let ready = witness-ready b size in
       kept-bytes (begunOn (startOf b exampleReadLife exampleWriteLife .bytes)) events witness-values (ready-formed b exampleReadLife exampleWriteLife ready)
-      (subst (λ (w : World). AllKept w events) (sym (begun-bytes b exampleReadLife exampleWriteLife ready)) witness-kept)
+      (subst (λ (w : World). AllKept w events) (sym (world-fresh b exampleReadLife exampleWriteLife ready)) witness-kept)
 
   -- at each moment of it
   pub witness-consistent-bytes : (i : ℕ) → Consistent (worldOf (runBytes (begunOn (startOf b exampleReadLife exampleWriteLife .bytes)) (take i events)))

@@ -98,8 +98,8 @@ module _ (b : List ℕ) (w : World) (h : Recorded b w) (o : Orderly (w .state)) 
       go : Leases (w .state) c (r .answer) (r .after) → Recorded (noted b c (wordOf (r .answer))) (commanded w r)
       go (quiet q f) = rw (← noted-none b c (wordOf (r .answer)) (eqb-false (wordOf (r .answer)) LEASE q)) (recorded-by b (h .size) (λ k. refl) (λ i. refl)
           (λ k l e. rw (since-quiet (w .register) (w .since) (r .answer) (l .token) k q) (h .grants k l (f k l e))))
-      go (grant n k p q f) = rw (← noted-grant b c (wordOf (r .answer)) k (ap wordOf q) (sym (ap asksFor p))) (recorded-by b′ (Laws.length-granted b (h .size) k (registered b k) short)
-          (Laws.registered-granted b (h .size) k (registered b k) short) (Laws.mark-granted b (h .size) k (registered b k) short) (λ j l e. there j l e (f j l e)))
+      go (grant n k p q f) = rw (← noted-grant b c (wordOf (r .answer)) k (ap wordOf q) (sym (ap asksFor p))) (recorded-by b′ (Laws.granted-keeps b (h .size) k (registered b k) short .size)
+          (Laws.registered-granted b (h .size) k (registered b k) short) (Laws.granted-keeps b (h .size) k (registered b k) short .marks) (λ j l e. there j l e (f j l e)))
         where
           b′ : List ℕ
           b′ = withGranted b k (registered b k)
@@ -219,11 +219,11 @@ module _ (b : List ℕ) (w : World) (h : Recorded b w) (state-sound : sound (w .
   pub recorded-written : (k : ℕ) (v : Value) → k < keyCount → length v ≤ valueMax → Recorded (withRegistered (markedAt b (w .state) n) k v) (written w n k v)
   unfolding written
   recorded-written k v small short = record {
-    size = Laws.length-registered b′ (m .size) k v short;
+    size = Laws.registered-keeps b′ (m .size) k v short .size;
     register = λ j. register j (case-of (eqb j k));
     grants = λ j l e. grants j l e (case-of (eqb j k));
-    marks = λ i x e. rw (Laws.mark-registered b′ (m .size) k v short i) (m .marks i x e);
-    below = λ i f. rw (Laws.mark-registered b′ (m .size) k v short i) (m .below i f);
+    marks = λ i x e. rw (Laws.registered-keeps b′ (m .size) k v short .marks i) (m .marks i x e);
+    below = λ i f. rw (Laws.registered-keeps b′ (m .size) k v short .marks i) (m .below i f);
     wrote = m .wrote;
   }
     where

@@ -125,8 +125,7 @@ StillBegun b = (length b ≡ bookSize) × (started b ≡ true)
 
 still-noted : (b : List ℕ) → StillBegun b → (c : Command) (w : ℕ) → StillBegun (noted b c w)
 still-noted b h c w = noted-ind StillBegun b c w h
-    (λ k q. let s = Laws.registered-short b k in
-    (Laws.length-granted b (h .0) k (registered b k) s, Laws.started-granted b (h .0) k (registered b k) s ∙ h .1))
+    (λ k q. let g = Laws.granted-keeps b (h .0) k (registered b k) (Laws.registered-short b k) in (g .size, g .flag ∙ h .1))
 
 still-marked : (x b : List ℕ) → StillBegun b → (n : ℕ) → StillBegun (marked x b n)
 unfolding marked
@@ -145,7 +144,8 @@ still-acted p h (command now c v) r = still-noted (p .book) h c (wordOf (ran (p 
 still-acted p h (write n k v) r =
     let b = marked (p .cache) (p .book) n in
     let m = still-marked (p .cache) (p .book) h n in
-    (Laws.length-registered b (m .0) k v (r .1), Laws.started-registered b (m .0) k v (r .1) ∙ m .1)
+    let g = Laws.registered-keeps b (m .0) k v (r .1) in
+    (g .size, g .flag ∙ m .1)
 
 -- and the book keeps its size
 

@@ -10,7 +10,7 @@ use lib.ListN.{length, getD, set}
 use borrow.Author.Tests.{ne-eqb}
 use Rattle.lent.specs.Bytes.{le16, bytes16, le32, bytes32, le64, bytes64, splice, win}
 use Rattle.lent.specs.Tables.{first}
-use Rattle.lent.proofs.Numbers.{le16-win, le64-win}
+use Rattle.lent.proofs.Numbers.{width16, width32, width64, le-front, le-win}
 use Rattle.lent.proofs.Splice.{getD-win, splice-next}
 use Rattle.machine.specs.Sizes.{sessionCount, sessionsFrom, sessionWidth}
 use Rattle.machine.specs.Tables.{place}
@@ -23,7 +23,7 @@ use Rattle.layout.specs.Layout.{encSession, lifeMark, lifeTime, decLife, sessio
 use Rattle.layout.specs.Holds.{Live, SlotFits, Holds}
 use Rattle.layout.specs.Search.{found, startsWith}
 use Rattle.layout.specs.declared.Found.{Found}
-use Rattle.layout.proofs.Held.{le32-front, number-held, session-stands, session-fits}
+use Rattle.layout.proofs.Held.{number-held, session-stands}
 use Rattle.layout.proofs.Formed.{holds-size}
 use Rattle.layout.proofs.Search.{first-held, found-none}
 
@@ -35,10 +35,10 @@ module _ (b : List ℕ) (a : ℕ) where
 
   pub life-open : (getD b (a + 4) 0 ≡ 2 → ⊥) → decLife (win b a sessionWidth) ≡ Life.Open (le64 b (a + 8))
   life-open n =
-      rw (getD-win b a sessionWidth 4 (omega arith), ne-eqb (getD b (a + 4) 0) 2 n, le64-win b a sessionWidth 8 (omega arith))
+      rw (getD-win b a sessionWidth 4 (omega arith), ne-eqb (getD b (a + 4) 0) 2 n, le-win width64 b a sessionWidth 8 (omega arith))
 
   pub session-loaded : sessionFrom (win b a sessionWidth) ≡ record { number = le32 b a; life = decLife (win b a sessionWidth); count = le16 b (a + 6) }
-  session-loaded = rw (le32-front b a sessionWidth (omega arith), le16-win b a sessionWidth 6 (omega arith))
+  session-loaded = rw (le-front width32 b a sessionWidth (omega arith), le-win width16 b a sessionWidth 6 (omega arith))
 
 -- the four stores of a session, one behind the other
 session-written : (b : List ℕ) (a n m c t : ℕ) → a + sessionWidth ≤ length b
@@ -80,7 +80,7 @@ module _ {b : List ℕ} {s : State} (h : Holds b s) where
       → first (startsWith b sessionsFrom sessionWidth n) Found.At Found.Nothing 0 sessionCount ≡ found sessionCount (place p (s .sessions))
   number-search p n q =
       first-held p noSession (startsWith b sessionsFrom sessionWidth n) (s .sessions) sessionCount (h .fits .sessions) (λ i l.
-      rw (number-held h i l) (q (sessionAt s i) (session-fits h i l)))
+      rw (number-held h i l) (q (sessionAt s i) (session-stands h i l .fits)))
 
   pub session-search : (n : ℕ) → (n ≡ 0 → ⊥) → first (startsWith b sessionsFrom sessionWidth n) Found.At Found.Nothing 0 sessionCount ≡ found sessionCount (sessionPlace s n)
   session-search n z = number-search (numbered n) n (λ e f. numbered-is n e z)
@@ -89,4 +89,4 @@ module _ {b : List ℕ} {s : State} (h : Holds b s) where
   free-search = number-search free 0 number-free
 
   pub none-zero : found sessionCount (sessionPlace s 0) ≡ Found.Nothing
-  none-zero = found-none (numbered 0) noSession (s .sessions) sessionCount (h .fits .sessions) (λ i l. numbered-zero (sessionAt s i) (session-fits h i l))
+  none-zero = found-none (numbered 0) noSession (s .sessions) sessionCount (h .fits .sessions) (λ i l. numbered-zero (sessionAt s i) (session-stands h i l .fits))

@@ -10,13 +10,12 @@ use lib.Dec.{eqb}
 use borrow.Author.Tests.{eqb-true}
 use Rattle.lent.specs.Bytes.{le32, le64, win}
 use Rattle.lent.specs.Tables.{if_then_else_}
-use Rattle.lent.proofs.Numbers.{le32-win}
+use Rattle.lent.proofs.Numbers.{width32, le-front, le-win}
 use Rattle.lent.proofs.Splice.{getD-win}
 use Rattle.lent.proofs.Tables.{read-tab-at}
 use Rattle.machine.specs.Sizes.{keyCount, keysFrom, keyWidth, rowCount, rowsFrom, rowWidth, sessionCount, sessionsFrom, sessionWidth}
 use Rattle.machine.specs.State.{Key, Row, noRow, row, noSession, session, blank, keyOf, rowAt, sessionAt}
 use Rattle.machine.specs.Sound.{tokenIn, numberIn, numberAt, tokenAt}
-use Rattle.layout.proofs.Held.{le32-front}
 use Rattle.layout.specs.Layout.{decKey, decRow, decStaged, sessionFrom, decSession, decode}
 use Rattle.joins.specs.Joins.{sessionNumbers, rowSession, rowKey, rowKind}
 
@@ -60,10 +59,10 @@ module _ (s : List ℕ) where
   session-at j h = read-tab-at decSession sessionWidth sessionCount s sessionsFrom noSession j h
 
   pub number-at : (j : ℕ) → j < sessionCount → numberAt (decode s) j ≡ sessionNumbers s j
-  number-at j h = ap numberIn (session-at j h) ∙ number-decoded (sessionBytes j) ∙ le32-front s (sessionsFrom + j * sessionWidth) sessionWidth (omega arith)
+  number-at j h = ap numberIn (session-at j h) ∙ number-decoded (sessionBytes j) ∙ le-front width32 s (sessionsFrom + j * sessionWidth) sessionWidth (omega arith)
 
   pub token-at : (k : ℕ) → k < keyCount → tokenAt (decode s) k ≡ le32 s (keysFrom + k * keyWidth + 4)
-  token-at k h = ap (λ (y : Key). tokenIn (y .lease)) (key-at k h) ∙ token-decoded (keyBytes k) ∙ le32-win s (keysFrom + k * keyWidth) keyWidth 4 (omega arith)
+  token-at k h = ap (λ (y : Key). tokenIn (y .lease)) (key-at k h) ∙ token-decoded (keyBytes k) ∙ le-win width32 s (keysFrom + k * keyWidth) keyWidth 4 (omega arith)
 
   -- row i, free or not
   abbrev pub rowOr : Bool → ℕ → Row
@@ -73,4 +72,4 @@ module _ (s : List ℕ) where
   unfolding decRow
   row-is i h =
       row-at i h
-      ∙ rw (le32-front s (rowsFrom + i * rowWidth) rowWidth (omega arith), getD-win s (rowsFrom + i * rowWidth) rowWidth 4 (omega arith), getD-win s (rowsFrom + i * rowWidth) rowWidth 5 (omega arith))
+      ∙ rw (le-front width32 s (rowsFrom + i * rowWidth) rowWidth (omega arith), getD-win s (rowsFrom + i * rowWidth) rowWidth 4 (omega arith), getD-win s (rowsFrom + i * rowWidth) rowWidth 5 (omega arith))

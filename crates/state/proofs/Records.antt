@@ -13,7 +13,7 @@ use Rattle.lent.specs.Bytes.{Bytes, le16, bytes16, le32, bytes32, le64, bytes64
 use Rattle.lent.specs.Tables.{if_then_else_, every, allZero, same}
 use Rattle.lent.proofs.Choices.{and-yes, and-ahead}
 use Rattle.lent.proofs.Equal.{same-refl, same-zeros, same-win, same-one, same-padded}
-use Rattle.lent.proofs.Numbers.{bytes-le16, bytes-le32, bytes-le64, zero-le16, zero-le32, zero-le64}
+use Rattle.lent.proofs.Numbers.{width16, width32, width64, bytes-le, zero-le}
 use Rattle.lent.proofs.Splice.{length-win, getD-win, win-add, win-whole}
 use Rattle.lent.proofs.Walks.{all-every}
 use Rattle.lent.proofs.Zeros.{zero-append}
@@ -38,7 +38,7 @@ module _ (x : List ℕ) (f : Bytes x) where
       same-win x a m n p q (ap length e ∙ length-win x a m (omega arith)) h ∙ rw (e, same-refl (win x a m))
 
   skip-word : (a n : ℕ) (q : List ℕ) → a + (4 + n) ≤ length x → same (win x a (4 + n)) (bytes32 (le32 x a) ++ q) ≡ same (win x (a + 4) n) q
-  skip-word a n q h = skip a 4 n (bytes32 (le32 x a)) q (bytes-le32 x f a (omega arith)) h
+  skip-word a n q h = skip a 4 n (bytes32 (le32 x a)) q (bytes-le width32 x f a (omega arith)) h
 
   -- the whole of a record
   same-whole : (n : ℕ) (y : List ℕ) → length x ≡ n → same x y ≡ same (win x 0 n) y
@@ -51,7 +51,7 @@ module _ (x : List ℕ) (f : Bytes x) where
   same-zero a n h = same-zeros (win x a n) n (length-win x a n h)
 
   same-eight : (a : ℕ) → a + 8 ≤ length x → same (win x a 8) (bytes64 (le64 x a)) ≡ true
-  same-eight a h = rw (bytes-le64 x f a h) (same-refl (win x a 8))
+  same-eight a h = rw (bytes-le width64 x f a h) (same-refl (win x a 8))
 
   -- ---- a value in the last 64 bytes, its length beside it
   module _ (a n : ℕ) (h : length x ≡ a + valueMax) where
@@ -124,7 +124,7 @@ module _ (x : List ℕ) (f : Bytes x) where
         mix a false s v = rw (and-false a)
 
         absent : same (win x 0 4) (zeros 4) ≡ eqb (le32 x 0) 0
-        absent = same-zero 0 4 (omega arith) ∙ zero-le32 x 0 (omega arith)
+        absent = same-zero 0 4 (omega arith) ∙ zero-le width32 x 0 (omega arith)
 
         go : (t u : Bool) → eqb (getD x 0 0) 1 ≡ t → eqb (le32 x 0) 0 ≡ u
             → (same (win x 0 4) (valueMark (if t then some (win x 16 (getD x 1 0)) else none)) && same (win x 16 valueMax) (valueBytes (if t then some (win x 16 (getD x 1 0)) else none))) && cachedSound (if t then some (win x 16 (getD x 1 0)) else none)
@@ -132,7 +132,7 @@ module _ (x : List ℕ) (f : Bytes x) where
         go true true e g = absurd (omega (arith, eqb-true (getD x 0 0) 1 e, eqb-true (le32 x 0) 0 g))
         go true false e g =
             let v : Value = win x 16 (getD x 1 0) in
-            rw (same-byte 0 3 1 (length v ∷ 0 ∷ 0 ∷ []) (omega arith), e, same-byte 1 2 (length v) (0 ∷ 0 ∷ []) (omega arith), same-zero 2 2 (omega arith), zero-le16 x 2 (omega arith), ← held-is-fitted 16 (getD x 1 0) h)
+            rw (same-byte 0 3 1 (length v ∷ 0 ∷ 0 ∷ []) (omega arith), e, same-byte 1 2 (length v) (0 ∷ 0 ∷ []) (omega arith), same-zero 2 2 (omega arith), zero-le width16 x 2 (omega arith), ← held-is-fitted 16 (getD x 1 0) h)
             (mix (eqb (getD x 1 0) (length v)) (eqb (le16 x 2) 0) (same (win x 16 valueMax) (padded v)) (valueSound v))
         go false true e g = rw (absent ∙ g, same-zero 16 valueMax (omega arith)) (and-true _)
         go false false e g = rw (absent ∙ g)
@@ -147,7 +147,7 @@ module _ (x : List ℕ) (f : Bytes x) where
         go true e =
             and-true _
             ∙ same-zero 4 12 (omega arith)
-            ∙ rw (win-add x 4 4 8, zero-append, zero-le32 x 4 (omega arith), e, zero-le64 x 8 (omega arith))
+            ∙ rw (win-add x 4 4 8, zero-append, zero-le width32 x 4 (omega arith), e, zero-le width64 x 8 (omega arith))
         go false e =
             let n : le32 x 4 ≡ 0 → ⊥ = eqb-false (le32 x 4) 0 e in
             rw (skip-word 4 8 (bytes64 (le64 x 8)) (omega arith) ∙ same-eight 8 (omega arith), le-leb 1 (le32 x 4) (omega arith))
@@ -176,7 +176,7 @@ module _ (x : List ℕ) (f : Bytes x) where
         go : (t : Bool) → eqb (getD x 4 0) 2 ≡ t
             → eqb (getD x 4 0) (lifeMark (if t then Life.Sealed else Life.Open (le64 x 8))) && (same (win x 8 8) (bytes64 (lifeTime (if t then Life.Sealed else Life.Open (le64 x 8)))) && lifeSound hd (if t then Life.Sealed else Life.Open (le64 x 8)))
             ≡ (if t then eqb (le64 x 8) 0 else eqb (getD x 4 0) 1 && leb (le64 x 8) (writeLimit hd))
-        go true e = rw (e, same-zero 8 8 (omega arith), zero-le64 x 8 (omega arith)) (and-true _)
+        go true e = rw (e, same-zero 8 8 (omega arith), zero-le width64 x 8 (omega arith)) (and-true _)
         go false e = rw (same-eight 8 (omega arith))
 
     pub session-is-formed : same x (encSession (decSession x)) && sessionSound hd (decSession x) ≡ sessionFormed (writeLimit hd) (hd .nextSession) x
@@ -196,7 +196,7 @@ module _ (x : List ℕ) (f : Bytes x) where
             let y : List ℕ = bytes16 (le16 x 6) ++ bytes64 (lifeTime l) in
             let b : same x (bytes32 (le32 x 0) ++ (lifeMark l ∷ 0 ∷ y)) ≡ same (win x 4 12) (lifeMark l ∷ 0 ∷ y) =
             same-whole sessionWidth (bytes32 (le32 x 0) ++ (lifeMark l ∷ 0 ∷ y)) h ∙ skip-word 0 12 (lifeMark l ∷ 0 ∷ y) (omega arith) in
-            rw (b, same-byte 4 11 (lifeMark l) (0 ∷ y) (omega arith), same-byte 5 10 0 y (omega arith), skip 6 2 8 (bytes16 (le16 x 6)) (bytes64 (lifeTime l)) (bytes-le16 x f 6 (omega arith)) (omega arith), le-leb 1 (le32 x 0) (omega arith), ← e)
+            rw (b, same-byte 4 11 (lifeMark l) (0 ∷ y) (omega arith), same-byte 5 10 0 y (omega arith), skip 6 2 8 (bytes16 (le16 x 6)) (bytes64 (lifeTime l)) (bytes-le width16 x f 6 (omega arith)) (omega arith), le-leb 1 (le32 x 0) (omega arith), ← e)
             (mix (eqb (getD x 4 0) (lifeMark l)) (eqb (getD x 5 0) 0) (same (win x 8 8) (bytes64 (lifeTime l))) (ltb (le32 x 0) (hd .nextSession)) (leb (le16 x 6) stepMax) (lifeSound hd l))
 
         go : (t : Bool) → eqb (le32 x 0) 0 ≡ t
@@ -214,7 +214,7 @@ module _ (x : List ℕ) (f : Bytes x) where
       let q2 : List ℕ = bytes32 (le32 x 12) ++ q3 in
       let q1 : List ℕ = bytes32 (le32 x 8) ++ q2 in
       let e : same (win x 0 headSize) (bytes64 (le64 x 0) ++ q1) ≡ allZero (win x 24 40) =
-      skip 0 8 56 (bytes64 (le64 x 0)) q1 (bytes-le64 x f 0 (omega arith)) (omega arith)
+      skip 0 8 56 (bytes64 (le64 x 0)) q1 (bytes-le width64 x f 0 (omega arith)) (omega arith)
       ∙ skip-word 8 52 q2 (omega arith)
       ∙ skip-word 12 48 q3 (omega arith)
       ∙ skip-word 16 44 q4 (omega arith)

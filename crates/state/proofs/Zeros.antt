@@ -11,7 +11,7 @@ use lib.ListN.{getD, length}
 use borrow.Author.Tests.{ltb-true, ltb-false}
 use Rattle.lent.specs.Bytes.{le64, win}
 use Rattle.lent.specs.Tables.{allZero}
-use Rattle.lent.proofs.Numbers.{zero-le64}
+use Rattle.lent.proofs.Numbers.{width64, zero-le}
 use Rattle.lent.proofs.Splice.{win-add, win-cons, win-whole}
 use Rattle.lent.proofs.Zeros.{zero-append, or-turn}
 use Rattle.machine.specs.Sizes.{sessionWidth}
@@ -39,7 +39,7 @@ mask-turn s at n i m w l byte low high e = go (ltb i n) refl
 pub session-zeros : (x : List ℕ) → length x ≡ sessionWidth → allZero x ≡ eqb (le64 x 0) 0 && eqb (le64 x 8) 0
 session-zeros x h =
     ap allZero (sym (win-whole x sessionWidth h) ∙ win-add x 0 8 8)
-    ∙ rw (zero-append (win x 0 8) (win x 8 8), zero-le64 x 0 (omega arith), zero-le64 x 8 (omega arith))
+    ∙ rw (zero-append (win x 0 8) (win x 8 8), zero-le width64 x 0 (omega arith), zero-le width64 x 8 (omega arith))
 
 -- the first of some bytes, and the rest
 pub zero-first : (s : List ℕ) (a n : ℕ) → a < length s → allZero (win s a (suc n)) ≡ eqb (getD s a 0) 0 && allZero (win s (a + 1) n)

@@ -3,7 +3,7 @@ use mathlib.Core.Path.{sym, _∙_}
 use native.Mathlib.Omega.{arith}
 use borrow.Author.Needs.{needs}
 use Rattle.machine.specs.State.{leaseOn}
-use Rattle.layout.proofs.Held.{key-fits}
+use Rattle.layout.proofs.Held.{key-stands}
 use Rattle.deadlines.proofs.Deadlines.{lapsed-not, lapsed-by}
 use Rattle.deadlines.proofs.lease_lapsed.Statement.{statement}
 use Rattle.deadlines.proofs.lease_lapsed.Tie as tie
@@ -13,7 +13,7 @@ lease-token-requires c κs = search needs
 
 returns : tie.Need-returns
 returns c = let args = c .before .before .before .args in
-    λ σ h. sym (lapsed-not (args .time) (leaseOn σ (args .k)) (key-fits h (args .k) (omega arith) .lease) (sym (c .before .lease-token .ensures σ h) ∙ c .if1 .taken))
+    λ σ h. sym (lapsed-not (args .time) (leaseOn σ (args .k)) (key-stands h (args .k) (omega arith) .fits .lease) (sym (c .before .lease-token .ensures σ h) ∙ c .if1 .taken))
 
 lease-until-requires : tie.Need-lease-until-requires
 lease-until-requires c κs = search needs

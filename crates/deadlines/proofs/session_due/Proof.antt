@@ -5,7 +5,7 @@ use borrow.Author.Needs.{needs}
 use Rattle.machine.specs.State.{sessionAt}
 use Rattle.machine.specs.declared.Session.{Session}
 use Rattle.layout.specs.Fields.{sessionIn}
-use Rattle.layout.proofs.Held.{session-fits}
+use Rattle.layout.proofs.Held.{session-stands}
 use Rattle.deadlines.proofs.Deadlines.{due-not, due-by}
 use Rattle.deadlines.proofs.session_due.Statement.{statement}
 use Rattle.deadlines.proofs.session_due.Tie as tie
@@ -19,7 +19,7 @@ returns c = let load = c .before .before .load in
     λ σ h.
     let e = sessionAt σ (args .i) in
     let zero : sessionIn e .number ≡ 0 = sym (ap (λ (x : Session). x .number) (load .ensures σ h)) ∙ c .if1 .taken in
-    sym (due-not (args .time) e (session-fits h (args .i) (omega arith)) zero)
+    sym (due-not (args .time) e (session-stands h (args .i) (omega arith) .fits) zero)
 
 due-requires : tie.Need-due-requires
 due-requires c κs = search needs

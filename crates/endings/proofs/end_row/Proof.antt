@@ -7,7 +7,7 @@ use Rattle.lent.proofs.Choices.{test-failed, test-passed}
 use Rattle.machine.specs.Tables.{mem}
 use Rattle.machine.specs.State.{rowAt}
 use Rattle.layout.specs.Fields.{rowSession}
-use Rattle.layout.proofs.Held.{row-fits}
+use Rattle.layout.proofs.Held.{row-stands}
 use Rattle.endings.proofs.Steps.{row-free, row-stays, row-ends}
 use Rattle.endings.proofs.end_row.Statement.{statement}
 use Rattle.endings.proofs.end_row.Tie as tie
@@ -20,7 +20,7 @@ same-length c = search needs
 
 returns : tie.Need-returns
 returns c = let args = c .before .before .before .before .before .args in
-    λ σ h. rw (row-free (args .ending) (args .ns .now) (args .i) σ (row-fits h (args .i) (omega arith)) (sym (c .before .session .ensures σ h) ∙ c .if1 .taken)) h
+    λ σ h. rw (row-free (args .ending) (args .ns .now) (args .i) σ (row-stands h (args .i) (omega arith) .fits) (sym (c .before .session .ensures σ h) ∙ c .if1 .taken)) h
 
 among-requires : tie.Need-among-requires
 among-requires c κs = search needs

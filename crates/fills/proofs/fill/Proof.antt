@@ -4,7 +4,7 @@ use native.Mathlib.Omega.{arith}
 use mathlib.Core.Path.{sym, _∙_}
 use borrow.Author.Needs.{needs}
 use Rattle.outcome.proofs.Told.{gives}
-use Rattle.layout.proofs.Held.{key-fits}
+use Rattle.layout.proofs.Held.{key-stands}
 use Rattle.fills.proofs.Tried.{fill-key, fill-long, fill-unleased, fill-other, fill-stored}
 use Rattle.fills.proofs.fill.Statement.{statement}
 use Rattle.fills.proofs.fill.Tie as tie
@@ -26,7 +26,7 @@ same-length c = search needs
 
 returns-3 : tie.Need-returns-3
 returns-3 c = let lease-token = c .before .lease-token in
-    λ σ h e. gives (fill-unleased _ _ _ _ (omega arith) (omega arith) (key-fits h _ (omega arith) .lease) (sym (lease-token .ensures σ h) ∙ c .if3 .taken)) h
+    λ σ h e. gives (fill-unleased _ _ _ _ (omega arith) (omega arith) (key-stands h _ (omega arith) .fits .lease) (sym (lease-token .ensures σ h) ∙ c .if3 .taken)) h
 
 same-length-2 : tie.Need-same-length-2
 same-length-2 c = search needs

@@ -10,7 +10,7 @@ use Rattle.machine.specs.Sizes.{rowCount}
 use Rattle.machine.specs.State.{State}
 use Rattle.machine.specs.Refusals.{heldOn}
 use Rattle.layout.specs.Holds.{Holds}
-use Rattle.layout.proofs.Held.{key-fits}
+use Rattle.layout.proofs.Held.{key-stands}
 use Rattle.holdings.proofs.Holdings.{held-row, held-leased}
 use borrow.Author.Needs.{needs}
 use Rattle.holdings.proofs.held.Statement.{statement}
@@ -49,7 +49,7 @@ held-by : (c : tie.After-lease-token) {t : Bool} → eqb (c .lease-token .result
 held-by c q σ h =
     let told = c .before .enum-told in
     let first-on = c .before .before .before .first-on in
-    sym (held-leased σ _ (h .fits .rows) (sym (first-on .ensures .0 σ h) ∙ told .given .1) (key-fits h _ (omega arith) .lease) (rw (c .lease-token .ensures σ h) at q))
+    sym (held-leased σ _ (h .fits .rows) (sym (first-on .ensures .0 σ h) ∙ told .given .1) (key-stands h _ (omega arith) .fits .lease) (rw (c .lease-token .ensures σ h) at q))
 
 returns-2 : tie.Need-returns-2
 returns-2 c = (λ σ h e. held-by (c .before) (eq-eqb _ _ (c .if1 .taken)) σ h, omega arith)

@@ -1,14 +1,9 @@
 -- `command` meets its contract: the shape, the numbers and what ends the line, in the order of `commandLine`.
-use mathlib.Core.Path.{_≡_, sym, _∙_}
-use mathlib.Core.List.{List}
-use Prim.Native.Nat.{ℕ}
-use Rattle.lent.specs.Bytes.{splice}
-use Rattle.hex.specs.Hex.{lengthRead, valueRead}
-use Rattle.hex.specs.declared.Hex.{Hex}
+use mathlib.Core.Path.{sym, _∙_}
 use Rattle.lines.specs.Fields.{fieldsAt, ending}
-use Rattle.lines.specs.Lines.{orUnreadable, shapeOf, commandLine, Gives}
+use Rattle.lines.specs.Lines.{orUnreadable, shapeOf, commandLine}
 use Rattle.lines.specs.declared.Line.{Line}
-use Rattle.lines.proofs.Saying.{gives-none, valuedLine, gives-valued}
+use Rattle.lines.proofs.Saying.{gives-none, GivesBy, gives-valued}
 use borrow.Author.Needs.{needs}
 use Rattle.lines.proofs.command.Statement.{statement}
 use Rattle.lines.proofs.command.Tie as tie
@@ -49,30 +44,28 @@ enum-told-3 : tie.Need-enum-told-3
 enum-told-3 c = search needs
 
 -- behind the numbers what is given is by what ends the line
-by-ending : (c : tie.After-known-told2) {x r : Hex} {after : List ℕ}
+by-ending : (c : tie.After-known-told2)
     → let a = c .before .before .before .before .before .before .before .before .before .before .args in
     let shape = c .before .before .before .before .before .number .given .0 in
     let numbers = c .before .a .given .0 in
-    let end = ending (shape .1 .1 .0) (fieldsAt (a .line .now) (numbers .1 .1 .1 .1 .0)) in
-    (x ≡ lengthRead end) × (after ≡ splice (a .value .now) 0 (valueRead end)) → x ≡ r
-    → Gives (orUnreadable (commandLine (a .time) (shapeOf (a .letter)) (fieldsAt (a .line .now) (a .at))))
-    (valuedLine (Line.Command (shape .0) (a .time) (numbers .0) (numbers .1 .0) (numbers .1 .1 .0) (numbers .1 .1 .1 .0)) r) (a .value .now) after
+    GivesBy (ending (shape .1 .1 .0) (fieldsAt (a .line .now) (numbers .1 .1 .1 .1 .0))) (orUnreadable (commandLine (a .time) (shapeOf (a .letter)) (fieldsAt (a .line .now) (a .at))))
+    (Line.Command (shape .0) (a .time) (numbers .0) (numbers .1 .0) (numbers .1 .1 .0) (numbers .1 .1 .1 .0)) (a .value .now)
 unfolding commandLine
-by-ending c e q =
+by-ending c y r after e q =
     rw (sym (c .before .before .before .before .before .before .before .shape-of .ensures) ∙ c .before .before .before .before .before .number .given .1, c .before .before .before .numbers .ensures, c .before .a .given .1)
-    (gives-valued (ending (c .before .before .before .before .before .number .given .0 .1 .1 .0) (fieldsAt (c .before .before .before .before .before .before .before .before .before .before .args .line .now) (c .before .a .given .0 .1 .1 .1 .1 .0))) _ e q)
+    (gives-valued (ending (c .before .before .before .before .before .number .given .0 .1 .1 .0) (fieldsAt (c .before .before .before .before .before .before .before .before .before .before .args .line .now) (c .before .a .given .0 .1 .1 .1 .1 .0))) _ y r after e q)
 
 same-length : tie.Need-same-length
 same-length c = search needs
 
 returns-3 : tie.Need-returns-3
-returns-3 c = by-ending (c .before .before .before .before .before .before) (c .before .before .before .before .ending .ensures) (c .enum-told3 .given .1)
+returns-3 c = by-ending (c .before .before .before .before .before .before) _ _ _ (c .before .before .before .before .ending .ensures) (c .enum-told3 .given .1)
 
 same-length-2 : tie.Need-same-length-2
 same-length-2 c = search needs
 
 returns-4 : tie.Need-returns-4
-returns-4 c = by-ending (c .before .before .before .before .before .before .before) (c .before .before .before .before .before .ending .ensures) (c .before .length .given .1)
+returns-4 c = by-ending (c .before .before .before .before .before .before .before) _ _ _ (c .before .before .before .before .before .ending .ensures) (c .before .length .given .1)
 
 pub command-spec : {M : Type 1} → statement M
 command-spec =

@@ -41,7 +41,10 @@ enum-told : tie.Need-enum-told
 enum-told c = search needs
 
 -- the field is the last, and is read
-value-is : (c : tie.After-length) → lastValue (c .before .before .before .before .before .before .before .args .most) (fieldsAt (c .before .before .before .before .before .before .before .args .line .now) (c .before .before .before .before .before .before .before .args .at)) ≡ upTo (c .before .before .before .before .before .before .before .args .most) (readHex (take (c .before .before .before .field-end .result - c .before .before .before .before .before .before .before .args .at) (drop (c .before .before .before .before .before .before .before .args .at) (c .before .before .before .before .before .before .before .args .line .now))))
+value-is : (c : tie.After-length)
+    → let a = c .before .before .before .before .before .before .before .args in
+    let field = take (c .before .before .before .field-end .result - a .at) (drop (a .at) (a .line .now)) in
+    lastValue (a .most) (fieldsAt (a .line .now) (a .at)) ≡ upTo (a .most) (readHex field)
 value-is c = value-last _ _ _ _ (c .before .before .before .field-end .ensures) (omega arith)
 
 returns-3 : tie.Need-returns-3
@@ -73,13 +76,9 @@ same-length c = search needs
 
 returns-5 : tie.Need-returns-5
 returns-5 c =
-    let a = c .before .before .before .before .before .before .before .before .before .before .before .before .before .before .before .before .args in
-    let field-end = c .before .before .before .before .before .before .before .before .before .before .before .before .field-end in
-    let length = c .before .before .before .before .before .before .before .before .before .length in
-    rw (
-      value-last (a .most) (a .line .now) (a .at) (field-end .result) (field-end .ensures) (omega arith),
-      up-to-all (a .most) _ (length .result) (length .ensures) _ (c .before .before .before .before .before .before .before .n .given .1) (search needs),
-    ) (c .before .before .read .ensures)
+    let l = c .before .before .before .before .before .before .before .before .before in
+    let most = l .before .before .before .before .before .before .before .args .most in
+    rw (value-is l, up-to-all most _ (l .length .result) (l .length .ensures) _ (c .before .before .before .before .before .before .before .n .given .1) (search needs)) (c .before .before .read .ensures)
 
 pub last-value-spec : {M : Type 1} → statement M
 last-value-spec =

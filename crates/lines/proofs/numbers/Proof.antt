@@ -1,5 +1,8 @@
 -- `numbers` meets its contract: each call takes the next field, and the definition goes on where it took one.
-use Rattle.lines.specs.Fields.{numbers}
+use mathlib.Core.Path.{_≡_}
+use mathlib.Core.Option.{some}
+use Rattle.lines.specs.Fields.{fieldsAt, _>>=_, numbers, numberAt}
+use Rattle.lines.specs.declared.One.{One}
 use borrow.Author.Needs.{needs}
 use Rattle.lines.proofs.numbers.Statement.{statement}
 use Rattle.lines.proofs.numbers.Tie as tie
@@ -57,37 +60,36 @@ enum-known-d c = search needs
 enum-told-4 : tie.Need-enum-told-4
 enum-told-4 c = search needs
 
-returns-4 : tie.Need-returns-4
+-- behind three numbers: by the fourth
+by-fourth : (c : tie.After-number-at4) {r : One}
+    → let third = c .before .before in
+    let second = third .before .before .before .before in
+    let first = second .before .before .before .before in
+    let a = first .before .before .before .before .args in
+    let t = a .line .now in
+    c .number-at4 .result ≡ r
+    → numbers (a .k) (fieldsAt t (a .at)) ≡ (numberAt t r >>= λ d. some (record { a = first .a .given .0 .0; b = second .b .given .0 .0; c = third .c .given .0 .0; d = d .number; rest = d .rest }))
 unfolding numbers
-returns-4 c =
-    let third = c .before .before .before .before .c in
-    let number-at3 = c .before .before .before .before .before .before .number-at3 in
-    let second = c .before .before .before .before .before .before .before .before .b in
-    let number-at2 = c .before .before .before .before .before .before .before .before .before .before .number-at2 in
-    let first = c .before .before .before .before .before .before .before .before .before .before .before .before .a in
-    let number-at = c .before .before .before .before .before .before .before .before .before .before .before .before .before .before .number-at in
+by-fourth c e =
+    let third = c .before .before in
+    let second = third .before .before .before .before in
+    let first = second .before .before .before .before in
     rw (
-      number-at .ensures,
-      first .given .1,
-      number-at2 .ensures,
-      second .given .1,
-      number-at3 .ensures,
-      third .given .1,
-      c .before .before .number-at4 .ensures,
-      c .enum-told4 .given .1,
+      first .before .before .number-at .ensures,
+      first .a .given .1,
+      second .before .before .number-at2 .ensures,
+      second .b .given .1,
+      third .before .before .number-at3 .ensures,
+      third .c .given .1,
+      c .number-at4 .ensures,
+      e,
     )
 
+returns-4 : tie.Need-returns-4
+returns-4 c = by-fourth (c .before .before) (c .enum-told4 .given .1)
+
 returns-5 : tie.Need-returns-5
-unfolding numbers
-returns-5 c =
-    let number-at4 = c .before .before .before .number-at4 in
-    let third = c .before .before .before .before .before .c in
-    let number-at3 = c .before .before .before .before .before .before .before .number-at3 in
-    let second = c .before .before .before .before .before .before .before .before .before .b in
-    let number-at2 = c .before .before .before .before .before .before .before .before .before .before .before .number-at2 in
-    let first = c .before .before .before .before .before .before .before .before .before .before .before .before .before .a in
-    let number-at = c .before .before .before .before .before .before .before .before .before .before .before .before .before .before .before .number-at in
-    rw (number-at .ensures, first .given .1, number-at2 .ensures, second .given .1, number-at3 .ensures, third .given .1, number-at4 .ensures, c .before .d .given .1)
+returns-5 c = by-fourth (c .before .before .before) (c .before .d .given .1)
 
 pub numbers-spec : {M : Type 1} → statement M
 numbers-spec =

@@ -1,10 +1,11 @@
 -- `read` meets its contract: a long line is refused unread, a first field `A` is a start, and any other line begins with the time.
-use mathlib.Core.Path.{sym}
+use mathlib.Core.Path.{_≡_, sym}
 use native.Mathlib.Omega.{arith}
 use lib.ListN.{length}
 use borrow.Author.Tests.{lt-ltb, le-ltb, eq-eqb, ne-eqb}
-use Rattle.lines.specs.Fields.{lineMax}
-use Rattle.lines.specs.Lines.{readLine, startLetter}
+use Rattle.lines.specs.Fields.{lineMax, fieldsAt, letterAt}
+use Rattle.lines.specs.Lines.{orUnreadable, startLetter, lineBy, readLine}
+use Rattle.lines.specs.declared.Letter.{Letter}
 use Rattle.lines.proofs.Cutting.{fields-in}
 use Rattle.lines.proofs.Saying.{gives-none, gives-unvalued}
 use borrow.Author.Needs.{needs}
@@ -24,6 +25,15 @@ enum-known-first c = search needs
 enum-told : tie.Need-enum-told
 enum-told c = search needs
 
+-- a line that is not too long is read by its first field
+by-first : (c : tie.After-letter-at) {r : Letter}
+    → let t = c .before .before .before .before .args .line .now in
+    c .letter-at .result ≡ r → readLine t ≡ orUnreadable (lineBy (letterAt t r) (fieldsAt t 0))
+unfolding readLine
+by-first c e =
+    let t = c .before .before .before .before .args .line .now in
+    rw (le-ltb lineMax (length t) (search needs), sym (fields-in t 0 (omega arith)), c .letter-at .ensures, e)
+
 timed-requires : tie.Need-timed-requires
 timed-requires c κs = search needs
 
@@ -31,31 +41,15 @@ same-length : tie.Need-same-length
 same-length c = search needs
 
 returns-2 : tie.Need-returns-2
-unfolding readLine
-returns-2 c =
-    let enum-told = c .before .before .before .before .enum-told in
-    let letter-at = c .before .before .before .before .before .before .letter-at in
-    let args = c .before .before .before .before .before .before .before .before .before .before .args in
-    rw (le-ltb lineMax (length (args .line .now)) (search needs), sym (fields-in (args .line .now) 0 (omega arith)), letter-at .ensures, enum-told .given .1)
-    (c .before .before .timed .ensures)
+returns-2 c = rw (by-first (c .before .before .before .before .before .before) (c .before .before .before .before .enum-told .given .1)) (c .before .before .timed .ensures)
 
 start-requires : tie.Need-start-requires
 start-requires c κs = search needs
 
 returns-3 : tie.Need-returns-3
-unfolding readLine
 returns-3 c =
     let first = c .before .before .before .first in
-    let letter-at = c .before .before .before .before .before .letter-at in
-    let args = c .before .before .before .before .before .before .before .before .before .args in
-    rw (
-      le-ltb lineMax (length (args .line .now)) (search needs),
-      sym (fields-in (args .line .now) 0 (omega arith)),
-      letter-at .ensures,
-      first .given .1,
-      eq-eqb (first .given .0 .0) startLetter (c .before .if2 .taken),
-    )
-    (gives-unvalued _ _ _ (c .start .ensures))
+    rw (by-first (c .before .before .before .before .before) (first .given .1), eq-eqb (first .given .0 .0) startLetter (c .before .if2 .taken)) (gives-unvalued _ _ _ (c .start .ensures))
 
 timed-requires-2 : tie.Need-timed-requires-2
 timed-requires-2 c κs = search needs
@@ -64,20 +58,9 @@ same-length-2 : tie.Need-same-length-2
 same-length-2 c = search needs
 
 returns-4 : tie.Need-returns-4
-unfolding readLine
 returns-4 c =
-    let if2 = c .before .before .before .before .if2 in
     let first = c .before .before .before .before .before .before .first in
-    let letter-at = c .before .before .before .before .before .before .before .before .letter-at in
-    let args = c .before .before .before .before .before .before .before .before .before .before .before .before .args in
-    rw (
-      le-ltb lineMax (length (args .line .now)) (search needs),
-      sym (fields-in (args .line .now) 0 (omega arith)),
-      letter-at .ensures,
-      first .given .1,
-      ne-eqb (first .given .0 .0) startLetter (if2 .left),
-    )
-    (c .before .before .timed2 .ensures)
+    rw (by-first (c .before .before .before .before .before .before .before .before) (first .given .1), ne-eqb (first .given .0 .0) startLetter (c .before .before .before .before .if2 .left)) (c .before .before .timed2 .ensures)
 
 pub read-spec : {M : Type 1} → statement M
 read-spec =

@@ -1,6 +1,9 @@
 -- What is read decides: each way of reading is a law of `Turns`, and the value that was read stands at the front of the buffer.
+use Prim.Native.Nat.{_≤_}
 use lib.ListN.{length-take}
 use native.Mathlib.Omega.{arith}
+use Rattle.machine.specs.Sizes.{valueMax}
+use Rattle.lines.specs.Fields.{valueRoom}
 use Rattle.rehearsal.proofs.Turns.{not-taken, said-unreadable, said-start, write-size, said-write, command-size, said-command}
 use borrow.Author.Needs.{needs}
 use Rattle.rehearsal.proofs.act.Statement.{statement}
@@ -24,29 +27,18 @@ start-requires c κs = search needs
 enum-known-read-2 : tie.Need-enum-known-read-2
 enum-known-read-2 c = search needs
 
+-- the value of a register write is short, and there is room for that of any line
+write-fits : (c : tie.After-known-told2) → let length = c .before .read3 .given .0 .1 .1 .0 in (length ≤ valueMax) × (length ≤ valueRoom)
+write-fits c = write-size (c .before .before .before .before .before .before .before .before .before .before .before .args .line .now) _ (c .before .before .before .before .before .read .ensures .line) _ _ _ (c .before .read3 .given .1) .1
+
 slice-reshare-prefix-write : tie.Need-slice-reshare-prefix-write
-slice-reshare-prefix-write c =
-    let read3 = c .before .before .before .read3 in
-    let read = c .before .before .before .before .before .before .before .read in
-    let args = c .before .before .before .before .before .before .before .before .before .before .before .before .before .args in
-    let g = write-size (args .line .now) _ (read .ensures .line) _ _ _ (read3 .given .1) .1 .1 in
-    omega (arith, g)
+slice-reshare-prefix-write c = omega (arith, write-fits (c .before .before) .1)
 
 slice-aggregate-write : tie.Need-slice-aggregate-write
-slice-aggregate-write c =
-    let read3 = c .before .before .before .before .read3 in
-    let read = c .before .before .before .before .before .before .before .before .read in
-    let args = c .before .before .before .before .before .before .before .before .before .before .before .before .before .before .args in
-    let g = write-size (args .line .now) _ (read .ensures .line) _ _ _ (read3 .given .1) .1 .1 in
-    simp length-take (omega (arith, g))
+slice-aggregate-write c = simp length-take (omega (arith, write-fits (c .before .before .before) .1))
 
 write-requires : tie.Need-write-requires
-write-requires c κs =
-    let read3 = c .before .before .before .before .read3 in
-    let read = c .before .before .before .before .before .before .before .before .read in
-    let args = c .before .before .before .before .before .before .before .before .before .before .before .before .before .before .args in
-    let g = write-size (args .line .now) _ (read .ensures .line) _ _ _ (read3 .given .1) .1 .0 in
-    (search needs, simp length-take (omega (arith, g)))
+write-requires c κs = (search needs, simp length-take (omega (arith, write-fits (c .before .before .before) .0)))
 
 enum-known-read-3 : tie.Need-enum-known-read-3
 enum-known-read-3 c = search needs
@@ -54,21 +46,14 @@ enum-known-read-3 c = search needs
 command-of-requires : tie.Need-command-of-requires
 command-of-requires c κs = search needs
 
+command-fits : (c : tie.After-known-told3) → c .before .read4 .given .0 .1 .1 .1 .1 .1 .1 .0 ≤ valueRoom
+command-fits c = command-size (c .before .before .before .before .before .before .before .before .before .before .before .args .line .now) _ (c .before .before .before .before .before .read .ensures .line) _ _ _ _ _ _ _ (c .before .read4 .given .1) .1
+
 slice-reshare-prefix-command : tie.Need-slice-reshare-prefix-command
-slice-reshare-prefix-command c =
-    let read4 = c .before .before .before .before .read4 in
-    let read = c .before .before .before .before .before .before .before .before .read in
-    let args = c .before .before .before .before .before .before .before .before .before .before .before .before .before .before .args in
-    let g = command-size (args .line .now) _ (read .ensures .line) _ _ _ _ _ _ _ (read4 .given .1) .1 in
-    omega (arith, g)
+slice-reshare-prefix-command c = omega (arith, command-fits (c .before .before .before))
 
 slice-aggregate-command : tie.Need-slice-aggregate-command
-slice-aggregate-command c =
-    let read4 = c .before .before .before .before .before .read4 in
-    let read = c .before .before .before .before .before .before .before .before .before .read in
-    let args = c .before .before .before .before .before .before .before .before .before .before .before .before .before .before .before .args in
-    let g = command-size (args .line .now) _ (read .ensures .line) _ _ _ _ _ _ _ (read4 .given .1) .1 in
-    simp length-take (omega (arith, g))
+slice-aggregate-command c = simp length-take (omega (arith, command-fits (c .before .before .before .before)))
 
 command-requires : tie.Need-command-requires
 command-requires c κs = search needs

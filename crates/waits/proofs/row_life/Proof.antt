@@ -8,7 +8,7 @@ use Rattle.machine.specs.Effects.{lifeEnd}
 use Rattle.machine.specs.declared.Session.{Session}
 use Rattle.layout.specs.Holds.{Holds}
 use Rattle.layout.specs.declared.Found.{Found}
-use Rattle.layout.proofs.Held.{row-fits}
+use Rattle.layout.proofs.Held.{row-stands}
 use Rattle.waits.specs.Waits.{rowEnd}
 use Rattle.waits.proofs.Waits.{endBy, end-by, row-end-free, row-end-other, row-end-on}
 use borrow.Author.Needs.{needs}
@@ -20,7 +20,7 @@ session-requires c κs = search needs
 
 returns : tie.Need-returns
 returns c = λ σ h. let a = c .before .before .before .args in
-    sym (row-end-free σ (a .k) (rowAt σ (a .i)) (row-fits h (a .i) (omega arith)) (sym (c .before .session .ensures σ h) ∙ c .if1 .taken))
+    sym (row-end-free σ (a .k) (rowAt σ (a .i)) (row-stands h (a .i) (omega arith) .fits) (sym (c .before .session .ensures σ h) ∙ c .if1 .taken))
 
 key-requires : tie.Need-key-requires
 key-requires c κs = search needs

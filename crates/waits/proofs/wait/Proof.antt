@@ -1,7 +1,7 @@
 -- An I lease decides, and where there is none the rows.
 use mathlib.Core.Path.{sym, _∙_}
 use native.Mathlib.Omega.{arith}
-use Rattle.layout.proofs.Held.{key-fits}
+use Rattle.layout.proofs.Held.{key-stands}
 use Rattle.waits.proofs.Waits.{wait-lease, wait-rows}
 use borrow.Author.Needs.{needs}
 use Rattle.waits.proofs.wait.Statement.{statement}
@@ -34,7 +34,7 @@ returns-2 c = let latest = c .before .before .latest in
     let if1 = c .before .before .before .if1 in
     let lease-token = c .before .before .before .before .lease-token in
     let args = c .before .before .before .before .before .before .args in
-    λ σ h. sym (wait-rows σ (args .k) (args .time) (key-fits h (args .k) (omega arith) .lease) (sym (lease-token .ensures σ h) ∙ if1 .left) ∙ rw (← latest .ensures σ h, c .enum-told .given .1))
+    λ σ h. sym (wait-rows σ (args .k) (args .time) (key-stands h (args .k) (omega arith) .fits .lease) (sym (lease-token .ensures σ h) ∙ if1 .left) ∙ rw (← latest .ensures σ h, c .enum-told .given .1))
 
 less-now-requires-2 : tie.Need-less-now-requires-2
 less-now-requires-2 c κs = search needs
@@ -45,7 +45,7 @@ returns-3 c = let life = c .before .before .life in
     let if1 = c .before .before .before .before .before .if1 in
     let lease-token = c .before .before .before .before .before .before .lease-token in
     let args = c .before .before .before .before .before .before .before .before .args in
-    λ σ h. c .less-now2 .ensures ∙ sym (wait-rows σ (args .k) (args .time) (key-fits h (args .k) (omega arith) .lease) (sym (lease-token .ensures σ h) ∙ if1 .left) ∙ rw (← latest .ensures σ h, life .given .1))
+    λ σ h. c .less-now2 .ensures ∙ sym (wait-rows σ (args .k) (args .time) (key-stands h (args .k) (omega arith) .fits .lease) (sym (lease-token .ensures σ h) ∙ if1 .left) ∙ rw (← latest .ensures σ h, life .given .1))
 
 pub wait-spec : {M : Type 1} → statement M
 wait-spec =

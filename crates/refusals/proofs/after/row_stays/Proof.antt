@@ -2,7 +2,7 @@
 use mathlib.Core.Bool.{not}
 use Rattle.machine.specs.State.{rowAt}
 use mathlib.Core.Path.{sym, ap, _∙_}
-use Rattle.layout.proofs.Held.{row-fits}
+use Rattle.layout.proofs.Held.{row-stands}
 use Rattle.refusals.proofs.Leases.{stays-free, stays-other, stays-on}
 use borrow.Author.Needs.{needs}
 use Rattle.refusals.proofs.after.row_stays.Statement.{statement}
@@ -14,7 +14,7 @@ session-requires c κs = search needs
 returns : tie.Need-returns
 returns c =
     let a = c .before .before .before .args in
-    λ σ h. sym (stays-free (a .time) σ (a .k) (rowAt σ (a .i)) (row-fits h (a .i) (c .before .before .before .pre .1)) (sym (c .before .session .ensures σ h) ∙ c .if1 .taken))
+    λ σ h. sym (stays-free (a .time) σ (a .k) (rowAt σ (a .i)) (row-stands h (a .i) (c .before .before .before .pre .1) .fits) (sym (c .before .session .ensures σ h) ∙ c .if1 .taken))
 
 key-requires : tie.Need-key-requires
 key-requires c κs = search needs
