@@ -27,12 +27,7 @@ use Rattle.machine.proofs.Views
 module _ {A : Type 0} (l : List A) (i : ℕ) (a : A) (j : ℕ) (d b : A) (entry : d ≡ b → ⊥) where
   -- an entry after `set` stood there before, or was set
   pub was-set : getD (set l i a) j d ≡ b → (getD l j d ≡ b) ⊎ ((i ≡ j) × (a ≡ b))
-  was-set e = go (Views.after-set l i a j d)
-    where
-      go : Views.AfterSet l i a j d → (getD l j d ≡ b) ⊎ ((i ≡ j) × (a ≡ b))
-      go (Views.other p q) = inl (sym q ∙ e)
-      go (Views.here p q) = inr (p, sym q ∙ e)
-      go (Views.out p q r) = absurd (entry (sym q ∙ e))
+  was-set e = elim (Views.was-part (λ (x : A). x) l i a j d b entry e) [ inl p ↦ inl (p .1) | inr p ↦ inr p ]
 
   -- an entry before `set` still stands there, or is replaced
   pub still-set : getD l j d ≡ b → (getD (set l i a) j d ≡ b) ⊎ ((i ≡ j) × (getD (set l i a) j d ≡ a))
@@ -125,35 +120,19 @@ lapsed-was s now k l e = Views.unlapsed-was now (leaseOn s k) l (sym (ap (λ (x 
 
 -- a lease, once key k is filled
 pub filled-was : (s : State) (k : ℕ) (v : Value) (j : ℕ) (l : Lease) → getD (set (s .keys) k (record { value = some v; lease = none })) j blank .lease ≡ some l → leaseOn s j ≡ some l
-filled-was s k v j l e = go (Views.after-set (s .keys) k (record { value = some v; lease = none }) j blank)
-  where
-    go : Views.AfterSet (s .keys) k (record { value = some v; lease = none }) j blank → leaseOn s j ≡ some l
-    go (Views.other p q) = sym (ap (λ (x : Key). x .lease) q) ∙ e
-    go (Views.here p q) = Views.no-some l (sym (ap (λ (x : Key). x .lease) q) ∙ e)
-    go (Views.out p q r) = Views.no-some l (sym (ap (λ (x : Key). x .lease) q) ∙ e)
+filled-was s k v j l e = elim (Views.was-part (λ (x : Key). x .lease) (s .keys) k _ j blank (some l) (Views.no-some l) e) [ inl p ↦ p .1 | inr p ↦ Views.no-some l (p .1) ]
 
 -- a value, once key k is filled with v
 pub filled-value : (s : State) (k : ℕ) (v : Value) (j : ℕ) (u : Value) → getD (set (s .keys) k (record { value = some v; lease = none })) j blank .value ≡ some u → (cached s j ≡ some u) ⊎ ((k ≡ j) × (v ≡ u))
-filled-value s k v j u e = go (Views.after-set (s .keys) k (record { value = some v; lease = none }) j blank)
-  where
-    go : Views.AfterSet (s .keys) k (record { value = some v; lease = none }) j blank → (cached s j ≡ some u) ⊎ ((k ≡ j) × (v ≡ u))
-    go (Views.other p q) = inl (sym (ap (λ (x : Key). x .value) q) ∙ e)
-    go (Views.here p q) = inr (p, Views.some-eq v u (sym (ap (λ (x : Key). x .value) q) ∙ e))
-    go (Views.out p q r) = Views.no-some u (sym (ap (λ (x : Key). x .value) q) ∙ e)
+filled-value s k v j u e = elim (Views.was-part (λ (x : Key). x .value) (s .keys) k _ j blank (some u) (Views.no-some u) e) [ inl p ↦ inl (p .1) | inr p ↦ inr (p .0, Views.some-eq v u (p .1)) ]
 
 -- a lease, once x is granted on key k
 pub leased-was : (s : State) (k : ℕ) (x : Lease) (j : ℕ) (l : Lease) → getD (setLease (s .keys) k (some x)) j blank .lease ≡ some l → (leaseOn s j ≡ some l) ⊎ ((k ≡ j) × (x ≡ l))
-leased-was s k x j l e = elim (Views.lease-after (s .keys) k (some x) j) [
-  | inl p ↦ inl (sym (p .1) ∙ e)
-  | inr p ↦ elim (p .1) [ inl q ↦ inr (p .0, Views.some-eq x l (sym q ∙ e)) | inr q ↦ Views.no-some l (sym q ∙ e) ]
-]
+leased-was s k x j l e = elim (Views.lease-was (s .keys) k (some x) j l e) [ inl p ↦ inl (p .1) | inr p ↦ inr (p .0, Views.some-eq x l (p .1)) ]
 
 -- a lease, once that of key k is voided, is on another key
 pub voided-was : (s : State) (k j : ℕ) (l : Lease) → getD (setLease (s .keys) k none) j blank .lease ≡ some l → (k ≡ j → ⊥) × (leaseOn s j ≡ some l)
-voided-was s k j l e = elim (Views.lease-after (s .keys) k none j) [
-  | inl p ↦ (p .0, sym (p .1) ∙ e)
-  | inr p ↦ elim (p .1) [ inl q ↦ Views.no-some l (sym q ∙ e) | inr q ↦ Views.no-some l (sym q ∙ e) ]
-]
+voided-was s k j l e = elim (Views.lease-was (s .keys) k none j l e) [ inl p ↦ p | inr p ↦ Views.no-some l (p .1) ]
 
 -- a row, once one of session n on key k is granted
 abbrev pub GrantedWas : State → (n k kind i m j d : ℕ) → Staged → Type 0

@@ -98,25 +98,13 @@ module _ (s : State) (c : Command) where
 moves-leased : (s : State) (now n k : ℕ) → Moves s (Get n k) (leased s now k)
 unfolding leased
 moves-leased s now n k = record {
-  leases = grant n k refl refl (λ j l e. there j l e (Views.lease-after (s .keys) k (some new) j));
+  leases = grant n k refl refl (λ j l e. elim (Views.lease-was (s .keys) k (some new) j l e) [ inl x ↦ inl x | inr x ↦ inr (x .0, sym (ap (λ (y : Lease). y .token) (Views.some-eq new l (x .1)))) ]);
   places = λ i x e. inr (x, e, refl);
   grows = omega arith;
 }
   where
     new : Lease
     new = record { token = s .head .nextToken; until = now + s .head .readLife }
-
-    ks : List Key
-    ks = setLease (s .keys) k (some new)
-
-    there : (j : ℕ) (l : Lease) → getD ks j blank .lease ≡ some l
-        → ((k ≡ j → ⊥) × (getD ks j blank .lease ≡ leaseOn s j)) ⊎ ((k ≡ j) × ((getD ks j blank .lease ≡ some new) ⊎ (getD ks j blank .lease ≡ none)))
-        → ((k ≡ j → ⊥) × (leaseOn s j ≡ some l)) ⊎ ((k ≡ j) × (l .token ≡ s .head .nextToken))
-    there j l e (inl x) = inl (x .0, sym (x .1) ∙ e)
-    there j l e (inr x) = elim (x .1) [
-      | inl y ↦ inr (x .0, sym (ap (λ (z : Lease). z .token) (Views.some-eq new l (sym y ∙ e))))
-      | inr y ↦ Views.no-some l (sym y ∙ e)
-    ]
 
 moves-looked : (s : State) (now n k : ℕ) (o : Option Sight) → Moves s (Get n k) (looked s now n k o)
 unfolding looked missed
