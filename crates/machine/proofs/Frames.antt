@@ -79,7 +79,7 @@ module _ (w : World) (g : Good w) where
   frame-kept a quiet = record {
     keeps = λ k v p q. p;
     value = λ k v p. inr (p, λ q. q);
-    opens = λ i x p. inr (i, x, p, refl, λ q. q);
+    opens = λ i x p. inr (x, p, refl, λ q. q);
     grows = omega arith;
     unwritten = λ k l p u m. g .unwritten k l p u (rw quiet at m);
   }
@@ -92,7 +92,7 @@ module _ (w : World) (g : Good w) where
   frame-keys a ks quiet fv fl = record {
     keeps = λ k v p q. elim (fv k v p) [ inl h ↦ h | inr h ↦ absurd (h .1 q) ];
     value = λ k v p. elim (fv k v p) [ inl h ↦ inr (h, λ x. x) | inr h ↦ inl (h .0) ];
-    opens = λ i x p. inr (i, x, p, refl, λ q. q);
+    opens = λ i x p. inr (x, p, refl, λ q. q);
     grows = omega arith;
     unwritten = λ k l p u m. g .unwritten k l (fl k l p) u (rw quiet at m);
   }
@@ -106,7 +106,7 @@ module _ (w : World) (g : Good w) where
   frame-ends a ns ks quiet fv fl = record {
     keeps = λ k v p q. fv k v p .0;
     value = λ k v p. inr (fv k v p .0, written-unfreed ns (w .state .rows) (w .wrote) k (fv k v p .1));
-    opens = λ i x p. inr (i, x, OrderlyKept.was-session ns (w .state .sessions) i x p .0, refl, λ q. q);
+    opens = λ i x p. inr (x, OrderlyKept.was-session ns (w .state .sessions) i x p .0, refl, λ q. q);
     grows = omega arith;
     unwritten = λ k l p u m. g .unwritten k l (fl k l p) u (rw quiet at m);
   }
@@ -129,7 +129,7 @@ module _ (w : World) (g : Good w) where
   frame-done n rule = record {
     keeps = λ k v p q. keeps k v q (Views.settle-value (n ∷ []) toCache k v (s .rows) (s .keys) p);
     value = λ k v p. value k v (Views.settle-value (n ∷ []) toCache k v (s .rows) (s .keys) p);
-    opens = λ i x p. inr (i, x, OrderlyKept.was-session (n ∷ []) (s .sessions) i x p .0, refl, λ q. q);
+    opens = λ i x p. inr (x, OrderlyKept.was-session (n ∷ []) (s .sessions) i x p .0, refl, λ q. q);
     grows = omega arith;
     unwritten = λ k l p u m. g .unwritten k l (sym (Views.settle-lease (n ∷ []) toCache k (s .rows) (s .keys)) ∙ p) u m;
   }
@@ -197,7 +197,7 @@ module _ (w : World) (g : Good w) where
   frame-lease now k = record {
     keeps = λ j v p q. sym (Views.lease-value (s .keys) k (some new) j) ∙ p;
     value = λ j v p. inr (sym (Views.lease-value (s .keys) k (some new) j) ∙ p, λ q. q);
-    opens = λ i x p. inr (i, x, p, refl, λ q. q);
+    opens = λ i x p. inr (x, p, refl, λ q. q);
     grows = omega arith;
     unwritten = λ j l p u m. fill j l u m (OrderlyKept.leased-was s k new j l p);
   }
@@ -223,19 +223,10 @@ module _ (w : World) (g : Good w) where
   frame-begin now = record {
     keeps = λ k v p q. p;
     value = λ k v p. inr (p, λ q. q);
-    opens = λ i x p. elim (OrderlyKept.was-set (s .sessions) (place free (s .sessions)) (session new) i noSession (session x) (Views.no-session x) p) [
-      | inl y ↦ inr (i, x, y, refl, λ q. q)
-      | inr y ↦ inl (let e = y .1 in let q : s .head .nextSession ≡ x .number = cc in omega arith)
-    ];
+    opens = OrderlyKept.begun-stood (w .state) now;
     grows = omega arith;
     unwritten = g .unwritten;
   }
-    where
-      s : State
-      s = w .state
-
-      new : Session
-      new = opened (s .head .nextSession) (now + s .head .writeLife)
 
   -- QUAR granted: every row and value stays
   frame-granted : (n k kind : ℕ) → Frame w Answer.Granted (withKeys (withRows (w .state) (putAt freeRow (row n k kind nothing) (w .state .rows))) (setLease (w .state .keys) k none))
@@ -245,7 +236,7 @@ module _ (w : World) (g : Good w) where
       sym (Views.lease-value (s .keys) k none j) ∙ p,
       written-still (s .rows) (putAt freeRow (row n k kind nothing) (s .rows)) (w .wrote) j (λ i m d u e did. (u, OrderlyKept.still-put freeRow (s .rows) (row n k kind nothing) i noRow (row m j d u) refl refl e)),
     );
-    opens = λ i x p. inr (i, x, p, refl, λ q. q);
+    opens = λ i x p. inr (x, p, refl, λ q. q);
     grows = omega arith;
     unwritten = λ j l p u m. g .unwritten j l (OrderlyKept.voided-was s k j l p .1) u m;
   }
@@ -253,25 +244,12 @@ module _ (w : World) (g : Good w) where
       s : State
       s = w .state
 
-  -- a session put through f, which keeps its number and its seal, stands where it stood
-  session-stands : (n : ℕ) (f : Session → Session) → ((m : Session) → (f m .number ≡ m .number) × (m .life ≡ Life.Sealed → f m .life ≡ Life.Sealed)) → (i : ℕ) (x : Session) → sessionAt (withSession (w .state) n f) i ≡ session x
-      → (w .state .head .nextSession ≤ x .number) ⊎ ((j : ℕ) × (m : Session) × (sessionAt (w .state) j ≡ session m) × (m .number ≡ x .number) × (m .life ≡ Life.Sealed → x .life ≡ Life.Sealed))
-  session-stands n f same i x p =
-      let r = OrderlyKept.was-slot (w .state) n f i x p in
-      inr (
-        i,
-        r .0,
-        r .1,
-        elim (r .2) [ inl e ↦ sym (ap (λ (y : Session). y .number) e) | inr e ↦ sym (same (r .0) .0) ∙ sym (ap (λ (y : Session). y .number) (e .1)) ],
-        λ q. elim (r .2) [ inl e ↦ ap (λ (y : Session). y .life) e ∙ q | inr e ↦ ap (λ (y : Session). y .life) (e .1) ∙ same (r .0) .1 q ],
-      )
-
   -- STAGE, DELTA
   frame-staged : (n k : ℕ) (u : Staged) → Frame w (stagedAnswer u) (withStaged (withSession (w .state) n advanced) n k u)
   frame-staged n k u = record {
     keeps = λ j y p q. p;
     value = λ j y p. inr (p, written-still (w .state .rows) (withStaged (w .state) n k u .rows) (w .wrote) j (λ i m d v e did. OrderlyKept.still-staged (w .state) n k u i m j d v e));
-    opens = session-stands n advanced (λ m. (refl, λ q. q));
+    opens = OrderlyKept.slot-stood (w .state) n advanced (λ m. (refl, λ q. q));
     grows = omega arith;
     unwritten = λ j l p y m. g .unwritten j l p y (rw (staged-quiet u) at m);
   }
@@ -281,7 +259,7 @@ module _ (w : World) (g : Good w) where
   frame-seal n = record {
     keeps = λ k v p q. p;
     value = λ k v p. inr (p, λ q. q);
-    opens = session-stands n sealed (λ m. (refl, λ q. refl));
+    opens = OrderlyKept.slot-stood (w .state) n sealed (λ m. (refl, λ q. refl));
     grows = omega arith;
     unwritten = g .unwritten;
   }

@@ -23,7 +23,7 @@ use Rattle.machine.specs.declared.Life.{Life}
 use Rattle.machine.specs.declared.Session.{Session}
 use Rattle.machine.specs.declared.Answer.{Answer}
 use Rattle.machine.proofs.Views
-use Rattle.machine.proofs.OrderlyKept.{orderly-fresh}
+use Rattle.machine.proofs.OrderlyKept.{StoodAt, orderly-fresh}
 use Rattle.machine.proofs.Accepted.{found-live}
 
 -- a row on the key
@@ -52,8 +52,7 @@ pub record Frame (w : World) (a : Answer) (t : State) : Type 0 where
   -- a value is the register's, or was there, and then no writer's row on its key went
   pub value : (k : ℕ) (v : Value) → cached t k ≡ some v → (v ≡ w .register k) ⊎ ((cached (w .state) k ≡ some v) × (Written (w .state .rows) (w .wrote) k → Written (t .rows) (w .wrote) k))
   -- a session has a new number, or was there, and stays sealed if it was
-  pub opens : (i : ℕ) (x : Session) → sessionAt t i ≡ session x
-      → (w .state .head .nextSession ≤ x .number) ⊎ ((j : ℕ) × (m : Session) × (sessionAt (w .state) j ≡ session m) × (m .number ≡ x .number) × (m .life ≡ Life.Sealed → x .life ≡ Life.Sealed))
+  pub opens : (i : ℕ) (x : Session) → sessionAt t i ≡ session x → StoodAt (w .state) i x
   pub grows : w .state .head .nextSession ≤ t .head .nextSession
   -- what a token may fill is the register's value
   pub unwritten : (k : ℕ) (l : Lease) → leaseOn t k ≡ some l → (u : Value) → List·Memᴰ u (sinceGrant (w .register) (w .since) a (l .token) k) → u ≡ w .register k
@@ -67,7 +66,7 @@ reframed w g a t began h f older = record {
   older = older;
   unwritten = f .unwritten;
   writers = λ n e. let x = g .writers n e in let more = f .grows in
-      (omega (arith, x .0), λ i m p num. elim (f .opens i m p) [ inl y ↦ absurd (omega (arith, x .0)) | inr y ↦ y .4 (x .1 (y .0) (y .1) (y .2) (y .3 ∙ num)) ]);
+      (omega (arith, x .0), λ i m p num. elim (f .opens i m p) [ inl y ↦ absurd (omega (arith, x .0)) | inr y ↦ y .3 (x .1 i (y .0) (y .1) (y .2 ∙ num)) ]);
 }
 
 pub row-on-quarantined : (rs : List Row) (k : ℕ) → RowOn rs k → any (on k) rs ≡ true
