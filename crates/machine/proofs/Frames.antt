@@ -87,7 +87,7 @@ module _ (w : World) (g : Good w) where
   -- values and leases change, nothing else: no lease is new, and no value but the register's, on a key with no row
   frame-keys : (a : Answer) (ks : List Key) → eqb (wordOf a) LEASE ≡ false
       → ((k : ℕ) (v : Value) → getD ks k blank .value ≡ some v → (cached (w .state) k ≡ some v) ⊎ ((v ≡ w .register k) × (RowOn (w .state .rows) k → ⊥)))
-      → ((k : ℕ) (l : Lease) → getD ks k blank .lease ≡ some l → leaseOn (w .state) k ≡ some l)
+      → OrderlyKept.LeasesFrom ks (w .state)
       → Frame w a (withKeys (w .state) ks)
   frame-keys a ks quiet fv fl = record {
     keeps = λ k v p q. elim (fv k v p) [ inl h ↦ h | inr h ↦ absurd (h .1 q) ];
@@ -100,7 +100,7 @@ module _ (w : World) (g : Good w) where
   -- sessions end, and no value or lease is new; a value stays only where no writer among them has a row
   frame-ends : (a : Answer) (ns : List ℕ) (ks : List Key) → eqb (wordOf a) LEASE ≡ false
       → ((k : ℕ) (v : Value) → getD ks k blank .value ≡ some v → (cached (w .state) k ≡ some v) × ((i n d : ℕ) (u : Staged) → rowAt (w .state) i ≡ row n k d u → w .wrote n ≡ true → mem n ns ≡ false))
-      → ((k : ℕ) (l : Lease) → getD ks k blank .lease ≡ some l → leaseOn (w .state) k ≡ some l)
+      → OrderlyKept.LeasesFrom ks (w .state)
       → Frame w a (leave ns (withKeys (w .state) ks))
   unfolding leave
   frame-ends a ns ks quiet fv fl = record {

@@ -11,6 +11,7 @@ use lib.ListN.{length, length-replicate}
 use borrow.Author.Tests.{eqb-true, eqb-false, leb-false, ltb-false, not-false}
 use Rattle.lent.specs.Bytes.{Bytes}
 use Rattle.lent.proofs.Choices.{if-ind, or-no}
+use Rattle.lent.proofs.Runs.{run-keeps}
 use Rattle.machine.specs.Sizes.{keyCount, sessionCount, rowCount, valueMax, stepMax, lifeMax, timeMax, numberMax}
 use Rattle.machine.specs.Tables.{first, isNone}
 use Rattle.machine.specs.Words.{isKind, isOperation, INVALIDATE, INCREMENTAL, REFRESH}
@@ -184,8 +185,7 @@ next-sound w (command now c v) b h = step-sound (w .state) now c v b h
 next-sound w (write n k v) b h = h
 
 run-sound : (w : World) (es : List Event) → AllBytes es → sound (w .state) ≡ true → sound (run w es .state) ≡ true
-run-sound w [] b h = h
-run-sound w (e ∷ es) b h = run-sound (next w e) es (b .1) (next-sound w e (b .0) h)
+run-sound = run-keeps next run (λ w. refl) (λ w e es. refl) (λ w. AllBytes) (λ (w : World). sound (w .state) ≡ true) (λ w e es b h. (next-sound w e (b .0) h, b .1))
 
 -- each state that a run from START reaches
 pub reached-sound : (readLife writeLife : ℕ) (es : List Event) → lifetime readLife ≡ true → lifetime writeLife ≡ true → AllBytes es → sound (run (freshWorld readLife writeLife) es .state) ≡ true

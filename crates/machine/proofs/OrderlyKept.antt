@@ -126,6 +126,10 @@ module _ (ns : List ℕ) where
 
 -- Values, leases and rows that are left
 
+-- each lease of the keys ks is on its key in s
+abbrev pub LeasesFrom : List Key → State → Type 0
+LeasesFrom ks s = (k : ℕ) (l : Lease) → getD ks k blank .lease ≡ some l → leaseOn s k ≡ some l
+
 -- a lease that has not lapsed, and ends after now
 pub lapsed-was : (s : State) (now k : ℕ) (l : Lease) → getD (map (lapsedLease now) (s .keys)) k blank .lease ≡ some l → (leaseOn s k ≡ some l) × (now < l .until)
 lapsed-was s now k l e = Views.unlapsed-was now (leaseOn s k) l (sym (ap (λ (x : Key). x .lease) (List·getD-map (lapsedLease now) (s .keys) k blank)) ∙ e)

@@ -11,7 +11,7 @@ use borrow.Author.Tests.{eqb-true, eq-eqb, not-false, not-true}
 use lib.Dec.{eqb}
 use lib.ListN.{getD}
 use Rattle.lent.specs.Tables.{if_then_else_, same, allZero}
-use Rattle.lent.proofs.Equal.{same-eq, eq-same}
+use Rattle.lent.proofs.Equal.{same-eq, eq-same, zero-and-rest}
 use Rattle.lent.proofs.Choices.{and-yes, case-of, clash, if-ind}
 use Rattle.machine.specs.Tables.{any}
 use Rattle.machine.specs.Words.{wordOf, STORED, DONE, UNDONE}
@@ -30,7 +30,7 @@ use Rattle.machine.specs.declared.Answer.{Answer}
 use Rattle.machine.specs.declared.Command.{Command}
 use Rattle.machine.specs.declared.Command.the-variants.{Begin, Get, Fill, Quar, Stage, Delta, Validate, Done, Undo, Evict, Tick}
 use Rattle.machine.proofs.Views
-use Rattle.machine.proofs.Accepted.{session-of, row-of, found-row}
+use Rattle.machine.proofs.Accepted.{sealed-session, row-of, found-row}
 use Rattle.machine.proofs.Shape.{orderly-next}
 
 any-mem : (v : Value) (l : List Value) → any (same v) l ≡ true → List·Memᴰ v l
@@ -122,8 +122,7 @@ sealed-live noSession e = clash false e refl
 sealed-live (session x) e = refl
 
 sealed-is : (s : State) (n : ℕ) → sealedIn s n ≡ true → Sealed s n
-sealed-is s n e = let x = session-of s n (sealed-live (sessionOf s n) e) in
-    record { place = sessionPlace s n; live = x .0; is = x .1; number = x .2; life = sealed-life (x .0 .life) (rw (x .1) at e) }
+sealed-is s n e = sealed-session s n (sealed-live (sessionOf s n) e) (λ x q. sealed-life (x .life) (rw q at e))
 
 -- numbers are unique, so the session found by its number is the sealed one
 is-sealed : (s : State) (n : ℕ) → Orderly s → Sealed s n → sealedIn s n ≡ true
@@ -181,9 +180,8 @@ kept-unbroken w (write n k v) h rule = rw (is-sealed (w .state) n h (rule .0), f
 -- Each run
 
 pub allKept-of : (w : World) (es : List Event) → allZero (verdicts w es) ≡ true → AllKept w es
-unfolding allZero
 allKept-of w [] e = tt
-allKept-of w (x ∷ es) e = (kept-of w x (eqb-true (broken w x) 0 (and-yes (eqb (broken w x) 0) (allZero (verdicts (next w x) es)) e .0)), allKept-of (next w x) es (and-yes (eqb (broken w x) 0) (allZero (verdicts (next w x) es)) e .1))
+allKept-of w (x ∷ es) e = let z = zero-and-rest (broken w x) (verdicts (next w x) es) e in (kept-of w x (z .0), allKept-of (next w x) es (z .1))
 
 pub allKept-unbroken : (w : World) (es : List Event) → Orderly (w .state) → AllKept w es → allZero (verdicts w es) ≡ true
 unfolding allZero

@@ -63,7 +63,7 @@ settle-length ns f (row m j d u ∷ rs) ks = go (mem m ns) (settle-length ns f r
 module _ (s : State) (now : ℕ) (h : WellFormed s now) where
   -- the keys change: each value fits, each lease was there
   well-keys : (ks : List Key) → length ks ≡ length (s .keys) → ((k : ℕ) (v : Value) → getD ks k blank .value ≡ some v → Fine v)
-      → ((k : ℕ) (l : Lease) → getD ks k blank .lease ≡ some l → leaseOn s k ≡ some l) → WellFormed (withKeys s ks) now
+      → OrderlyKept.LeasesFrom ks s → WellFormed (withKeys s ks) now
   well-keys ks n fv fl = record {
     orderly = OrderlyKept.orderly-keys s ks (λ k l p. inl (fl k l p)) (h .orderly);
     head = h .head;
