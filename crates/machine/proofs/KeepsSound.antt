@@ -184,9 +184,7 @@ unfolding commanded written
 next-sound w (command now c v) b h = step-sound (w .state) now c v b h
 next-sound w (write n k v) b h = h
 
-run-sound : (w : World) (es : List Event) → AllBytes es → sound (w .state) ≡ true → sound (run w es .state) ≡ true
-run-sound = run-keeps next run (λ w. refl) (λ w e es. refl) (λ w. AllBytes) (λ (w : World). sound (w .state) ≡ true) (λ w e es b h. (next-sound w e (b .0) h, b .1))
-
 -- each state that a run from START reaches
 pub reached-sound : (readLife writeLife : ℕ) (es : List Event) → lifetime readLife ≡ true → lifetime writeLife ≡ true → AllBytes es → sound (run (freshWorld readLife writeLife) es .state) ≡ true
-reached-sound readLife writeLife es r w b = run-sound (freshWorld readLife writeLife) es b (fresh-sound readLife writeLife r w)
+reached-sound readLife writeLife es r w b = run-keeps next run (λ w. refl) (λ w e es. refl) (λ w. AllBytes) (λ (w : World). sound (w .state) ≡ true) (λ w e es b h. (next-sound w e (b .0) h, b .1))
+    (freshWorld readLife writeLife) es b (fresh-sound readLife writeLife r w)

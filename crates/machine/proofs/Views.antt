@@ -246,12 +246,9 @@ value-lease l j o k = part-kept (λ (x : Key). x .lease) l j _ k blank refl
 pub lease-value : (l : List Key) (j : ℕ) (o : Option Lease) (k : ℕ) → getD (setLease l j o) k blank .value ≡ getD l k blank .value
 lease-value l j o k = part-kept (λ (x : Key). x .value) l j _ k blank refl
 
--- a value or a lease of a key after one was set: it was there, on another key, or was set
-pub value-was : (l : List Key) (j : ℕ) (o : Option Value) (k : ℕ) (v : Value) → getD (setValue l j o) k blank .value ≡ some v → ((j ≡ k → ⊥) × (getD l k blank .value ≡ some v)) ⊎ ((j ≡ k) × (o ≡ some v))
-value-was l j o k v = was-part (λ (x : Key). x .value) l j _ k blank (some v) (no-some v)
-
-pub lease-was : (l : List Key) (j : ℕ) (o : Option Lease) (k : ℕ) (x : Lease) → getD (setLease l j o) k blank .lease ≡ some x → ((j ≡ k → ⊥) × (getD l k blank .lease ≡ some x)) ⊎ ((j ≡ k) × (o ≡ some x))
-lease-was l j o k x = was-part (λ (y : Key). y .lease) l j _ k blank (some x) (no-some x)
+-- the value or the lease of a key after one was set: it was there, on another key, or was set
+pub key-was : {B : Type 0} (part : Key → Option B) → part blank ≡ none → (l : List Key) (j : ℕ) (x : Key) (k : ℕ) (b : B) → part (getD (set l j x) k blank) ≡ some b → ((j ≡ k → ⊥) × (part (getD l k blank) ≡ some b)) ⊎ ((j ≡ k) × (part x ≡ some b))
+key-was part q l j x k b = was-part part l j x k blank (some b) (λ e. no-some b (sym q ∙ e))
 
 -- a value after the rows of the sessions ns have set theirs: the old one, and none of those rows is on the key; or one that such a row set
 abbrev pub Untouched : List ℕ → List Row → ℕ → Type 0
@@ -295,7 +292,7 @@ module _ (ns : List ℕ) (f : Staged → Option Value) (k : ℕ) (v : Value) whe
       -- it is, and the key is set by f
       set-here : mem m ns ≡ true → Result (setValue ks j (f u)) rs → Result ks (row m j d u ∷ rs)
       set-here q (inr s) = inr (set-by-cons (row m j d u) rs s)
-      set-here q (inl h) = elim (value-was ks j (f u) k v (h .0)) [
+      set-here q (inl h) = elim (key-was (λ (y : Key). y .value) refl ks j _ k v (h .0)) [
         | inl x ↦ inl (x .1, untouched-cons ns k (row m j d u) rs (λ n d′ u′ y. absurd (x .0 (cc))) (h .1))
         | inr x ↦ inr (record { place = 0; number = m; kind = d; what = u; is = ap (λ (y : ℕ). row m y d u) (x .0); among = q; gives = x .1 })
       ]

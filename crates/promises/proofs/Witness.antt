@@ -20,7 +20,7 @@ use Rattle.machine.proofs.Witness.{witness-kept}
 use Rattle.layout.specs.WellFormed.{wellFormed}
 use Rattle.startup.specs.Start.{Reply, startOf}
 use Rattle.startup.proofs.Started.{started-ready}
-use Rattle.startup.proofs.Sound.{ready-formed, ready-decodes}
+use Rattle.startup.proofs.Sound.{ready-formed, world-fresh}
 use Rattle.promises.specs.Bytes.{ByteWorld, worldOf, begunOn, nextBytes, runBytes, AllKeptBytes}
 use Rattle.promises.proofs.Follow.{next-formed, next-follows, demand-3-bytes}
 
@@ -56,15 +56,12 @@ values-test (write n k v ∷ es) e = (tt, values-test es e)
 witness-values : AllBytes events
 witness-values = values-test events refl
 
-begun-bytes : (b : List ℕ) (readLife writeLife : ℕ) → startOf b readLife writeLife .answer ≡ Answer.Ready → worldOf (begunOn (startOf b readLife writeLife .bytes)) ≡ freshWorld readLife writeLife
-begun-bytes b readLife writeLife ready = ap (λ (s : State). record { state = s; register = λ k. []; began = λ k. []; since = λ t k. []; wrote = λ n. false }) (ready-decodes b readLife writeLife ready)
-
 module _ (b : List ℕ) (size : length b ≡ stateSize) where
   pub witness-kept-bytes : AllKeptBytes (begunOn (startOf b exampleReadLife exampleWriteLife .bytes)) events
   witness-kept-bytes =
       let ready = witness-ready b size in
       kept-bytes (begunOn (startOf b exampleReadLife exampleWriteLife .bytes)) events witness-values (ready-formed b exampleReadLife exampleWriteLife ready)
-      (subst (λ (w : World). AllKept w events) (sym (begun-bytes b exampleReadLife exampleWriteLife ready)) witness-kept)
+      (subst (λ (w : World). AllKept w events) (sym (world-fresh b exampleReadLife exampleWriteLife ready)) witness-kept)
 
   -- at each moment of it
   pub witness-consistent-bytes : (i : ℕ) → Consistent (worldOf (runBytes (begunOn (startOf b exampleReadLife exampleWriteLife .bytes)) (take i events)))

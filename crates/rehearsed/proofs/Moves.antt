@@ -82,7 +82,7 @@ module _ (s : State) (c : Command) where
 moves-leased : (s : State) (now n k : ℕ) → Moves s (Get n k) (leased s now k)
 unfolding leased
 moves-leased s now n k = record {
-  leases = grant n k refl refl (λ j l e. elim (Views.lease-was (s .keys) k (some new) j l e) [ inl x ↦ inl x | inr x ↦ inr (x .0, sym (ap (λ (y : Lease). y .token) (Views.some-eq new l (x .1)))) ]);
+  leases = grant n k refl refl (λ j l e. elim (Views.key-was (λ (y : Key). y .lease) refl (s .keys) k _ j l e) [ inl x ↦ inl x | inr x ↦ inr (x .0, sym (ap (λ (y : Lease). y .token) (Views.some-eq new l (x .1)))) ]);
   places = λ i x e. inr (x, e, refl, λ q. q);
   grows = omega arith;
 }
@@ -123,7 +123,7 @@ moves-expired : (s : State) (now : ℕ) (c : Command) (r : Outcome) → Moves (e
 unfolding expire finish leave
 moves-expired s now c r m = record {
   leases = back (m .leases);
-  places = λ i x e. elim (m .places i x e) [ inl p ↦ inl p | inr p ↦ inr (p .0, expire-session now s i (p .0) (p .1), p .2) ];
+  places = λ i x e. elim (m .places i x e) [ inl p ↦ inl p | inr p ↦ inr (p .0, expire-session now s i (p .0) (p .1), p .2, p .3) ];
   grows = m .grows;
 }
   where

@@ -27,6 +27,7 @@ use Rattle.machine.proofs.Views.{no-some, some-eq}
 use Rattle.machine.proofs.Accepted.{passed}
 use Rattle.machine.proofs.KeepsSound.{expire-sound}
 use Rattle.machine.proofs.Refused.{accepted-word}
+use Rattle.machine.proofs.Sights.{sight-ind}
 use Rattle.machine.proofs.SoundFacts as facts
 use Rattle.layout.specs.Layout.{decode}
 use Rattle.layout.specs.WellFormed.{wellFormed}
@@ -42,29 +43,10 @@ pub record ValueInside (at n : ℕ) : Type 0 where
 
 -- ---- what is in sight
 
-module _ (s : State) (ok : sound s ≡ true) (k : ℕ) (l : k < keyCount) where
-  cached-inside : (o : Option Value) → cached s k ≡ o → (x : Sight) → cachedSight k o ≡ some x → ValueInside (x .at) (length (x .value))
-  cached-inside none q x e = no-some x e
-  cached-inside (some v) q x e =
-      let f : length v ≤ valueMax = facts.value-fine s ok k q .short in
-      rw (← some-eq (record { at = valueAt k; value = v }) x e) (record { inside = omega arith; short = f })
-
-  row-inside : (i : ℕ) (r : Row) → rowAt s i ≡ r → (x : Sight) → rowSight i k r (cached s k) ≡ some x → ValueInside (x .at) (length (x .value))
-  row-inside i noRow q x e = cached-inside (cached s k) refl x e
-  row-inside i (row n j d nothing) q x e = go (eqb d INVALIDATE) e
-    where
-      go : (t : Bool) → (if t then none else cachedSight k (cached s k)) ≡ some x → ValueInside (x .at) (length (x .value))
-      go true f = no-some x f
-      go false f = cached-inside (cached s k) refl x f
-  row-inside i (row n j d (staged v)) q x e =
-      let p : i < rowCount = facts.row-place s ok i q in
-      let f : length v ≤ valueMax = facts.row-staged s ok i q .1 .short in
-      rw (← some-eq (record { at = stagedAt i; value = v }) x e) (record { inside = omega arith; short = f })
-  row-inside i (row n j d DROP) q x e = no-some x e
-
-  sight-inside : (n : ℕ) (x : Sight) → sight s n k ≡ some x → ValueInside (x .at) (length (x .value))
-  unfolding sight
-  sight-inside n x e = row-inside (rowPlace s n k) (rowOf s n k) refl x e
+sight-inside : (s : State) → sound s ≡ true → (k : ℕ) → k < keyCount → (n : ℕ) (x : Sight) → sight s n k ≡ some x → ValueInside (x .at) (length (x .value))
+sight-inside s ok k l = sight-ind (λ (x : Sight). ValueInside (x .at) (length (x .value))) s k
+    (λ v q. record { inside = omega (arith, facts.value-fine s ok k q .short); short = facts.value-fine s ok k q .short })
+    (λ i n j d v q. record { inside = omega (arith, facts.row-place s ok i q, facts.row-staged s ok i q .1 .short); short = facts.row-staged s ok i q .1 .short })
 
 -- ---- a HIT
 

@@ -56,7 +56,7 @@ module _ (b : List ℕ) (readLife writeLife : ℕ) where
     pub ready-decodes : decode (startOf b readLife writeLife .bytes) ≡ fresh readLife writeLife
     ready-decodes = ap decode ready-bytes ∙ holds-is (holds-encoded (fresh readLife writeLife) (sound-fits (fresh readLife writeLife) fresh-is-sound))
 
-    world-fresh : worldOn (startOf b readLife writeLife .bytes) ≡ freshWorld readLife writeLife
+    pub world-fresh : worldOn (startOf b readLife writeLife .bytes) ≡ freshWorld readLife writeLife
     world-fresh = ap (λ (s : State). record { state = s; register = λ k. []; began = λ k. []; since = λ t k. []; wrote = λ n. false }) ready-decodes
 
     -- every run from these bytes stays sound
