@@ -188,7 +188,7 @@ module _ (w : World) (g : Good w) where
 
   frame-evict : (k : ℕ) → Frame w Answer.Evicted (withKeys (w .state) (setValue (w .state .keys) k none))
   frame-evict k = frame-keys Answer.Evicted (setValue (w .state .keys) k none) refl
-      (λ j u p. elim (Views.key-was (λ (x : Key). x .value) refl (w .state .keys) k _ j u p) [ inl e ↦ inl (e .1) | inr e ↦ Views.no-some u (e .1) ])
+      (λ j u p. inl (Views.unset-was (λ (x : Key). x .value) refl (w .state .keys) k _ refl j u p .1))
       (λ j h p. sym (Views.value-lease (w .state .keys) k none j) ∙ p)
 
   -- GET answered LEASE: the new token's record begins with the register's value

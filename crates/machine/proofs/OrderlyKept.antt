@@ -136,19 +136,19 @@ lapsed-was s now k l e = Views.unlapsed-was now (leaseOn s k) l (sym (ap (λ (x 
 
 -- a lease, once key k is filled
 pub filled-was : (s : State) (k : ℕ) (v : Value) (j : ℕ) (l : Lease) → getD (set (s .keys) k (record { value = some v; lease = none })) j blank .lease ≡ some l → leaseOn s j ≡ some l
-filled-was s k v j l e = elim (Views.key-was (λ (x : Key). x .lease) refl (s .keys) k _ j l e) [ inl p ↦ p .1 | inr p ↦ Views.no-some l (p .1) ]
+filled-was s k v j l e = Views.unset-was (λ (x : Key). x .lease) refl (s .keys) k _ refl j l e .1
 
 -- a value, once key k is filled with v
 pub filled-value : (s : State) (k : ℕ) (v : Value) (j : ℕ) (u : Value) → getD (set (s .keys) k (record { value = some v; lease = none })) j blank .value ≡ some u → (cached s j ≡ some u) ⊎ ((k ≡ j) × (v ≡ u))
-filled-value s k v j u e = elim (Views.key-was (λ (x : Key). x .value) refl (s .keys) k _ j u e) [ inl p ↦ inl (p .1) | inr p ↦ inr (p .0, Views.some-eq v u (p .1)) ]
+filled-value s k v = Views.set-was (λ (x : Key). x .value) refl (s .keys) k _ v refl
 
 -- a lease, once x is granted on key k
 pub leased-was : (s : State) (k : ℕ) (x : Lease) (j : ℕ) (l : Lease) → getD (setLease (s .keys) k (some x)) j blank .lease ≡ some l → (leaseOn s j ≡ some l) ⊎ ((k ≡ j) × (x ≡ l))
-leased-was s k x j l e = elim (Views.key-was (λ (y : Key). y .lease) refl (s .keys) k _ j l e) [ inl p ↦ inl (p .1) | inr p ↦ inr (p .0, Views.some-eq x l (p .1)) ]
+leased-was s k x = Views.set-was (λ (y : Key). y .lease) refl (s .keys) k _ x refl
 
 -- a lease, once that of key k is voided, is on another key
 pub voided-was : (s : State) (k j : ℕ) (l : Lease) → getD (setLease (s .keys) k none) j blank .lease ≡ some l → (k ≡ j → ⊥) × (leaseOn s j ≡ some l)
-voided-was s k j l e = elim (Views.key-was (λ (y : Key). y .lease) refl (s .keys) k _ j l e) [ inl p ↦ p | inr p ↦ Views.no-some l (p .1) ]
+voided-was s k = Views.unset-was (λ (x : Key). x .lease) refl (s .keys) k _ refl
 
 -- a row, once one of session n on key k is granted
 abbrev pub GrantedWas : State → (n k kind i m j d : ℕ) → Staged → Type 0

@@ -250,6 +250,14 @@ lease-value l j o k = part-kept (λ (x : Key). x .value) l j _ k blank refl
 pub key-was : {B : Type 0} (part : Key → Option B) → part blank ≡ none → (l : List Key) (j : ℕ) (x : Key) (k : ℕ) (b : B) → part (getD (set l j x) k blank) ≡ some b → ((j ≡ k → ⊥) × (part (getD l k blank) ≡ some b)) ⊎ ((j ≡ k) × (part x ≡ some b))
 key-was part q l j x k b = was-part part l j x k blank (some b) (λ e. no-some b (sym q ∙ e))
 
+-- where y was set
+pub set-was : {B : Type 0} (part : Key → Option B) → part blank ≡ none → (l : List Key) (j : ℕ) (x : Key) (y : B) → part x ≡ some y → (k : ℕ) (b : B) → part (getD (set l j x) k blank) ≡ some b → (part (getD l k blank) ≡ some b) ⊎ ((j ≡ k) × (y ≡ b))
+set-was part q l j x y is k b e = elim (key-was part q l j x k b e) [ inl p ↦ inl (p .1) | inr p ↦ inr (p .0, some-eq y b (sym is ∙ p .1)) ]
+
+-- where none was
+pub unset-was : {B : Type 0} (part : Key → Option B) → part blank ≡ none → (l : List Key) (j : ℕ) (x : Key) → part x ≡ none → (k : ℕ) (b : B) → part (getD (set l j x) k blank) ≡ some b → (j ≡ k → ⊥) × (part (getD l k blank) ≡ some b)
+unset-was part q l j x is k b e = elim (key-was part q l j x k b e) [ inl p ↦ p | inr p ↦ no-some b (sym is ∙ p .1) ]
+
 -- a value after the rows of the sessions ns have set theirs: the old one, and none of those rows is on the key; or one that such a row set
 abbrev pub Untouched : List ℕ → List Row → ℕ → Type 0
 Untouched ns rs k = (i n d : ℕ) (u : Staged) → getD rs i noRow ≡ row n k d u → mem n ns ≡ false

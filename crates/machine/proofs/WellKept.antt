@@ -85,7 +85,7 @@ module _ (s : State) (now : ℕ) (h : WellFormed s now) where
 
   pub well-evict : (k : ℕ) → WellFormed (withKeys s (setValue (s .keys) k none)) now
   well-evict k = well-keys (setValue (s .keys) k none) (length-set (s .keys) k _)
-      (λ j u p. elim (Views.key-was (λ (x : Key). x .value) refl (s .keys) k _ j u p) [ inl e ↦ h .keys .values j (e .1) | inr e ↦ Views.no-some u (e .1) ])
+      (λ j u p. h .keys .values j (Views.unset-was (λ (x : Key). x .value) refl (s .keys) k _ refl j u p .1))
       (λ j l p. sym (Views.value-lease (s .keys) k none j) ∙ p)
 
   -- sessions end with their rows
