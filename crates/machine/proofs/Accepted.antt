@@ -85,6 +85,7 @@ session-of s n e = go (sessionOf s n) refl e
     go noSession p q = clash true refl q
     go (session x) p q = (x, refl, session-of-number s n x p)
 
+-- and sealed, where what is found is
 pub sealed-session : (s : State) (n : ℕ) → free (sessionOf s n) ≡ false → ((x : Session) → sessionOf s n ≡ session x → x .life ≡ Life.Sealed) → Sealed s n
 sealed-session s n e f = let x = session-of s n e in record { place = sessionPlace s n; live = x .0; is = x .1; number = x .2; life = f (x .0) (x .1) }
 

@@ -6,7 +6,7 @@ use mathlib.Core.Bool.{Bool, true, false, and-true}
 use mathlib.Core.Logic.{_⊎_, inl, inr}
 use mathlib.Core.List.{List, [], _∷_, map, List·Memᴰ, List·Memᴰ·eq-of-singleton}
 use mathlib.Core.Option.{Option, none, some}
-use Prim.Native.Nat.{ℕ, _+_, _≤_, _<_}
+use Prim.Native.Nat.{ℕ, _+_, _<_}
 use native.Mathlib.Omega.{arith}
 use borrow.Author.Tests.{eq-eqb, ne-eqb}
 use lib.Dec.{eqb, ltb}
@@ -14,15 +14,13 @@ use lib.ListN.{getD, set, List·getD-map}
 use Rattle.lent.proofs.Choices.{case-of, clash, if-ind}
 use Rattle.machine.specs.Tables.{place, mem, putAt, isNone}
 use Rattle.machine.specs.Words.{wordOf, LEASE, INVALIDATE}
-use Rattle.machine.specs.Session.{opened, advanced, sealed, isDue}
+use Rattle.machine.specs.Session.{advanced, sealed, isDue}
 use Rattle.machine.specs.Decision.{grants}
-use Rattle.machine.specs.State.{Value, Lease, Key, blank, noSession, session, Staged, nothing, staged, DROP, Row, noRow, row, State, free, freeRow, kindOf, stagedIn, sessionPlace, sessionOf, rowOf, cached, leaseOn, sessionAt, rowAt}
+use Rattle.machine.specs.State.{Value, Lease, Key, blank, Staged, nothing, staged, DROP, Row, noRow, row, State, free, freeRow, kindOf, stagedIn, sessionPlace, sessionOf, rowOf, cached, leaseOn, rowAt}
 use Rattle.machine.specs.Expiry.{withKeys, withRows, setValue, setLease, freeIfOf, settle, leave, finish, lapsedValue, lapsedLease, those, expire}
 use Rattle.machine.specs.Refusals.{decide, blocked, Sight, sight, sealedIn, countOf, refusals, refusal}
 use Rattle.machine.specs.Effects.{Outcome, begins, wait, leased, missed, looked, matches, fills, asks, changed, stagedAnswer, withSession, withStaged, stages, toCache, effect}
 use Rattle.machine.specs.World.{World, sinceGrant, Rules}
-use Rattle.machine.specs.declared.Life.{Life}
-use Rattle.machine.specs.declared.Session.{Session}
 use Rattle.machine.specs.declared.Answer.{Answer}
 use Rattle.machine.specs.declared.Command.{Command}
 use Rattle.machine.specs.declared.Command.the-variants.{Begin, Get, Fill, Quar, Stage, Delta, Validate, Done, Undo, Evict, Tick}

@@ -14,7 +14,7 @@ use lib.ListN.{getD, set, List·getD-map}
 use Rattle.lent.proofs.Choices.{clash, zero-one}
 use Rattle.machine.specs.Tables.{place, find, mem, putAt}
 use Rattle.machine.specs.Session.{opened, advanced, sealed, isDue}
-use Rattle.machine.specs.State.{Value, Lease, Key, blank, Slot, noSession, session, Staged, nothing, staged, Row, noRow, row, State, fresh, free, freeRow, numbered, ofOn, sessionOf, rowOf, cached, leaseOn, sessionAt, rowAt}
+use Rattle.machine.specs.State.{Value, Lease, Key, blank, Slot, noSession, session, Staged, nothing, staged, Row, noRow, row, State, fresh, free, freeRow, numbered, ofOn, rowOf, cached, leaseOn, sessionAt, rowAt}
 use Rattle.machine.specs.Expiry.{withKeys, withSessions, withRows, withClock, setValue, setLease, freeIfOf, freeSession, settle, leave, finish, lapsedValue, lapsedLease, those, expire}
 use Rattle.machine.specs.Effects.{begins, leased, fills, onSlot, restaged, withSession, withStaged}
 use Rattle.machine.specs.WellFormed.{Orderly, Within}

@@ -1,7 +1,7 @@
 -- Demand 3 over bytes is not empty: on every buffer of 65,536 bytes START answers READY, and the run that the machine computes to keep the rules
 -- (`machine`, `Witness`) keeps them on the bytes, which follow the machine event by event.
 use mathlib.Core.Path.{_≡_, refl, sym, ap, subst}
-use mathlib.Core.Bool.{Bool, true, false, _&&_}
+use mathlib.Core.Bool.{Bool, true, _&&_}
 use mathlib.Core.List.{List, [], _∷_}
 use Prim.Native.Nat.{ℕ, zero, suc}
 use native.Mathlib.Omega.{arith}
@@ -11,8 +11,8 @@ use lib.ListN.{length, take, drop, take-append-drop}
 use Rattle.lent.specs.Bytes.{Bytes}
 use Rattle.lent.proofs.Choices.{and-yes}
 use Rattle.machine.specs.Sizes.{stateSize}
-use Rattle.machine.specs.State.{Value, State}
-use Rattle.machine.specs.World.{Event, command, write, World, freshWorld, AllKept, Consistent, AllBytes}
+use Rattle.machine.specs.State.{Value}
+use Rattle.machine.specs.World.{Event, command, write, World, AllKept, Consistent, AllBytes}
 use Rattle.machine.specs.Examples.{exampleReadLife, exampleWriteLife}
 use Rattle.machine.specs.Witness.{events}
 use Rattle.machine.specs.declared.Answer.{Answer}

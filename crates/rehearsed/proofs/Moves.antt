@@ -8,14 +8,14 @@ use mathlib.Core.Option.{Option, none, some}
 use Prim.Native.Nat.{ℕ, _+_, _≤_}
 use native.Mathlib.Omega.{arith}
 use lib.Dec.{eqb, ltb}
-use lib.ListN.{getD, set}
+use lib.ListN.{set}
 use Rattle.lent.proofs.Choices.{if-ind}
-use Rattle.machine.specs.Tables.{place, isNone}
+use Rattle.machine.specs.Tables.{isNone}
 use Rattle.machine.specs.Words.{wordOf, LEASE}
-use Rattle.machine.specs.Session.{opened, advanced, sealed, isDue}
+use Rattle.machine.specs.Session.{advanced, sealed, isDue}
 use Rattle.machine.specs.Decision.{grants}
-use Rattle.machine.specs.State.{Value, Lease, Key, blank, noSession, session, Staged, staged, State, free, freeRow, kindOf, stagedIn, rowOf, cached, leaseOn, sessionAt}
-use Rattle.machine.specs.Expiry.{withKeys, withClock, setValue, setLease, settle, leave, finish, those, expire}
+use Rattle.machine.specs.State.{Value, Lease, Key, session, Staged, staged, State, freeRow, kindOf, stagedIn, rowOf, cached, leaseOn, sessionAt}
+use Rattle.machine.specs.Expiry.{withKeys, withClock, setValue, settle, leave, finish, those, expire}
 use Rattle.machine.specs.Refusals.{decide, blocked, Sight, sight, countOf, refusal}
 use Rattle.machine.specs.Effects.{Outcome, told, begins, wait, leased, missed, looked, matches, fills, asks, changed, stagedAnswer, withSession, withStaged, stages, toCache, effect}
 use Rattle.machine.specs.Step.{settled, step}

@@ -8,11 +8,11 @@ use mathlib.Core.List.{List, [], _∷_, List·Memᴰ, List·Memᴰ·head, List·
 use mathlib.Core.Option.{Option, none, some}
 use Prim.Native.Nat.{ℕ, _≤_}
 use native.Mathlib.Omega.{arith}
-use borrow.Author.Tests.{eqb-true, eq-eqb, ne-eqb}
+use borrow.Author.Tests.{eq-eqb, ne-eqb}
 use lib.Dec.{eqb}
 use lib.ListN.{length}
 use Rattle.lent.specs.Tables.{if_then_else_, same, allZero}
-use Rattle.lent.proofs.Choices.{and-yes, clash, if-ind}
+use Rattle.lent.proofs.Choices.{clash, if-ind}
 use Rattle.lent.proofs.Equal.{zero-and-rest}
 use Rattle.lent.proofs.Runs.{run-keeps}
 use Rattle.machine.specs.Tables.{any}

@@ -6,24 +6,21 @@ use mathlib.Core.Bool.{Bool, true, false}
 use mathlib.Core.List.{List}
 use mathlib.Core.Option.{Option, none, some}
 use native.Mathlib.Omega.{arith}
-use lib.Dec.{eqb}
 use lib.ListN.{length}
 use borrow.Author.Tests.{leb-false}
-use Rattle.lent.specs.Tables.{if_then_else_}
 use Rattle.lent.proofs.Choices.{clash, if-ind}
-use Rattle.machine.specs.Sizes.{stateSize, keyCount, rowCount, valueMax, valueAt, stagedAt}
+use Rattle.machine.specs.Sizes.{stateSize, keyCount, valueMax}
 use Rattle.machine.specs.Tables.{first, mem}
-use Rattle.machine.specs.Words.{wordOf, detailOf, HIT, wordsOf, INVALIDATE}
-use Rattle.machine.specs.State.{Value, nothing, staged, DROP, Row, noRow, row, State, freeRow, rowPlace, rowOf, rowAt, cached}
+use Rattle.machine.specs.Words.{wordOf, detailOf, HIT, wordsOf}
+use Rattle.machine.specs.State.{Value, State, freeRow, rowOf}
 use Rattle.machine.specs.Sound.{sound}
 use Rattle.machine.specs.Expiry.{expire}
-use Rattle.machine.specs.Refusals.{Sight, cachedSight, rowSight, sight, blocked, refusals, refusal, startRefusals}
+use Rattle.machine.specs.Refusals.{Sight, sight, blocked, refusals, refusal, startRefusals}
 use Rattle.machine.specs.Effects.{Outcome, leased, missed, looked, effect}
 use Rattle.machine.specs.Step.{settled, step, started, start}
 use Rattle.machine.specs.declared.Answer.{Answer}
 use Rattle.machine.specs.declared.Command.{Command}
 use Rattle.machine.specs.declared.Command.the-variants.{Begin, Get, Fill, Quar, Stage, Delta, Validate, Done, Undo, Evict, Tick}
-use Rattle.machine.proofs.Views.{no-some, some-eq}
 use Rattle.machine.proofs.Accepted.{passed}
 use Rattle.machine.proofs.KeepsSound.{expire-sound}
 use Rattle.machine.proofs.Refused.{accepted-word}

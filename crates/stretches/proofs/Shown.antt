@@ -1,6 +1,6 @@
 -- What SHOW comes to, case by case, and that the value which is seen stands at its place in the bytes: a cached value in its key's record, a
 -- staged one in its row's.
-use mathlib.Core.Path.{_≡_, refl, ap, _∙_, subst}
+use mathlib.Core.Path.{_≡_, refl, ap, _∙_}
 use mathlib.Core.Bool.{Bool, true, false, not, _&&_}
 use mathlib.Core.List.{List, []}
 use mathlib.Core.Option.{Option, none, some}
@@ -9,16 +9,14 @@ use lib.Dec.{eqb, leb}
 use lib.ListN.{length}
 use borrow.Author.Tests.{le-leb, lt-leb, leb-true, leb-false}
 use Rattle.lent.specs.Bytes.{win}
-use Rattle.lent.specs.Tables.{if_then_else_}
 use Rattle.lent.proofs.Choices.{zero-one}
 use Rattle.lent.proofs.Splice.{win-none}
-use Rattle.machine.specs.Sizes.{keyCount, valueAt, stagedAt}
-use Rattle.machine.specs.State.{Value, nothing, staged, DROP, Row, noRow, row, State, stagedIn, rowPlace, rowOf, rowAt, cached}
-use Rattle.machine.specs.Refusals.{Sight as Seen, cachedSight, rowSight, sight, notLive}
+use Rattle.machine.specs.Sizes.{keyCount}
+use Rattle.machine.specs.State.{Value, staged, State, stagedIn}
+use Rattle.machine.specs.Refusals.{Sight as Seen, sight, notLive}
 use Rattle.machine.specs.Step.{Shown, seen, show}
-use Rattle.machine.specs.Words.{ARG, NO-SESSION, INVALIDATE}
+use Rattle.machine.specs.Words.{ARG, NO-SESSION}
 use Rattle.machine.specs.declared.Answer.{Answer}
-use Rattle.machine.proofs.Views.{no-some, some-eq}
 use Rattle.machine.proofs.Sights.{sight-ind}
 use Rattle.machine.proofs.SoundMeans.{row-inside}
 use Rattle.layout.specs.Holds.{Holds}
