@@ -93,6 +93,10 @@ sealed-session s n e f = let x = session-of s n e in record { place = sessionPla
 pub found-live : (s : State) (n i : ℕ) (x : Session) → sessionAt s i ≡ session x → x .number ≡ n → notLive s n ≡ false
 found-live s n i x e num = Views.numbered-live n (sessionOf s n) (Views.find-passes (numbered n) noSession (s .sessions) i refl (rw e (eq-eqb (x .number) n num)))
 
+-- and is the one there is, where numbers are unique
+pub found-session : (s : State) → Orderly s → (n i : ℕ) (x : Session) → sessionAt s i ≡ session x → x .number ≡ n → sessionOf s n ≡ session x
+found-session s h n i x e num = let y = session-of s n (found-live s n i x e num) in ap (sessionAt s) (h .unique (sessionPlace s n) i (y .0) x (y .1) e (y .2 ∙ sym num)) ∙ e
+
 -- the row of session n on key k
 pub row-of : (s : State) (n k : ℕ) → freeRow (rowOf s n k) ≡ false → (i : ℕ) × (v : Staged) × (rowAt s i ≡ row n k (kindOf (rowOf s n k)) v)
 row-of s n k e = let r = go (rowOf s n k) (Views.find-test (ofOn n k) noRow (s .rows)) e in (rowPlace s n k, r .0, r .1)

@@ -2,7 +2,7 @@
 -- a quarantined key it is what the register held when the quarantine began; and what a token may fill is the register's
 -- value, since a leased key has no row and so is not written.
 -- Here: the invariant, the frame that a command's effect has to prove, that the frame gives the invariant, START, and a register write.
-use mathlib.Core.Path.{_≡_, refl, sym, ap, _∙_}
+use mathlib.Core.Path.{_≡_, refl, ap, _∙_}
 use mathlib.Core.Bool.{Bool, true, false, not, _&&_, _||_, or-true}
 use mathlib.Core.Logic.{_⊎_, inl, inr}
 use mathlib.Core.List.{List, List·Memᴰ, _∷_}
@@ -24,7 +24,7 @@ use Rattle.machine.specs.declared.Session.{Session}
 use Rattle.machine.specs.declared.Answer.{Answer}
 use Rattle.machine.proofs.Views
 use Rattle.machine.proofs.OrderlyKept.{StoodAt, orderly-fresh}
-use Rattle.machine.proofs.Accepted.{found-live}
+use Rattle.machine.proofs.Accepted.{found-live, found-session}
 
 -- a row on the key
 pub record RowOn (rows : List Row) (k : ℕ) : Type 0 where
@@ -124,8 +124,8 @@ written-good w g n k v live holds = record {
     writers m e (inl q) = rw (eqb-true m n q) (
       rw (← (live .number)) (g .orderly .numbers (live .place) (live .live) (live .is)),
       λ i x p num.
-          let same : i ≡ live .place = g .orderly .unique i (live .place) x (live .live) p (live .is) (num ∙ sym (live .number)) in
-          let y : session x ≡ session (live .live) = sym p ∙ ap (sessionAt (w .state)) same ∙ live .is in
+          let a = found-session (w .state) (g .orderly) n i x p num in
+          let b = found-session (w .state) (g .orderly) n (live .place) (live .live) (live .is) (live .number) in
           let z : x ≡ live .live = cc in ap (λ (a : Session). a .life) z ∙ live .life,
     )
     writers m e (inr q) = g .writers m (rw q at e)

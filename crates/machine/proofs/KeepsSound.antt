@@ -80,9 +80,7 @@ module _ (s : State) (now : ℕ) (h : WellFormed s now) where
     where
       room : (j : ℕ) (x : Session) → sessionAt s j ≡ session x → x .number ≡ n → ltb i (countOf s n) ≡ false → x .count < stepMax
       room j x a b p =
-          let y = Accepted.session-of s n e in
-          let z : j ≡ sessionPlace s n = h .orderly .unique j (sessionPlace s n) x (y .0) a (y .1) (b ∙ sym (y .2)) in
-          let w : countOf s n ≡ x .count = ap countIn (sym (ap (sessionAt s) z) ∙ a) in
+          let w : countOf s n ≡ x .count = ap countIn (Accepted.found-session s (h .orderly) n j x a b) in
           let c = ltb-false i (countOf s n) p in omega arith
 
   staged-in : (r : Row) (i : ℕ) → rowAt s i ≡ r → kindOf r ≡ INCREMENTAL → StagedFits INCREMENTAL (stagedIn r)

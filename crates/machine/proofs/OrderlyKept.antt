@@ -48,7 +48,7 @@ still-put p l a j d b free taken e = elim (still-set l (place p l) a j d b (λ q
 
 -- an entry after the first that passes p was put through f: as it was, or f of one that passes
 was-changed : {A : Type 0} (p : A → Bool) (f : A → A) (l : List A) (i : ℕ) (d b : A) → f d ≡ d → (d ≡ b → ⊥) → getD (set l (place p l) (f (find p d l))) i d ≡ b → (getD l i d ≡ b) ⊎ ((p (getD l i d) ≡ true) × (f (getD l i d) ≡ b))
-was-changed {A} p f l i d b fixed entry e = elim (was-set l (place p l) (f (find p d l)) i d b entry e) [
+was-changed p f l i d b fixed entry e = elim (was-set l (place p l) (f (find p d l)) i d b entry e) [
   | inl q ↦ inl q
   | inr q ↦ elim (Views.find-test p d l) [
     | inl z ↦ absurd (entry (sym fixed ∙ sym (ap f z) ∙ q .1))
