@@ -68,6 +68,11 @@ pub if-ind {ℓ κ} : {A : Type ℓ} (P : A → Type κ) (t : Bool) {x y : A} �
 if-ind P true f g = f refl
 if-ind P false f g = g refl
 
+-- a choice that is not its first way is its second
+pub if-second : {A : Type 0} (t : Bool) {x y z : A} → (x ≡ z → ⊥) → (if t then x else y) ≡ z → (y ≡ z) × (t ≡ false)
+if-second true n e = absurd (n e)
+if-second false n e = (e, refl)
+
 pub if-same : {A : Type 0} (t : Bool) (x : A) → (if t then x else x) ≡ x
 if-same true x = refl
 if-same false x = refl

@@ -47,6 +47,10 @@ unfolding same allZero
 same-zeros [] n e = rw (← e)
 same-zeros (x ∷ l) n e = rw (← e, same-zeros l (length l) refl)
 
+pub zero-and-rest : (n : ℕ) (l : List ℕ) → allZero (n ∷ l) ≡ true → (n ≡ 0) × (allZero l ≡ true)
+unfolding allZero
+zero-and-rest n l e = let r = and-yes (eqb n 0) (allZero l) e in (eqb-true n 0 (r .0), r .1)
+
 -- ---- part by part
 
 -- x falls into a front as long as p, and the rest

@@ -1,6 +1,7 @@
 pub mod Choices
 pub mod Equal
 pub mod Numbers
+pub mod Runs
 pub mod Splice
 pub mod Stores
 pub mod Tables

@@ -15,11 +15,12 @@ use Rattle.machine.specs.Sizes.{numberMax}
 use Rattle.machine.specs.Tables.{place, find}
 use Rattle.machine.specs.Words.{isKind, INVALIDATE, INCREMENTAL}
 use Rattle.machine.specs.Decision.{decision, grants}
-use Rattle.machine.specs.State.{Value, Lease, Slot, noSession, session, Staged, Row, noRow, row, State, free, freeRow, numbered, on, ofOn, kindOf, sessionOf, rowPlace, rowOf, sessionAt, rowAt}
+use Rattle.machine.specs.State.{Value, Lease, Slot, noSession, session, Staged, Row, noRow, row, State, free, freeRow, numbered, on, ofOn, kindOf, sessionPlace, sessionOf, rowPlace, rowOf, sessionAt, rowAt}
 use Rattle.machine.specs.Refusals.{decide, blocked, sight, wouldLease, notLive, clockRefusal, refusals, refusal}
 use Rattle.machine.specs.Effects.{matches}
-use Rattle.machine.specs.World.{HasRow}
+use Rattle.machine.specs.World.{HasRow, Sealed}
 use Rattle.machine.specs.WellFormed.{Orderly, Within}
+use Rattle.machine.specs.declared.Life.{Life}
 use Rattle.machine.specs.declared.Session.{Session}
 use Rattle.machine.specs.declared.Command.{Command}
 use Rattle.machine.specs.declared.Command.the-variants.{Get}
@@ -84,9 +85,17 @@ session-of s n e = go (sessionOf s n) refl e
     go noSession p q = clash true refl q
     go (session x) p q = (x, refl, session-of-number s n x p)
 
+-- and sealed, where what is found is
+pub sealed-session : (s : State) (n : ℕ) → free (sessionOf s n) ≡ false → ((x : Session) → sessionOf s n ≡ session x → x .life ≡ Life.Sealed) → Sealed s n
+sealed-session s n e f = let x = session-of s n e in record { place = sessionPlace s n; live = x .0; is = x .1; number = x .2; life = f (x .0) (x .1) }
+
 -- and where there is one, it is found
 pub found-live : (s : State) (n i : ℕ) (x : Session) → sessionAt s i ≡ session x → x .number ≡ n → notLive s n ≡ false
 found-live s n i x e num = Views.numbered-live n (sessionOf s n) (Views.find-passes (numbered n) noSession (s .sessions) i refl (rw e (eq-eqb (x .number) n num)))
+
+-- and is the one there is, where numbers are unique
+pub found-session : (s : State) → Orderly s → (n i : ℕ) (x : Session) → sessionAt s i ≡ session x → x .number ≡ n → sessionOf s n ≡ session x
+found-session s h n i x e num = let y = session-of s n (found-live s n i x e num) in ap (sessionAt s) (h .unique (sessionPlace s n) i (y .0) x (y .1) e (y .2 ∙ sym num)) ∙ e
 
 -- the row of session n on key k
 pub row-of : (s : State) (n k : ℕ) → freeRow (rowOf s n k) ≡ false → (i : ℕ) × (v : Staged) × (rowAt s i ≡ row n k (kindOf (rowOf s n k)) v)

@@ -1,6 +1,6 @@
 -- A walk over pairs of indices passes exactly if each pair does, and one that asks for distinct numbers exactly if no two are the same.
 -- What holds of the free entry holds past a table's end, so what a walk over a table tests is had for every place.
-use mathlib.Core.Path.{_≡_, sym}
+use mathlib.Core.Path.{_≡_, sym, ap, _∙_}
 use mathlib.Core.Bool.{Bool, true, false, not}
 use mathlib.Core.Logic.{_⊎_, inl, inr}
 use mathlib.Core.List.{List}
@@ -60,14 +60,19 @@ pub distinct-alone : {A B : Type 0} (at : ℕ → A) (number : A → ℕ) (a : B
 distinct-alone at number a n d f i j x y p q t =
     distinct-same (λ i. number (at i)) n i j d (f i x p .0) (f j y q .0) (rw p (f i x p .1)) (cc)
 
--- a place that is not free is inside the table
+-- the other way round: where each record with a number is one of these, and no two at two places have the same, the numbers are distinct
+pub alone-distinct : {A B : Type 0} (at : ℕ → A) (number : A → ℕ) (a : B → A) (n : ℕ) → ((e : A) → 1 ≤ number e → (x : B) × (e ≡ a x)) → ((i j : ℕ) (x y : B) → at i ≡ a x → at j ≡ a y → number (a x) ≡ number (a y) → i ≡ j)
+    → distinct (λ i. number (at i)) n ≡ true
+alone-distinct at number a n named alone = same-distinct (λ i. number (at i)) n (λ i j h q. let x = named (at i) h in let y = named (at j) (omega arith) in alone i j (x .0) (y .0) (x .1) (y .1) (sym (ap number (x .1)) ∙ q ∙ ap number (y .1)))
+
+-- a place where something is unlike the free entry is inside the table
 module _ {A : Type 0} (l : List A) (d : A) where
-  pub place-inside : (i : ℕ) → (getD l i d ≡ d → ⊥) → i < length l
-  place-inside i f = go (case-of (ltb i (length l)))
+  pub place-inside : {B : Type 0} (part : A → B) (n i : ℕ) (b : B) → (part d ≡ b → ⊥) → length l ≡ n → part (getD l i d) ≡ b → i < n
+  place-inside part n i b f c q = go (case-of (ltb i n))
     where
-      go : (ltb i (length l) ≡ true) ⊎ (ltb i (length l) ≡ false) → i < length l
-      go (inl e) = ltb-true i (length l) e
-      go (inr e) = absurd (f (List·getD-eq-default l d (ltb-false i (length l) e)))
+      go : (ltb i n ≡ true) ⊎ (ltb i n ≡ false) → i < n
+      go (inl e) = ltb-true i n e
+      go (inr e) = let h = ltb-false i n e in absurd (f (sym (ap part (List·getD-eq-default l d {n = i} (omega arith))) ∙ q))
 
   -- a test that the free entry passes: at each place below the length, so at every place
   pub every-place : (p : A → Bool) (n : ℕ) → length l ≡ n → p d ≡ true → every (λ i. p (getD l i d)) n ≡ true → (i : ℕ) → p (getD l i d) ≡ true

@@ -6,7 +6,7 @@ use mathlib.Core.Bool.{Bool, true, false, and-true}
 use mathlib.Core.Logic.{_⊎_, inl, inr}
 use mathlib.Core.List.{List, [], _∷_, map, List·Memᴰ, List·Memᴰ·eq-of-singleton}
 use mathlib.Core.Option.{Option, none, some}
-use Prim.Native.Nat.{ℕ, _+_, _≤_, _<_}
+use Prim.Native.Nat.{ℕ, _+_, _<_}
 use native.Mathlib.Omega.{arith}
 use borrow.Author.Tests.{eq-eqb, ne-eqb}
 use lib.Dec.{eqb, ltb}
@@ -14,15 +14,13 @@ use lib.ListN.{getD, set, List·getD-map}
 use Rattle.lent.proofs.Choices.{case-of, clash, if-ind}
 use Rattle.machine.specs.Tables.{place, mem, putAt, isNone}
 use Rattle.machine.specs.Words.{wordOf, LEASE, INVALIDATE}
-use Rattle.machine.specs.Session.{opened, advanced, sealed, isDue}
+use Rattle.machine.specs.Session.{advanced, sealed, isDue}
 use Rattle.machine.specs.Decision.{grants}
-use Rattle.machine.specs.State.{Value, Lease, Key, blank, noSession, session, Staged, nothing, staged, DROP, Row, noRow, row, State, free, freeRow, kindOf, stagedIn, sessionPlace, sessionOf, rowOf, cached, leaseOn, sessionAt, rowAt}
+use Rattle.machine.specs.State.{Value, Lease, Key, blank, Staged, nothing, staged, DROP, Row, noRow, row, State, free, freeRow, kindOf, stagedIn, sessionPlace, sessionOf, rowOf, cached, leaseOn, rowAt}
 use Rattle.machine.specs.Expiry.{withKeys, withRows, setValue, setLease, freeIfOf, settle, leave, finish, lapsedValue, lapsedLease, those, expire}
 use Rattle.machine.specs.Refusals.{decide, blocked, Sight, sight, sealedIn, countOf, refusals, refusal}
 use Rattle.machine.specs.Effects.{Outcome, begins, wait, leased, missed, looked, matches, fills, asks, changed, stagedAnswer, withSession, withStaged, stages, toCache, effect}
 use Rattle.machine.specs.World.{World, sinceGrant, Rules}
-use Rattle.machine.specs.declared.Life.{Life}
-use Rattle.machine.specs.declared.Session.{Session}
 use Rattle.machine.specs.declared.Answer.{Answer}
 use Rattle.machine.specs.declared.Command.{Command}
 use Rattle.machine.specs.declared.Command.the-variants.{Begin, Get, Fill, Quar, Stage, Delta, Validate, Done, Undo, Evict, Tick}
@@ -79,7 +77,7 @@ module _ (w : World) (g : Good w) where
   frame-kept a quiet = record {
     keeps = λ k v p q. p;
     value = λ k v p. inr (p, λ q. q);
-    opens = λ i x p. inr (i, x, p, refl, λ q. q);
+    opens = λ i x p. inr (x, p, refl, λ q. q);
     grows = omega arith;
     unwritten = λ k l p u m. g .unwritten k l p u (rw quiet at m);
   }
@@ -87,12 +85,12 @@ module _ (w : World) (g : Good w) where
   -- values and leases change, nothing else: no lease is new, and no value but the register's, on a key with no row
   frame-keys : (a : Answer) (ks : List Key) → eqb (wordOf a) LEASE ≡ false
       → ((k : ℕ) (v : Value) → getD ks k blank .value ≡ some v → (cached (w .state) k ≡ some v) ⊎ ((v ≡ w .register k) × (RowOn (w .state .rows) k → ⊥)))
-      → ((k : ℕ) (l : Lease) → getD ks k blank .lease ≡ some l → leaseOn (w .state) k ≡ some l)
+      → OrderlyKept.LeasesFrom ks (w .state)
       → Frame w a (withKeys (w .state) ks)
   frame-keys a ks quiet fv fl = record {
     keeps = λ k v p q. elim (fv k v p) [ inl h ↦ h | inr h ↦ absurd (h .1 q) ];
     value = λ k v p. elim (fv k v p) [ inl h ↦ inr (h, λ x. x) | inr h ↦ inl (h .0) ];
-    opens = λ i x p. inr (i, x, p, refl, λ q. q);
+    opens = λ i x p. inr (x, p, refl, λ q. q);
     grows = omega arith;
     unwritten = λ k l p u m. g .unwritten k l (fl k l p) u (rw quiet at m);
   }
@@ -100,13 +98,13 @@ module _ (w : World) (g : Good w) where
   -- sessions end, and no value or lease is new; a value stays only where no writer among them has a row
   frame-ends : (a : Answer) (ns : List ℕ) (ks : List Key) → eqb (wordOf a) LEASE ≡ false
       → ((k : ℕ) (v : Value) → getD ks k blank .value ≡ some v → (cached (w .state) k ≡ some v) × ((i n d : ℕ) (u : Staged) → rowAt (w .state) i ≡ row n k d u → w .wrote n ≡ true → mem n ns ≡ false))
-      → ((k : ℕ) (l : Lease) → getD ks k blank .lease ≡ some l → leaseOn (w .state) k ≡ some l)
+      → OrderlyKept.LeasesFrom ks (w .state)
       → Frame w a (leave ns (withKeys (w .state) ks))
   unfolding leave
   frame-ends a ns ks quiet fv fl = record {
     keeps = λ k v p q. fv k v p .0;
     value = λ k v p. inr (fv k v p .0, written-unfreed ns (w .state .rows) (w .wrote) k (fv k v p .1));
-    opens = λ i x p. inr (i, x, OrderlyKept.was-session ns (w .state .sessions) i x p .0, refl, λ q. q);
+    opens = λ i x p. inr (x, OrderlyKept.was-session ns (w .state .sessions) i x p .0, refl, λ q. q);
     grows = omega arith;
     unwritten = λ k l p u m. g .unwritten k l (fl k l p) u (rw quiet at m);
   }
@@ -129,7 +127,7 @@ module _ (w : World) (g : Good w) where
   frame-done n rule = record {
     keeps = λ k v p q. keeps k v q (Views.settle-value (n ∷ []) toCache k v (s .rows) (s .keys) p);
     value = λ k v p. value k v (Views.settle-value (n ∷ []) toCache k v (s .rows) (s .keys) p);
-    opens = λ i x p. inr (i, x, OrderlyKept.was-session (n ∷ []) (s .sessions) i x p .0, refl, λ q. q);
+    opens = λ i x p. inr (x, OrderlyKept.was-session (n ∷ []) (s .sessions) i x p .0, refl, λ q. q);
     grows = omega arith;
     unwritten = λ k l p u m. g .unwritten k l (sym (Views.settle-lease (n ∷ []) toCache k (s .rows) (s .keys)) ∙ p) u m;
   }
@@ -188,7 +186,7 @@ module _ (w : World) (g : Good w) where
 
   frame-evict : (k : ℕ) → Frame w Answer.Evicted (withKeys (w .state) (setValue (w .state .keys) k none))
   frame-evict k = frame-keys Answer.Evicted (setValue (w .state .keys) k none) refl
-      (λ j u p. elim (Views.value-after (w .state .keys) k none j) [ inl e ↦ inl (sym e ∙ p) | inr e ↦ Views.no-some u (sym (e .1) ∙ p) ])
+      (λ j u p. inl (Views.unset-was (λ (x : Key). x .value) refl (w .state .keys) k _ refl j u p .1))
       (λ j h p. sym (Views.value-lease (w .state .keys) k none j) ∙ p)
 
   -- GET answered LEASE: the new token's record begins with the register's value
@@ -197,7 +195,7 @@ module _ (w : World) (g : Good w) where
   frame-lease now k = record {
     keeps = λ j v p q. sym (Views.lease-value (s .keys) k (some new) j) ∙ p;
     value = λ j v p. inr (sym (Views.lease-value (s .keys) k (some new) j) ∙ p, λ q. q);
-    opens = λ i x p. inr (i, x, p, refl, λ q. q);
+    opens = λ i x p. inr (x, p, refl, λ q. q);
     grows = omega arith;
     unwritten = λ j l p u m. fill j l u m (OrderlyKept.leased-was s k new j l p);
   }
@@ -223,19 +221,10 @@ module _ (w : World) (g : Good w) where
   frame-begin now = record {
     keeps = λ k v p q. p;
     value = λ k v p. inr (p, λ q. q);
-    opens = λ i x p. elim (OrderlyKept.was-set (s .sessions) (place free (s .sessions)) (session new) i noSession (session x) (Views.no-session x) p) [
-      | inl y ↦ inr (i, x, y, refl, λ q. q)
-      | inr y ↦ inl (let e = y .1 in let q : s .head .nextSession ≡ x .number = cc in omega arith)
-    ];
+    opens = OrderlyKept.begun-stood (w .state) now;
     grows = omega arith;
     unwritten = g .unwritten;
   }
-    where
-      s : State
-      s = w .state
-
-      new : Session
-      new = opened (s .head .nextSession) (now + s .head .writeLife)
 
   -- QUAR granted: every row and value stays
   frame-granted : (n k kind : ℕ) → Frame w Answer.Granted (withKeys (withRows (w .state) (putAt freeRow (row n k kind nothing) (w .state .rows))) (setLease (w .state .keys) k none))
@@ -245,7 +234,7 @@ module _ (w : World) (g : Good w) where
       sym (Views.lease-value (s .keys) k none j) ∙ p,
       written-still (s .rows) (putAt freeRow (row n k kind nothing) (s .rows)) (w .wrote) j (λ i m d u e did. (u, OrderlyKept.still-put freeRow (s .rows) (row n k kind nothing) i noRow (row m j d u) refl refl e)),
     );
-    opens = λ i x p. inr (i, x, p, refl, λ q. q);
+    opens = λ i x p. inr (x, p, refl, λ q. q);
     grows = omega arith;
     unwritten = λ j l p u m. g .unwritten j l (OrderlyKept.voided-was s k j l p .1) u m;
   }
@@ -253,25 +242,12 @@ module _ (w : World) (g : Good w) where
       s : State
       s = w .state
 
-  -- a session put through f, which keeps its number and its seal, stands where it stood
-  session-stands : (n : ℕ) (f : Session → Session) → ((m : Session) → (f m .number ≡ m .number) × (m .life ≡ Life.Sealed → f m .life ≡ Life.Sealed)) → (i : ℕ) (x : Session) → sessionAt (withSession (w .state) n f) i ≡ session x
-      → (w .state .head .nextSession ≤ x .number) ⊎ ((j : ℕ) × (m : Session) × (sessionAt (w .state) j ≡ session m) × (m .number ≡ x .number) × (m .life ≡ Life.Sealed → x .life ≡ Life.Sealed))
-  session-stands n f same i x p =
-      let r = OrderlyKept.was-slot (w .state) n f i x p in
-      inr (
-        i,
-        r .0,
-        r .1,
-        elim (r .2) [ inl e ↦ sym (ap (λ (y : Session). y .number) e) | inr e ↦ sym (same (r .0) .0) ∙ sym (ap (λ (y : Session). y .number) (e .1)) ],
-        λ q. elim (r .2) [ inl e ↦ ap (λ (y : Session). y .life) e ∙ q | inr e ↦ ap (λ (y : Session). y .life) (e .1) ∙ same (r .0) .1 q ],
-      )
-
   -- STAGE, DELTA
   frame-staged : (n k : ℕ) (u : Staged) → Frame w (stagedAnswer u) (withStaged (withSession (w .state) n advanced) n k u)
   frame-staged n k u = record {
     keeps = λ j y p q. p;
     value = λ j y p. inr (p, written-still (w .state .rows) (withStaged (w .state) n k u .rows) (w .wrote) j (λ i m d v e did. OrderlyKept.still-staged (w .state) n k u i m j d v e));
-    opens = session-stands n advanced (λ m. (refl, λ q. q));
+    opens = OrderlyKept.slot-stood (w .state) n advanced (λ m. (refl, λ q. q));
     grows = omega arith;
     unwritten = λ j l p y m. g .unwritten j l p y (rw (staged-quiet u) at m);
   }
@@ -281,7 +257,7 @@ module _ (w : World) (g : Good w) where
   frame-seal n = record {
     keeps = λ k v p q. p;
     value = λ k v p. inr (p, λ q. q);
-    opens = session-stands n sealed (λ m. (refl, λ q. refl));
+    opens = OrderlyKept.slot-stood (w .state) n sealed (λ m. (refl, λ q. refl));
     grows = omega arith;
     unwritten = g .unwritten;
   }

@@ -2,7 +2,7 @@
 -- a quarantined key it is what the register held when the quarantine began; and what a token may fill is the register's
 -- value, since a leased key has no row and so is not written.
 -- Here: the invariant, the frame that a command's effect has to prove, that the frame gives the invariant, START, and a register write.
-use mathlib.Core.Path.{_≡_, refl, sym, ap, _∙_}
+use mathlib.Core.Path.{_≡_, refl, ap, _∙_}
 use mathlib.Core.Bool.{Bool, true, false, not, _&&_, _||_, or-true}
 use mathlib.Core.Logic.{_⊎_, inl, inr}
 use mathlib.Core.List.{List, List·Memᴰ, _∷_}
@@ -23,8 +23,8 @@ use Rattle.machine.specs.declared.Life.{Life}
 use Rattle.machine.specs.declared.Session.{Session}
 use Rattle.machine.specs.declared.Answer.{Answer}
 use Rattle.machine.proofs.Views
-use Rattle.machine.proofs.OrderlyKept.{orderly-fresh}
-use Rattle.machine.proofs.Accepted.{found-live}
+use Rattle.machine.proofs.OrderlyKept.{StoodAt, orderly-fresh}
+use Rattle.machine.proofs.Accepted.{found-live, found-session}
 
 -- a row on the key
 pub record RowOn (rows : List Row) (k : ℕ) : Type 0 where
@@ -52,8 +52,7 @@ pub record Frame (w : World) (a : Answer) (t : State) : Type 0 where
   -- a value is the register's, or was there, and then no writer's row on its key went
   pub value : (k : ℕ) (v : Value) → cached t k ≡ some v → (v ≡ w .register k) ⊎ ((cached (w .state) k ≡ some v) × (Written (w .state .rows) (w .wrote) k → Written (t .rows) (w .wrote) k))
   -- a session has a new number, or was there, and stays sealed if it was
-  pub opens : (i : ℕ) (x : Session) → sessionAt t i ≡ session x
-      → (w .state .head .nextSession ≤ x .number) ⊎ ((j : ℕ) × (m : Session) × (sessionAt (w .state) j ≡ session m) × (m .number ≡ x .number) × (m .life ≡ Life.Sealed → x .life ≡ Life.Sealed))
+  pub opens : (i : ℕ) (x : Session) → sessionAt t i ≡ session x → StoodAt (w .state) i x
   pub grows : w .state .head .nextSession ≤ t .head .nextSession
   -- what a token may fill is the register's value
   pub unwritten : (k : ℕ) (l : Lease) → leaseOn t k ≡ some l → (u : Value) → List·Memᴰ u (sinceGrant (w .register) (w .since) a (l .token) k) → u ≡ w .register k
@@ -67,7 +66,7 @@ reframed w g a t began h f older = record {
   older = older;
   unwritten = f .unwritten;
   writers = λ n e. let x = g .writers n e in let more = f .grows in
-      (omega (arith, x .0), λ i m p num. elim (f .opens i m p) [ inl y ↦ absurd (omega (arith, x .0)) | inr y ↦ y .4 (x .1 (y .0) (y .1) (y .2) (y .3 ∙ num)) ]);
+      (omega (arith, x .0), λ i m p num. elim (f .opens i m p) [ inl y ↦ absurd (omega (arith, x .0)) | inr y ↦ y .3 (x .1 i (y .0) (y .1) (y .2 ∙ num)) ]);
 }
 
 pub row-on-quarantined : (rs : List Row) (k : ℕ) → RowOn rs k → any (on k) rs ≡ true
@@ -125,8 +124,8 @@ written-good w g n k v live holds = record {
     writers m e (inl q) = rw (eqb-true m n q) (
       rw (← (live .number)) (g .orderly .numbers (live .place) (live .live) (live .is)),
       λ i x p num.
-          let same : i ≡ live .place = g .orderly .unique i (live .place) x (live .live) p (live .is) (num ∙ sym (live .number)) in
-          let y : session x ≡ session (live .live) = sym p ∙ ap (sessionAt (w .state)) same ∙ live .is in
+          let a = found-session (w .state) (g .orderly) n i x p num in
+          let b = found-session (w .state) (g .orderly) n (live .place) (live .live) (live .is) (live .number) in
           let z : x ≡ live .live = cc in ap (λ (a : Session). a .life) z ∙ live .life,
     )
     writers m e (inr q) = g .writers m (rw q at e)

@@ -11,6 +11,7 @@ use lib.ListN.{length, length-replicate}
 use borrow.Author.Tests.{eqb-true, eqb-false, leb-false, ltb-false, not-false}
 use Rattle.lent.specs.Bytes.{Bytes}
 use Rattle.lent.proofs.Choices.{if-ind, or-no}
+use Rattle.lent.proofs.Runs.{run-keeps}
 use Rattle.machine.specs.Sizes.{keyCount, sessionCount, rowCount, valueMax, stepMax, lifeMax, timeMax, numberMax}
 use Rattle.machine.specs.Tables.{first, isNone}
 use Rattle.machine.specs.Words.{isKind, isOperation, INVALIDATE, INCREMENTAL, REFRESH}
@@ -79,9 +80,7 @@ module _ (s : State) (now : ℕ) (h : WellFormed s now) where
     where
       room : (j : ℕ) (x : Session) → sessionAt s j ≡ session x → x .number ≡ n → ltb i (countOf s n) ≡ false → x .count < stepMax
       room j x a b p =
-          let y = Accepted.session-of s n e in
-          let z : j ≡ sessionPlace s n = h .orderly .unique j (sessionPlace s n) x (y .0) a (y .1) (b ∙ sym (y .2)) in
-          let w : countOf s n ≡ x .count = ap countIn (sym (ap (sessionAt s) z) ∙ a) in
+          let w : countOf s n ≡ x .count = ap countIn (Accepted.found-session s (h .orderly) n j x a b) in
           let c = ltb-false i (countOf s n) p in omega arith
 
   staged-in : (r : Row) (i : ℕ) → rowAt s i ≡ r → kindOf r ≡ INCREMENTAL → StagedFits INCREMENTAL (stagedIn r)
@@ -183,10 +182,7 @@ unfolding commanded written
 next-sound w (command now c v) b h = step-sound (w .state) now c v b h
 next-sound w (write n k v) b h = h
 
-run-sound : (w : World) (es : List Event) → AllBytes es → sound (w .state) ≡ true → sound (run w es .state) ≡ true
-run-sound w [] b h = h
-run-sound w (e ∷ es) b h = run-sound (next w e) es (b .1) (next-sound w e (b .0) h)
-
 -- each state that a run from START reaches
 pub reached-sound : (readLife writeLife : ℕ) (es : List Event) → lifetime readLife ≡ true → lifetime writeLife ≡ true → AllBytes es → sound (run (freshWorld readLife writeLife) es .state) ≡ true
-reached-sound readLife writeLife es r w b = run-sound (freshWorld readLife writeLife) es b (fresh-sound readLife writeLife r w)
+reached-sound readLife writeLife es r w b = run-keeps next run (λ w. refl) (λ w e es. refl) (λ w. AllBytes) (λ (w : World). sound (w .state) ≡ true) (λ w e es b h. (next-sound w e (b .0) h, b .1))
+    (freshWorld readLife writeLife) es b (fresh-sound readLife writeLife r w)

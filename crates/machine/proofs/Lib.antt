@@ -14,6 +14,7 @@ pub mod Invariant
 pub mod KeepsSound
 pub mod Promise
 pub mod Shape
+pub mod Sights
 pub mod SoundFacts
 pub mod Tested
 pub mod Wait

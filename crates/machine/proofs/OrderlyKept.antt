@@ -7,18 +7,19 @@ use mathlib.Core.Bool.{Bool, true, false}
 use mathlib.Core.Logic.{_⊎_, inl, inr}
 use mathlib.Core.List.{List, map}
 use mathlib.Core.Option.{Option, none, some}
-use Prim.Native.Nat.{ℕ, suc, _+_, _<_}
+use Prim.Native.Nat.{ℕ, suc, _+_, _≤_, _<_}
 use native.Mathlib.Omega.{arith}
 use borrow.Author.Tests.{eqb-true}
 use lib.ListN.{getD, set, List·getD-map}
 use Rattle.lent.proofs.Choices.{clash, zero-one}
-use Rattle.machine.specs.Tables.{place, mem, putAt}
+use Rattle.machine.specs.Tables.{place, find, mem, putAt}
 use Rattle.machine.specs.Session.{opened, advanced, sealed, isDue}
-use Rattle.machine.specs.State.{Value, Lease, Key, blank, Slot, noSession, session, Staged, nothing, staged, Row, noRow, row, State, fresh, free, freeRow, numbered, ofOn, sessionOf, rowOf, cached, leaseOn, sessionAt, rowAt}
+use Rattle.machine.specs.State.{Value, Lease, Key, blank, Slot, noSession, session, Staged, nothing, staged, Row, noRow, row, State, fresh, free, freeRow, numbered, ofOn, rowOf, cached, leaseOn, sessionAt, rowAt}
 use Rattle.machine.specs.Expiry.{withKeys, withSessions, withRows, withClock, setValue, setLease, freeIfOf, freeSession, settle, leave, finish, lapsedValue, lapsedLease, those, expire}
 use Rattle.machine.specs.Effects.{begins, leased, fills, onSlot, restaged, withSession, withStaged}
 use Rattle.machine.specs.WellFormed.{Orderly, Within}
 use Rattle.machine.specs.Words.{INVALIDATE, INCREMENTAL}
+use Rattle.machine.specs.declared.Life.{Life}
 use Rattle.machine.specs.declared.Session.{Session}
 use Rattle.machine.proofs.Views
 
@@ -27,12 +28,7 @@ use Rattle.machine.proofs.Views
 module _ {A : Type 0} (l : List A) (i : ℕ) (a : A) (j : ℕ) (d b : A) (entry : d ≡ b → ⊥) where
   -- an entry after `set` stood there before, or was set
   pub was-set : getD (set l i a) j d ≡ b → (getD l j d ≡ b) ⊎ ((i ≡ j) × (a ≡ b))
-  was-set e = go (Views.after-set l i a j d)
-    where
-      go : Views.AfterSet l i a j d → (getD l j d ≡ b) ⊎ ((i ≡ j) × (a ≡ b))
-      go (Views.other p q) = inl (sym q ∙ e)
-      go (Views.here p q) = inr (p, sym q ∙ e)
-      go (Views.out p q r) = absurd (entry (sym q ∙ e))
+  was-set e = elim (Views.was-part (λ (x : A). x) l i a j d b entry e) [ inl p ↦ inl (p .1) | inr p ↦ inr p ]
 
   -- an entry before `set` still stands there, or is replaced
   pub still-set : getD l j d ≡ b → (getD (set l i a) j d ≡ b) ⊎ ((i ≡ j) × (getD (set l i a) j d ≡ a))
@@ -50,49 +46,60 @@ still-put p l a j d b free taken e = elim (still-set l (place p l) a j d b (λ q
   | inr q ↦ clash (p b) (sym (ap p (ap (λ (i : ℕ). getD l i d) (q .0) ∙ e)) ∙ Views.free-place p d l free) taken
 ]
 
+-- an entry after the first that passes p was put through f: as it was, or f of one that passes
+was-changed : {A : Type 0} (p : A → Bool) (f : A → A) (l : List A) (i : ℕ) (d b : A) → f d ≡ d → (d ≡ b → ⊥) → getD (set l (place p l) (f (find p d l))) i d ≡ b → (getD l i d ≡ b) ⊎ ((p (getD l i d) ≡ true) × (f (getD l i d) ≡ b))
+was-changed p f l i d b fixed entry e = elim (was-set l (place p l) (f (find p d l)) i d b entry e) [
+  | inl q ↦ inl q
+  | inr q ↦ elim (Views.find-test p d l) [
+    | inl z ↦ absurd (entry (sym fixed ∙ sym (ap f z) ∙ q .1))
+    | inr z ↦ (let there : find p d l ≡ getD l i d = ap (λ (j : ℕ). getD l j d) (q .0) in inr (sym (ap p there) ∙ z, sym (ap f there) ∙ q .1))
+  ]
+]
+
 -- a session after one was put through f: as it was, or f of it
 pub was-slot : (s : State) (n : ℕ) (f : Session → Session) (i : ℕ) (x : Session) → sessionAt (withSession s n f) i ≡ session x
     → (m : Session) × (sessionAt s i ≡ session m) × ((x ≡ m) ⊎ ((m .number ≡ n) × (x ≡ f m)))
-was-slot s n f i x e = go (was-set (s .sessions) at (onSlot f (sessionOf s n)) i noSession (session x) (Views.no-session x) e)
+was-slot s n f i x e = elim (was-changed (numbered n) (onSlot f) (s .sessions) i noSession (session x) refl (Views.no-session x) e) [
+  | inl h ↦ (x, h, inl refl)
+  | inr h ↦ mine (sessionAt s i) refl (h .0) (h .1)
+]
   where
-    Was : Type 0
-    Was = (m : Session) × (sessionAt s i ≡ session m) × ((x ≡ m) ⊎ ((m .number ≡ n) × (x ≡ f m)))
+    mine : (y : Slot) → sessionAt s i ≡ y → numbered n y ≡ true → onSlot f y ≡ session x → (m : Session) × (sessionAt s i ≡ session m) × ((x ≡ m) ⊎ ((m .number ≡ n) × (x ≡ f m)))
+    mine noSession p q h = Views.no-session x h
+    mine (session m) p q h = (m, p, inr (eqb-true (m .number) n q, cc))
 
-    at : ℕ
-    at = place (numbered n) (s .sessions)
+-- a session at place i of a later state: its number is new, or it stood there, and stays sealed if it was
+abbrev pub StoodAt : State → ℕ → Session → Type 0
+StoodAt s i x = (s .head .nextSession ≤ x .number) ⊎ ((m : Session) × (sessionAt s i ≡ session m) × (m .number ≡ x .number) × (m .life ≡ Life.Sealed → x .life ≡ Life.Sealed))
 
-    mine : (y : Slot) → sessionAt s at ≡ y → (y ≡ noSession) ⊎ (numbered n y ≡ true) → at ≡ i → onSlot f y ≡ session x → Was
-    mine noSession p q r h = Views.no-session x h
-    mine (session m) p (inl q) r h = Views.no-session m (sym q)
-    mine (session m) p (inr q) r h = (m, sym (ap (sessionAt s) r) ∙ p, inr (eqb-true (m .number) n q, cc))
+-- one that is put through f, which keeps its number and its seal, stands where it stood
+pub slot-stood : (s : State) (n : ℕ) (f : Session → Session) → ((m : Session) → (f m .number ≡ m .number) × (m .life ≡ Life.Sealed → f m .life ≡ Life.Sealed)) → (i : ℕ) (x : Session) → sessionAt (withSession s n f) i ≡ session x → StoodAt s i x
+slot-stood s n f same i x p =
+    let r = was-slot s n f i x p in
+    inr (
+      r .0,
+      r .1,
+      elim (r .2) [ inl e ↦ sym (ap (λ (y : Session). y .number) e) | inr e ↦ sym (same (r .0) .0) ∙ sym (ap (λ (y : Session). y .number) (e .1)) ],
+      λ q. elim (r .2) [ inl e ↦ ap (λ (y : Session). y .life) e ∙ q | inr e ↦ ap (λ (y : Session). y .life) (e .1) ∙ same (r .0) .1 q ],
+    )
 
-    go : (sessionAt s i ≡ session x) ⊎ ((at ≡ i) × (onSlot f (sessionOf s n) ≡ session x)) → Was
-    go (inl h) = (x, h, inl refl)
-    go (inr h) = mine (sessionOf s n) refl (Views.find-test (numbered n) noSession (s .sessions)) (h .0) (h .1)
+pub begun-stood : (s : State) (now i : ℕ) (x : Session) → sessionAt (begins s now .after) i ≡ session x → StoodAt s i x
+unfolding begins
+begun-stood s now i x p = elim (was-set (s .sessions) (place free (s .sessions)) (session (opened (s .head .nextSession) (now + s .head .writeLife))) i noSession (session x) (Views.no-session x) p) [
+  | inl e ↦ inr (x, e, refl, λ q. q)
+  | inr e ↦ inl (let y = e .1 in let z : s .head .nextSession ≡ x .number = cc in omega arith)
+]
 
 -- a row after u was staged in one: as it was, or with u
 pub was-staged : (s : State) (n k : ℕ) (u : Staged) (i m j d : ℕ) (v : Staged) → rowAt (withStaged s n k u) i ≡ row m j d v
     → (v′ : Staged) × (rowAt s i ≡ row m j d v′) × ((v ≡ v′) ⊎ ((m ≡ n) × (j ≡ k) × (v ≡ u)))
-was-staged s n k u i m j d v e = go (was-set (s .rows) at (restaged u (rowOf s n k)) i noRow (row m j d v) (Views.no-row m j d v) e)
-  where
-    Was : Type 0
-    Was = (v′ : Staged) × (rowAt s i ≡ row m j d v′) × ((v ≡ v′) ⊎ ((m ≡ n) × (j ≡ k) × (v ≡ u)))
-
-    at : ℕ
-    at = place (ofOn n k) (s .rows)
-
-    mine : (r : Row) → rowAt s at ≡ r → (r ≡ noRow) ⊎ (ofOn n k r ≡ true) → at ≡ i → restaged u r ≡ row m j d v → Was
-    mine noRow p q a h = Views.no-row m j d v h
-    mine (row b c y z) p (inl q) a h = Views.no-row b c y z (sym q)
-    mine (row b c y z) p (inr q) a h =
-        let r = Views.of-on-row n k (row b c y z) q in
-        let same : row b c y z ≡ row n k (r .0) (r .1) = r .2 in
-        let there : rowAt s i ≡ row b c y z = sym (ap (rowAt s) a) ∙ p in
-        (z, cc, inr (cc, cc, cc))
-
-    go : (rowAt s i ≡ row m j d v) ⊎ ((at ≡ i) × (restaged u (rowOf s n k) ≡ row m j d v)) → Was
-    go (inl h) = (v, h, inl refl)
-    go (inr h) = mine (rowOf s n k) refl (Views.find-test (ofOn n k) noRow (s .rows)) (h .0) (h .1)
+was-staged s n k u i m j d v e = elim (was-changed (ofOn n k) (restaged u) (s .rows) i noRow (row m j d v) refl (Views.no-row m j d v) e) [
+  | inl h ↦ (v, h, inl refl)
+  | inr h ↦ (let r = Views.of-on-row n k (rowAt s i) (h .0) in
+    let here : rowAt s i ≡ row n k (r .0) (r .1) = r .2 in
+    let now : row n k (r .0) u ≡ row m j d v = sym (ap (restaged u) here) ∙ h .1 in
+    (r .1, cc, inr (cc, cc, cc)))
+]
 
 -- and each row is still there, with what is staged in it
 pub still-staged : (s : State) (n k : ℕ) (u : Staged) (i m j d : ℕ) (v : Staged) → rowAt s i ≡ row m j d v → (v′ : Staged) × (rowAt (withStaged s n k u) i ≡ row m j d v′)
@@ -119,41 +126,29 @@ module _ (ns : List ℕ) where
 
 -- Values, leases and rows that are left
 
+-- each lease of the keys ks is on its key in s
+abbrev pub LeasesFrom : List Key → State → Type 0
+LeasesFrom ks s = (k : ℕ) (l : Lease) → getD ks k blank .lease ≡ some l → leaseOn s k ≡ some l
+
 -- a lease that has not lapsed, and ends after now
 pub lapsed-was : (s : State) (now k : ℕ) (l : Lease) → getD (map (lapsedLease now) (s .keys)) k blank .lease ≡ some l → (leaseOn s k ≡ some l) × (now < l .until)
 lapsed-was s now k l e = Views.unlapsed-was now (leaseOn s k) l (sym (ap (λ (x : Key). x .lease) (List·getD-map (lapsedLease now) (s .keys) k blank)) ∙ e)
 
 -- a lease, once key k is filled
 pub filled-was : (s : State) (k : ℕ) (v : Value) (j : ℕ) (l : Lease) → getD (set (s .keys) k (record { value = some v; lease = none })) j blank .lease ≡ some l → leaseOn s j ≡ some l
-filled-was s k v j l e = go (Views.after-set (s .keys) k (record { value = some v; lease = none }) j blank)
-  where
-    go : Views.AfterSet (s .keys) k (record { value = some v; lease = none }) j blank → leaseOn s j ≡ some l
-    go (Views.other p q) = sym (ap (λ (x : Key). x .lease) q) ∙ e
-    go (Views.here p q) = Views.no-some l (sym (ap (λ (x : Key). x .lease) q) ∙ e)
-    go (Views.out p q r) = Views.no-some l (sym (ap (λ (x : Key). x .lease) q) ∙ e)
+filled-was s k v j l e = Views.unset-was (λ (x : Key). x .lease) refl (s .keys) k _ refl j l e .1
 
 -- a value, once key k is filled with v
 pub filled-value : (s : State) (k : ℕ) (v : Value) (j : ℕ) (u : Value) → getD (set (s .keys) k (record { value = some v; lease = none })) j blank .value ≡ some u → (cached s j ≡ some u) ⊎ ((k ≡ j) × (v ≡ u))
-filled-value s k v j u e = go (Views.after-set (s .keys) k (record { value = some v; lease = none }) j blank)
-  where
-    go : Views.AfterSet (s .keys) k (record { value = some v; lease = none }) j blank → (cached s j ≡ some u) ⊎ ((k ≡ j) × (v ≡ u))
-    go (Views.other p q) = inl (sym (ap (λ (x : Key). x .value) q) ∙ e)
-    go (Views.here p q) = inr (p, Views.some-eq v u (sym (ap (λ (x : Key). x .value) q) ∙ e))
-    go (Views.out p q r) = Views.no-some u (sym (ap (λ (x : Key). x .value) q) ∙ e)
+filled-value s k v = Views.set-was (λ (x : Key). x .value) refl (s .keys) k _ v refl
 
 -- a lease, once x is granted on key k
 pub leased-was : (s : State) (k : ℕ) (x : Lease) (j : ℕ) (l : Lease) → getD (setLease (s .keys) k (some x)) j blank .lease ≡ some l → (leaseOn s j ≡ some l) ⊎ ((k ≡ j) × (x ≡ l))
-leased-was s k x j l e = elim (Views.lease-after (s .keys) k (some x) j) [
-  | inl p ↦ inl (sym (p .1) ∙ e)
-  | inr p ↦ elim (p .1) [ inl q ↦ inr (p .0, Views.some-eq x l (sym q ∙ e)) | inr q ↦ Views.no-some l (sym q ∙ e) ]
-]
+leased-was s k x = Views.set-was (λ (y : Key). y .lease) refl (s .keys) k _ x refl
 
 -- a lease, once that of key k is voided, is on another key
 pub voided-was : (s : State) (k j : ℕ) (l : Lease) → getD (setLease (s .keys) k none) j blank .lease ≡ some l → (k ≡ j → ⊥) × (leaseOn s j ≡ some l)
-voided-was s k j l e = elim (Views.lease-after (s .keys) k none j) [
-  | inl p ↦ (p .0, sym (p .1) ∙ e)
-  | inr p ↦ elim (p .1) [ inl q ↦ Views.no-some l (sym q ∙ e) | inr q ↦ Views.no-some l (sym q ∙ e) ]
-]
+voided-was s k = Views.unset-was (λ (x : Key). x .lease) refl (s .keys) k _ refl
 
 -- a row, once one of session n on key k is granted
 abbrev pub GrantedWas : State → (n k kind i m j d : ℕ) → Staged → Type 0

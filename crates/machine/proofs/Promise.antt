@@ -3,11 +3,12 @@
 use mathlib.Core.Path.{_≡_, refl}
 use mathlib.Core.Bool.{Bool, true, false, not, _&&_}
 use mathlib.Core.Logic.{inl, inr}
-use mathlib.Core.List.{List, [], _∷_}
+use mathlib.Core.List.{List}
 use mathlib.Core.Option.{Option, none, some}
 use Prim.Native.Nat.{ℕ}
 use Rattle.lent.specs.Tables.{if_then_else_}
 use Rattle.lent.proofs.Choices.{clash}
+use Rattle.lent.proofs.Runs.{run-keeps}
 use Rattle.machine.specs.State.{Value, State, cached}
 use Rattle.machine.specs.Expiry.{withClock, expire}
 use Rattle.machine.specs.Refusals.{refusal}
@@ -70,5 +71,4 @@ next-good w g (command now c v) rule = commanded-good w g now c v (refusal (expi
 next-good w g (write n k v) rule = written-good w g n k v (rule .0) (rule .1)
 
 pub run-good : (w : World) (es : List Event) → Good w → AllKept w es → Good (run w es)
-run-good w [] g h = g
-run-good w (e ∷ es) g h = run-good (next w e) es (next-good w g e (h .0)) (h .1)
+run-good w es g h = run-keeps next run (λ w. refl) (λ w e es. refl) AllKept Good (λ w e es h g. (next-good w g e (h .0), h .1)) w es h g

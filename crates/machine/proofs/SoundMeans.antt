@@ -22,7 +22,7 @@ use Rattle.machine.specs.declared.Life.{Life}
 use Rattle.machine.specs.declared.Session.{Session}
 use Rattle.machine.proofs.Views.{no-some, no-row, no-session}
 use Rattle.machine.proofs.Ranges.{within-means, means-within}
-use Rattle.machine.proofs.Every.{pairs-all, all-pairs, distinct-alone, same-distinct, place-inside, every-place, order}
+use Rattle.machine.proofs.Every.{pairs-all, all-pairs, distinct-alone, alone-distinct, place-inside, every-place, order}
 
 -- a conjunction of many, and each of its parts by its place
 abbrev all : List Bool → Bool
@@ -54,9 +54,12 @@ value-means v e = let r = and-yes (leb (length v) valueMax) (every (λ i. ltb (g
 pub means-value : (v : Value) → Fine v → valueSound v ≡ true
 means-value v f = and-both (le-leb (length v) valueMax (f .short)) (all-every (λ i. ltb (getD v i 0) 256) (length v) (λ i h. lt-ltb (getD v i 0) 256 (f .bytes i)))
 
--- a value fits, if there is one
+-- what an entry has, if there is one
+abbrev pub IfAny : {A B : Type 0} → (B → A) → (B → Type 0) → A → Type 0
+IfAny {A} {B} a P e = (x : B) → e ≡ a x → P x
+
 abbrev pub FineIfAny : Option Value → Type 0
-FineIfAny o = (v : Value) → o ≡ some v → Fine v
+FineIfAny = IfAny some Fine
 
 means-cached : (o : Option Value) → FineIfAny o → cachedSound o ≡ true
 means-cached none f = refl
@@ -100,12 +103,12 @@ module _ (h : Head) where
       let b = given-means (h .nextToken) (l .token) (a .0) in
       (b .1, record { positive = b .0; deadline = leb-true (l .until) (h .clock + h .readLife) (a .1) })
 
-  means-lease : (o : Option Lease) → ((l : Lease) → o ≡ some l → LeaseOf l) → leaseSound h o ≡ true
+  means-lease : (o : Option Lease) → IfAny some LeaseOf o → leaseSound h o ≡ true
   unfolding LeaseOf
   means-lease none f = refl
   means-lease (some l) f = let g = f l refl in and-both (means-given (h .nextToken) (l .token) (g .1 .positive) (g .0)) (le-leb (l .until) (h .clock + h .readLife) (g .1 .deadline))
 
-  means-life : (p : Life) → ((t : ℕ) → p ≡ Life.Open t → t ≤ h .clock + h .writeLife) → lifeSound h p ≡ true
+  means-life : (p : Life) → IfAny Life.Open (λ t. t ≤ h .clock + h .writeLife) p → lifeSound h p ≡ true
   means-life (Life.Open t) f = le-leb t (h .clock + h .writeLife) (f t refl)
   means-life Life.Sealed f = refl
 
@@ -117,7 +120,7 @@ module _ (h : Head) where
       let c = and-yes (leb (x .count) stepMax) (lifeSound h (x .life)) (a .1) in
       (b .1, record { positive = b .0; steps = leb-true (x .count) stepMax (c .0); deadline = λ t q. leb-true t (h .clock + h .writeLife) (rw q at (c .1)) })
 
-  means-session : (e : Slot) → ((x : Session) → e ≡ session x → SessionOf x) → sessionSound h e ≡ true
+  means-session : (e : Slot) → IfAny session SessionOf e → sessionSound h e ≡ true
   unfolding sessionSound SessionOf
   means-session noSession f = refl
   means-session (session x) f = let g = f x refl in
@@ -152,29 +155,30 @@ means-shares (row m j d u) (row n k e v) f = go (case-of (eqb j k))
 
 -- What stands in the tables
 
-named : (e : Slot) (n : ℕ) → numberIn e ≡ n → 1 ≤ n → (x : Session) × (e ≡ session x) × (x .number ≡ n)
-named noSession n p h = absurd (omega arith)
-named (session x) n p h = (x, refl, p)
+named : (e : Slot) → 1 ≤ numberIn e → (x : Session) × (e ≡ session x)
+named noSession h = absurd (omega arith)
+named (session x) h = (x, refl)
 
-tokened : (o : Option Lease) (n : ℕ) → tokenIn o ≡ n → 1 ≤ n → (l : Lease) × (o ≡ some l) × (l .token ≡ n)
-tokened none n p h = absurd (omega arith)
-tokened (some l) n p h = (l, refl, p)
+tokened : (o : Option Lease) → 1 ≤ tokenIn o → (l : Lease) × (o ≡ some l)
+tokened none h = absurd (omega arith)
+tokened (some l) h = (l, refl)
 
 module _ (s : State) where
   pub key-inside : (k : ℕ) (l : Lease) → length (s .keys) ≡ keyCount → leaseOn s k ≡ some l → k < keyCount
-  key-inside k l n e = let z = place-inside (s .keys) blank k (λ z. no-some l (sym (ap (λ (x : Key). x .lease) z) ∙ e)) in omega (arith, n, z)
+  key-inside k l = place-inside (s .keys) blank (λ (x : Key). x .lease) keyCount k (some l) (no-some l)
 
   pub session-inside : (i : ℕ) (x : Session) → length (s .sessions) ≡ sessionCount → sessionAt s i ≡ session x → i < sessionCount
-  session-inside i x n e = let z = place-inside (s .sessions) noSession i (λ z. no-session x (sym z ∙ e)) in omega (arith, n, z)
+  session-inside i x = place-inside (s .sessions) noSession (λ (y : Slot). y) sessionCount i (session x) (no-session x)
 
   pub row-inside : (i n k d : ℕ) (u : Staged) → length (s .rows) ≡ rowCount → rowAt s i ≡ row n k d u → i < rowCount
-  row-inside i n k d u c e = let z = place-inside (s .rows) noRow i (λ z. no-row n k d u (sym z ∙ e)) in omega (arith, c, z)
+  row-inside i n k d u = place-inside (s .rows) noRow (λ (y : Row). y) rowCount i (row n k d u) (no-row n k d u)
 
   live-means : (n : ℕ) → 1 ≤ n → someAt (λ j. eqb (numberAt s j) n) sessionCount ≡ true → LiveAs (s .sessions) n
   live-means n h e =
       let r = some-is (λ j. eqb (numberAt s j) n) sessionCount e in
-      let x = named (sessionAt s (r .0)) n (eqb-true (numberAt s (r .0)) n (r .2)) h in
-      record { place = r .0; live = x .0; is = x .1; number = x .2 }
+      let q = eqb-true (numberAt s (r .0)) n (r .2) in
+      let x = named (sessionAt s (r .0)) (omega arith) in
+      record { place = r .0; live = x .0; is = x .1; number = sym (ap numberIn (x .1)) ∙ q }
 
   means-live : (n : ℕ) → length (s .sessions) ≡ sessionCount → LiveAs (s .sessions) n → someAt (λ j. eqb (numberAt s j) n) sessionCount ≡ true
   means-live n c x = some-at (λ j. eqb (numberAt s j) n) sessionCount (x .place) (session-inside (x .place) (x .live) c (x .is)) (eq-eqb (numberAt s (x .place)) n (ap numberIn (x .is) ∙ x .number))
@@ -314,12 +318,6 @@ module _ (s : State) (h : WellFormed s (s .head .clock)) where
   named-by : (i n k d : ℕ) (u : Staged) → rowAt s i ≡ row n k d u → 1 ≤ n
   named-by i n k d u p = let x = h .live i p in let z = h .sessions .each (x .place) (x .is) .positive in omega (arith, z, x .number)
 
-  same-number : (i j n : ℕ) → numberAt s i ≡ n → numberAt s j ≡ n → 1 ≤ n → i ≡ j
-  same-number i j n p q a = let x = named (sessionAt s i) n p a in let y = named (sessionAt s j) n q a in h .orderly .unique i j (x .0) (y .0) (x .1) (y .1) (x .2 ∙ sym (y .2))
-
-  same-token : (i j n : ℕ) → tokenAt s i ≡ n → tokenAt s j ≡ n → 1 ≤ n → i ≡ j
-  same-token i j n p q a = let x = tokened (leaseOn s i) n p a in let y = tokened (leaseOn s j) n q a in h .keys .distinct i j (x .1) (y .1) (x .2 ∙ sym (y .2))
-
   lives : (i : ℕ) (r : Row) → rowAt s i ≡ r → liveRow s r ≡ true
   lives i noRow p = refl
   lives i (row n k d u) p = means-live s n (h .sessions .length) (h .live i p)
@@ -338,8 +336,8 @@ module _ (s : State) (h : WellFormed s (s .head .clock)) where
   joined-sound : joined s ≡ true
   unfolding joined rowsLive rowsOnce rowsAlone rowsLeaseless numbersDistinct tokensDistinct
   joined-sound =
-      and-both (same-distinct (numberAt s) sessionCount (λ i j a q. same-number i j (numberAt s i) refl (sym q) a))
-      (and-both (same-distinct (tokenAt s) keyCount (λ i j a q. same-token i j (tokenAt s i) refl (sym q) a))
+      and-both (alone-distinct (sessionAt s) numberIn session sessionCount named (h .orderly .unique))
+      (and-both (alone-distinct (leaseOn s) tokenIn some keyCount tokened (λ i j x y p q. h .keys .distinct i j p q))
       (and-both (all-every (λ i. liveRow s (rowAt s i)) rowCount (λ i l. lives i (rowAt s i) refl))
       (and-both (all-pairs (λ j i. once (rowAt s j) (rowAt s i)) rowCount (λ i j l a. means-once (rowAt s j) (rowAt s i) (λ n k d e u v p q. let z = h .rows .once j i p q in omega arith)))
       (and-both (all-pairs (λ j i. shares (rowAt s j) (rowAt s i)) rowCount (λ i j l a. means-shares (rowAt s j) (rowAt s i) (λ m n k d e u v p q. both-one i j m n k d e u v a p q)))

@@ -1,6 +1,6 @@
 -- The test of the rules is right: an event breaks no rule by the test exactly if it keeps the rules, in a world whose tables have
 -- their shape. Each direction reads one rule: equal values are `same`, what is found by number is there, a word belongs to one answer.
-use mathlib.Core.Path.{_≡_, refl, sym, ap, _∙_}
+use mathlib.Core.Path.{_≡_, refl, ap}
 use mathlib.Core.Bool.{Bool, true, false, not, _&&_, or-true}
 use mathlib.Core.Logic.{_⊎_, inl, inr}
 use mathlib.Core.List.{List, [], _∷_, List·Memᴰ, List·Memᴰ·head, List·Memᴰ·tail}
@@ -11,12 +11,12 @@ use borrow.Author.Tests.{eqb-true, eq-eqb, not-false, not-true}
 use lib.Dec.{eqb}
 use lib.ListN.{getD}
 use Rattle.lent.specs.Tables.{if_then_else_, same, allZero}
-use Rattle.lent.proofs.Equal.{same-eq, eq-same}
+use Rattle.lent.proofs.Equal.{same-eq, eq-same, zero-and-rest}
 use Rattle.lent.proofs.Choices.{and-yes, case-of, clash, if-ind}
 use Rattle.machine.specs.Tables.{any}
 use Rattle.machine.specs.Words.{wordOf, STORED, DONE, UNDONE}
 use Rattle.machine.specs.Session.{sealedLife}
-use Rattle.machine.specs.State.{Value, Slot, noSession, session, nothing, staged, DROP, Row, noRow, row, State, free, freeRow, numbered, sessionPlace, sessionOf, rowOf, leaseOn, sessionAt}
+use Rattle.machine.specs.State.{Value, Slot, noSession, session, nothing, staged, DROP, Row, noRow, row, State, free, freeRow, sessionOf, rowOf, leaseOn}
 use Rattle.machine.specs.Refusals.{sealedIn, sealedSlot, refusal}
 use Rattle.machine.specs.Expiry.{expire}
 use Rattle.machine.specs.Effects.{Outcome, matches, fills, effect}
@@ -25,12 +25,11 @@ use Rattle.machine.specs.World.{Event, command, write, World, next, HasR
 use Rattle.machine.specs.Test.{differs, brokenBy, broken, verdicts}
 use Rattle.machine.specs.WellFormed.{Orderly}
 use Rattle.machine.specs.declared.Life.{Life}
-use Rattle.machine.specs.declared.Session.{Session}
 use Rattle.machine.specs.declared.Answer.{Answer}
 use Rattle.machine.specs.declared.Command.{Command}
 use Rattle.machine.specs.declared.Command.the-variants.{Begin, Get, Fill, Quar, Stage, Delta, Validate, Done, Undo, Evict, Tick}
 use Rattle.machine.proofs.Views
-use Rattle.machine.proofs.Accepted.{session-of, row-of, found-row}
+use Rattle.machine.proofs.Accepted.{sealed-session, found-session, row-of, found-row}
 use Rattle.machine.proofs.Shape.{orderly-next}
 
 any-mem : (v : Value) (l : List Value) → any (same v) l ≡ true → List·Memᴰ v l
@@ -122,20 +121,11 @@ sealed-live noSession e = clash false e refl
 sealed-live (session x) e = refl
 
 sealed-is : (s : State) (n : ℕ) → sealedIn s n ≡ true → Sealed s n
-sealed-is s n e = let x = session-of s n (sealed-live (sessionOf s n) e) in
-    record { place = sessionPlace s n; live = x .0; is = x .1; number = x .2; life = sealed-life (x .0 .life) (rw (x .1) at e) }
+sealed-is s n e = sealed-session s n (sealed-live (sessionOf s n) e) (λ x q. sealed-life (x .life) (rw q at e))
 
 -- numbers are unique, so the session found by its number is the sealed one
 is-sealed : (s : State) (n : ℕ) → Orderly s → Sealed s n → sealedIn s n ≡ true
-is-sealed s n h w = go (sessionOf s n) refl (Views.find-passes (numbered n) noSession (s .sessions) (w .place) refl (rw (w .is) (eq-eqb (w .live .number) n (w .number))))
-  where
-    go : (y : Slot) → sessionOf s n ≡ y → numbered n y ≡ true → sealedSlot y ≡ true
-    go noSession p q = clash false q refl
-    go (session x) p q =
-        let here : sessionPlace s n ≡ w .place = h .unique (sessionPlace s n) (w .place) x (w .live) p (w .is) (eqb-true (x .number) n q ∙ sym (w .number)) in
-        let same : session x ≡ session (w .live) = sym p ∙ ap (sessionAt s) here ∙ w .is in
-        let it : x ≡ w .live = cc in
-        rw (ap (λ (y : Session). y .life) it ∙ w .life)
+is-sealed s n h w = rw (found-session s h n (w .place) (w .live) (w .is) (w .number), w .life)
 
 -- Each event
 
@@ -181,9 +171,8 @@ kept-unbroken w (write n k v) h rule = rw (is-sealed (w .state) n h (rule .0), f
 -- Each run
 
 pub allKept-of : (w : World) (es : List Event) → allZero (verdicts w es) ≡ true → AllKept w es
-unfolding allZero
 allKept-of w [] e = tt
-allKept-of w (x ∷ es) e = (kept-of w x (eqb-true (broken w x) 0 (and-yes (eqb (broken w x) 0) (allZero (verdicts (next w x) es)) e .0)), allKept-of (next w x) es (and-yes (eqb (broken w x) 0) (allZero (verdicts (next w x) es)) e .1))
+allKept-of w (x ∷ es) e = let z = zero-and-rest (broken w x) (verdicts (next w x) es) e in (kept-of w x (z .0), allKept-of (next w x) es (z .1))
 
 pub allKept-unbroken : (w : World) (es : List Event) → Orderly (w .state) → AllKept w es → allZero (verdicts w es) ≡ true
 unfolding allZero

@@ -11,7 +11,7 @@ use lib.Dec.{eqb, leb}
 use borrow.Author.Tests.{eqb-true, eqb-false, eq-eqb, leb-false}
 use lib.ListN.{length, getD, set, replicate}
 use Rattle.lent.specs.Tables.{if_then_else_}
-use Rattle.lent.proofs.Choices.{and-yes, case-of, clash, zero-one}
+use Rattle.lent.proofs.Choices.{and-yes, case-of, clash, zero-one, if-second}
 use Rattle.machine.specs.Sizes.{keyCount, sessionCount, rowCount}
 use Rattle.machine.specs.Words.{wordOf}
 use Rattle.machine.specs.Tables.{place, find, any, first, mem}
@@ -68,6 +68,14 @@ module _ {A : Type 0} where
       up (other p e) = other (λ q. p (omega arith)) e
       up (here p e) = here (ap suc p) e
       up (out p e f) = out (ap suc p) e f
+
+  -- a part of an entry after `set` stood at another place before, or was set
+  pub was-part : {B : Type 0} (part : A → B) (l : List A) (i : ℕ) (a : A) (j : ℕ) (d : A) (b : B) → (part d ≡ b → ⊥) → part (getD (set l i a) j d) ≡ b → ((i ≡ j → ⊥) × (part (getD l j d) ≡ b)) ⊎ ((i ≡ j) × (part a ≡ b))
+  was-part part l i a j d b entry e = elim (after-set l i a j d) [
+    | other p q ↦ inl (p, sym (ap part q) ∙ e)
+    | here p q ↦ inr (p, sym (ap part q) ∙ e)
+    | out p q r ↦ absurd (entry (sym (ap part q) ∙ e))
+  ]
 
   -- a part of the entry that the new one has as it was
   pub part-kept : {B : Type 0} (part : A → B) (l : List A) (i : ℕ) (a : A) (j : ℕ) (d : A) → part a ≡ part (getD l i d) → part (getD (set l i a) j d) ≡ part (getD l j d)
@@ -127,23 +135,26 @@ getD-same zero i a = refl
 getD-same (suc n) zero a = refl
 getD-same (suc n) (suc i) a = getD-same n i a
 
+pub part-same : {A B C : Type 0} (part : B → C) (n i : ℕ) (d : B) (c : C) → (part d ≡ c → A) → part (getD (replicate n d) i d) ≡ c → A
+part-same part n i d c differs e = differs (sym (ap part (getD-same n i d)) ∙ e)
+
 -- so nothing stands in the fresh state
 module _ {A : Type 0} (readLife writeLife : ℕ) where
   pub fresh-value : (k : ℕ) (v : Value) → cached (fresh readLife writeLife) k ≡ some v → A
   unfolding fresh
-  fresh-value k v e = no-some v (sym (ap (λ (x : Key). x .value) (getD-same keyCount k blank)) ∙ e)
+  fresh-value k v = part-same (λ (x : Key). x .value) keyCount k blank (some v) (no-some v)
 
   pub fresh-lease : (k : ℕ) (l : Lease) → leaseOn (fresh readLife writeLife) k ≡ some l → A
   unfolding fresh
-  fresh-lease k l e = no-some l (sym (ap (λ (x : Key). x .lease) (getD-same keyCount k blank)) ∙ e)
+  fresh-lease k l = part-same (λ (x : Key). x .lease) keyCount k blank (some l) (no-some l)
 
   pub fresh-session : (i : ℕ) (x : Session) → sessionAt (fresh readLife writeLife) i ≡ session x → A
   unfolding fresh
-  fresh-session i x e = no-session x (sym (getD-same sessionCount i noSession) ∙ e)
+  fresh-session i x = part-same (λ (y : Slot). y) sessionCount i noSession (session x) (no-session x)
 
   pub fresh-row : (i n k d : ℕ) (v : Staged) → rowAt (fresh readLife writeLife) i ≡ row n k d v → A
   unfolding fresh
-  fresh-row i n k d v e = no-row n k d v (sym (getD-same rowCount i noRow) ∙ e)
+  fresh-row i n k d v = part-same (λ (y : Row). y) rowCount i noRow (row n k d v) (no-row n k d v)
 
 -- a list of one number
 pub mem-one : (m n : ℕ) → mem m (n ∷ []) ≡ true → m ≡ n
@@ -184,22 +195,14 @@ of-on-taken n k (row m j d v) e = refl
 
 pub freed-was : (ns : List ℕ) (r : Row) (n k d : ℕ) (v : Staged) → freeIfOf ns r ≡ row n k d v → (r ≡ row n k d v) × (mem n ns ≡ false)
 freed-was ns noRow n k d v e = no-row n k d v e
-freed-was ns (row m j c u) n k d v e = go (case-of (mem m ns))
-  where
-    go : (mem m ns ≡ true) ⊎ (mem m ns ≡ false) → (row m j c u ≡ row n k d v) × (mem n ns ≡ false)
-    go (inl q) = no-row n k d v (rw q at e)
-    go (inr q) = let f : row m j c u ≡ row n k d v = rw q at e in let g : m ≡ n = cc in (f, rw (← g) q)
+freed-was ns (row m j c u) n k d v e = let f = if-second (mem m ns) (no-row n k d v) e in let g : m ≡ n = cc in (f .0, rw (← g) (f .1))
 
 pub not-freed : (ns : List ℕ) (r : Row) (n k d : ℕ) (v : Staged) → r ≡ row n k d v → mem n ns ≡ false → freeIfOf ns r ≡ row n k d v
 not-freed ns r n k d v e q = rw e (rw q)
 
 pub ended-was : (ns : List ℕ) (r : Slot) (l : Session) → freeSession ns r ≡ session l → (r ≡ session l) × (mem (l .number) ns ≡ false)
 ended-was ns noSession l e = no-session l e
-ended-was ns (session m) l e = go (case-of (mem (m .number) ns))
-  where
-    go : (mem (m .number) ns ≡ true) ⊎ (mem (m .number) ns ≡ false) → (session m ≡ session l) × (mem (l .number) ns ≡ false)
-    go (inl h) = no-session l (rw h at e)
-    go (inr h) = let f : session m ≡ session l = rw h at e in let g : m ≡ l = cc in (f, sym (ap (λ (x : Session). mem (x .number) ns) g) ∙ h)
+ended-was ns (session m) l e = let f = if-second (mem (m .number) ns) (no-session l) e in let g : m ≡ l = cc in (f .0, rw (← g) (f .1))
 
 -- who is among those passes the test; and who passes it is among them
 pub among-those : (p : Session → Bool) (l : List Slot) (n : ℕ) → mem n (those p l) ≡ true → (i : ℕ) × (m : Session) × (getD l i noSession ≡ session m) × (m .number ≡ n) × (p m ≡ true)
@@ -233,21 +236,9 @@ due-open now (Life.Open t) e q = zero-one cc
 -- a lease that is left was there, and ends after now
 pub unlapsed-was : (now : ℕ) (o : Option Lease) (l : Lease) → unlapsed now o ≡ some l → (o ≡ some l) × (now < l .until)
 unlapsed-was now none l e = no-some l e
-unlapsed-was now (some m) l e = go (case-of (leb (m .until) now))
-  where
-    go : (leb (m .until) now ≡ true) ⊎ (leb (m .until) now ≡ false) → (some m ≡ some l) × (now < l .until)
-    go (inl h) = no-some l (rw h at e)
-    go (inr h) = let f : some m ≡ some l = rw h at e in (f, subst (λ (x : Lease). now < x .until) (some-eq m l f) (leb-false (m .until) now h))
+unlapsed-was now (some m) l e = let f = if-second (leb (m .until) now) (no-some l) e in let g : m ≡ l = cc in (f .0, leb-false (l .until) now (rw (← g) (f .1)))
 
 -- Values and leases
-
-pub value-after : (l : List Key) (j : ℕ) (o : Option Value) (k : ℕ) → (getD (setValue l j o) k blank .value ≡ getD l k blank .value) ⊎ ((j ≡ k) × (getD (setValue l j o) k blank .value ≡ o))
-value-after l j o k = go (after-set l j (record { value = o; lease = getD l j blank .lease }) k blank)
-  where
-    go : AfterSet l j (record { value = o; lease = getD l j blank .lease }) k blank → (getD (setValue l j o) k blank .value ≡ getD l k blank .value) ⊎ ((j ≡ k) × (getD (setValue l j o) k blank .value ≡ o))
-    go (other p e) = inl (ap (λ (x : Key). x .value) e)
-    go (here p e) = inr (p, ap (λ (x : Key). x .value) e)
-    go (out p e f) = inl (ap (λ (x : Key). x .value) (e ∙ sym f))
 
 pub value-lease : (l : List Key) (j : ℕ) (o : Option Value) (k : ℕ) → getD (setValue l j o) k blank .lease ≡ getD l k blank .lease
 value-lease l j o k = part-kept (λ (x : Key). x .lease) l j _ k blank refl
@@ -255,16 +246,17 @@ value-lease l j o k = part-kept (λ (x : Key). x .lease) l j _ k blank refl
 pub lease-value : (l : List Key) (j : ℕ) (o : Option Lease) (k : ℕ) → getD (setLease l j o) k blank .value ≡ getD l k blank .value
 lease-value l j o k = part-kept (λ (x : Key). x .value) l j _ k blank refl
 
--- the lease of a key after one was set: untouched elsewhere; here the new one, or none
-pub lease-after : (l : List Key) (j : ℕ) (o : Option Lease) (k : ℕ)
-    → ((j ≡ k → ⊥) × (getD (setLease l j o) k blank .lease ≡ getD l k blank .lease)) ⊎ ((j ≡ k) × ((getD (setLease l j o) k blank .lease ≡ o) ⊎ (getD (setLease l j o) k blank .lease ≡ none)))
-lease-after l j o k = go (after-set l j (record { value = getD l j blank .value; lease = o }) k blank)
-  where
-    go : AfterSet l j (record { value = getD l j blank .value; lease = o }) k blank
-        → ((j ≡ k → ⊥) × (getD (setLease l j o) k blank .lease ≡ getD l k blank .lease)) ⊎ ((j ≡ k) × ((getD (setLease l j o) k blank .lease ≡ o) ⊎ (getD (setLease l j o) k blank .lease ≡ none)))
-    go (other p e) = inl (p, ap (λ (x : Key). x .lease) e)
-    go (here p e) = inr (p, inl (ap (λ (x : Key). x .lease) e))
-    go (out p e f) = inr (p, inr (ap (λ (x : Key). x .lease) e))
+-- the value or the lease of a key after one was set: it was there, on another key, or was set
+pub key-was : {B : Type 0} (part : Key → Option B) → part blank ≡ none → (l : List Key) (j : ℕ) (x : Key) (k : ℕ) (b : B) → part (getD (set l j x) k blank) ≡ some b → ((j ≡ k → ⊥) × (part (getD l k blank) ≡ some b)) ⊎ ((j ≡ k) × (part x ≡ some b))
+key-was part q l j x k b = was-part part l j x k blank (some b) (λ e. no-some b (sym q ∙ e))
+
+-- where y was set
+pub set-was : {B : Type 0} (part : Key → Option B) → part blank ≡ none → (l : List Key) (j : ℕ) (x : Key) (y : B) → part x ≡ some y → (k : ℕ) (b : B) → part (getD (set l j x) k blank) ≡ some b → (part (getD l k blank) ≡ some b) ⊎ ((j ≡ k) × (y ≡ b))
+set-was part q l j x y is k b e = elim (key-was part q l j x k b e) [ inl p ↦ inl (p .1) | inr p ↦ inr (p .0, some-eq y b (sym is ∙ p .1)) ]
+
+-- where none was
+pub unset-was : {B : Type 0} (part : Key → Option B) → part blank ≡ none → (l : List Key) (j : ℕ) (x : Key) → part x ≡ none → (k : ℕ) (b : B) → part (getD (set l j x) k blank) ≡ some b → (j ≡ k → ⊥) × (part (getD l k blank) ≡ some b)
+unset-was part q l j x is k b e = elim (key-was part q l j x k b e) [ inl p ↦ p | inr p ↦ no-some b (sym is ∙ p .1) ]
 
 -- a value after the rows of the sessions ns have set theirs: the old one, and none of those rows is on the key; or one that such a row set
 abbrev pub Untouched : List ℕ → List Row → ℕ → Type 0
@@ -306,14 +298,15 @@ module _ (ns : List ℕ) (f : Staged → Option Value) (k : ℕ) (v : Value) whe
       left q (inr s) = inr (set-by-cons (row m j d u) rs s)
 
       -- it is, and the key is set by f
-      set-here : mem m ns ≡ true → AfterSet ks j (record { value = f u; lease = getD ks j blank .lease }) k blank → Result (setValue ks j (f u)) rs → Result ks (row m j d u ∷ rs)
-      set-here q a (inr s) = inr (set-by-cons (row m j d u) rs s)
-      set-here q (other p x) (inl h) = inl (sym (ap (λ (y : Key). y .value) x) ∙ h .0, untouched-cons ns k (row m j d u) rs (λ n d′ u′ y. absurd (p (cc))) (h .1))
-      set-here q (here p x) (inl h) = inr (record { place = 0; number = m; kind = d; what = u; is = ap (λ (y : ℕ). row m y d u) p; among = q; gives = sym (ap (λ (y : Key). y .value) x) ∙ h .0 })
-      set-here q (out p x y) (inl h) = no-some v (sym (ap (λ (y : Key). y .value) x) ∙ h .0)
+      set-here : mem m ns ≡ true → Result (setValue ks j (f u)) rs → Result ks (row m j d u ∷ rs)
+      set-here q (inr s) = inr (set-by-cons (row m j d u) rs s)
+      set-here q (inl h) = elim (key-was (λ (y : Key). y .value) refl ks j _ k v (h .0)) [
+        | inl x ↦ inl (x .1, untouched-cons ns k (row m j d u) rs (λ n d′ u′ y. absurd (x .0 (cc))) (h .1))
+        | inr x ↦ inr (record { place = 0; number = m; kind = d; what = u; is = ap (λ (y : ℕ). row m y d u) (x .0); among = q; gives = x .1 })
+      ]
 
       go : (mem m ns ≡ true) ⊎ (mem m ns ≡ false) → ((ks′ : List Key) → getD (settle ns f rs ks′) k blank .value ≡ some v → Result ks′ rs) → Result ks (row m j d u ∷ rs)
-      go (inl q) r = set-here q (after-set ks j (record { value = f u; lease = getD ks j blank .lease }) k blank) (r (setValue ks j (f u)) (rw q at e))
+      go (inl q) r = set-here q (r (setValue ks j (f u)) (rw q at e))
       go (inr q) r = left q (r ks (rw q at e))
 
 pub settle-lease : (ns : List ℕ) (f : Staged → Option Value) (k : ℕ) (rs : List Row) (ks : List Key) → getD (settle ns f rs ks) k blank .lease ≡ getD ks k blank .lease

@@ -125,8 +125,7 @@ module _ (t : State) (now k : ℕ) (h : WellFormed t now) where
   sealed-of : (n : ℕ) → HasRow (t .rows) n k → slotEnd (sessionOf t n) ≡ none → Sealed t n
   sealed-of n r e =
       let x = h .live (r .place) (r .is) in
-      let y = Accepted.session-of t n (Accepted.found-live t n (x .place) (x .live) (x .is) (x .number)) in
-      record { place = sessionPlace t n; live = y .0; is = y .1; number = y .2; life = ended-sealed (y .0 .life) (rw (y .1) at e) }
+      Accepted.sealed-session t n (Accepted.found-live t n (x .place) (x .live) (x .is) (x .number)) (λ y q. ended-sealed (y .life) (rw q at e))
 
   -- a key that is blocked with no I lease on it has a row on it
   blocked-row : blocked t k ≡ true → leaseOn t k ≡ none → (n : ℕ) × HasRow (t .rows) n k

@@ -63,7 +63,7 @@ settle-length ns f (row m j d u ∷ rs) ks = go (mem m ns) (settle-length ns f r
 module _ (s : State) (now : ℕ) (h : WellFormed s now) where
   -- the keys change: each value fits, each lease was there
   well-keys : (ks : List Key) → length ks ≡ length (s .keys) → ((k : ℕ) (v : Value) → getD ks k blank .value ≡ some v → Fine v)
-      → ((k : ℕ) (l : Lease) → getD ks k blank .lease ≡ some l → leaseOn s k ≡ some l) → WellFormed (withKeys s ks) now
+      → OrderlyKept.LeasesFrom ks s → WellFormed (withKeys s ks) now
   well-keys ks n fv fl = record {
     orderly = OrderlyKept.orderly-keys s ks (λ k l p. inl (fl k l p)) (h .orderly);
     head = h .head;
@@ -85,7 +85,7 @@ module _ (s : State) (now : ℕ) (h : WellFormed s now) where
 
   pub well-evict : (k : ℕ) → WellFormed (withKeys s (setValue (s .keys) k none)) now
   well-evict k = well-keys (setValue (s .keys) k none) (length-set (s .keys) k _)
-      (λ j u p. elim (Views.value-after (s .keys) k none j) [ inl e ↦ h .keys .values j (sym e ∙ p) | inr e ↦ Views.no-some u (sym (e .1) ∙ p) ])
+      (λ j u p. h .keys .values j (Views.unset-was (λ (x : Key). x .value) refl (s .keys) k _ refl j u p .1))
       (λ j l p. sym (Views.value-lease (s .keys) k none j) ∙ p)
 
   -- sessions end with their rows

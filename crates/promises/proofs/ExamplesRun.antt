@@ -7,6 +7,7 @@ use Prim.Native.Nat.{ℕ}
 use Rattle.lent.specs.Bytes.{Bytes}
 use Rattle.lent.specs.Tables.{every}
 use Rattle.lent.proofs.Choices.{and-yes}
+use Rattle.lent.proofs.Runs.{run-keeps}
 use Rattle.machine.specs.State.{State}
 use Rattle.machine.specs.Sound.{valueSound}
 use Rattle.machine.specs.Examples.{exampleReadLife, exampleWriteLife, Line, after, answers, Example, answered, examples}
@@ -17,6 +18,7 @@ use Rattle.layout.specs.Layout.{decode}
 use Rattle.layout.specs.WellFormed.{wellFormed}
 use Rattle.startup.specs.Start.{Reply, startOf}
 use Rattle.startup.proofs.Sound.{ready-formed, ready-decodes}
+use Rattle.cache.specs.Run.{ran}
 use Rattle.cache.proofs.Taken.{ran-formed}
 use Rattle.promises.specs.Told.{afterBytes, answersBytes, toldBytes}
 use Rattle.promises.proofs.Ran.{formed-kept, decode-ran}
@@ -37,8 +39,8 @@ module _ (x : Line) (l : List Line) (h : valued (x ∷ l) ≡ true) where
 
 -- the commands that come first
 after-formed : (b : List ℕ) (l : List Line) → valued l ≡ true → wellFormed b ≡ true → wellFormed (afterBytes b l) ≡ true
-after-formed b [] h f = f
-after-formed b (x ∷ l) h f = after-formed _ l (rest-valued x l h) (formed-kept b (x .at) (x .command) (x .value) (head-bytes x l h) f)
+after-formed = run-keeps (λ b x. ran b (x .at) (x .command) (x .value) .bytes) afterBytes (λ b. refl) (λ b x l. refl) (λ b l. valued l ≡ true) (λ b. wellFormed b ≡ true)
+    (λ b x l h f. (formed-kept b (x .at) (x .command) (x .value) (head-bytes x l h) f, rest-valued x l h))
 
 after-follows : (b : List ℕ) (l : List Line) → valued l ≡ true → wellFormed b ≡ true → decode (afterBytes b l) ≡ after (decode b) l
 after-follows b [] h f = refl

@@ -4,6 +4,7 @@ use mathlib.Core.Path.{_≡_, refl, ap, _∙_}
 use mathlib.Core.Bool.{true}
 use mathlib.Core.List.{List, [], _∷_, _++_}
 use Prim.Native.Nat.{ℕ}
+use Rattle.lent.proofs.Runs.{run-keeps}
 use Rattle.machine.specs.State.{Value, State}
 use Rattle.machine.specs.Step.{step}
 use Rattle.machine.specs.World.{Event, command, write, World, commanded, written, next, run, AllKept, Consistent, EventBytes, AllBytes}
@@ -37,10 +38,6 @@ next-follows w (write n k v) x f = refl
 
 -- ---- every run
 
-run-formed : (w : ByteWorld) (es : List Event) → AllBytes es → wellFormed (w .bytes) ≡ true → wellFormed (runBytes w es .bytes) ≡ true
-run-formed w [] x f = f
-run-formed w (e ∷ es) x f = run-formed (nextBytes w e) es (x .1) (next-formed w e (x .0) f)
-
 -- a run on the bytes is the machine's run on what they say
 run-follows : (w : ByteWorld) (es : List Event) → AllBytes es → wellFormed (w .bytes) ≡ true → worldOf (runBytes w es) ≡ run (worldOf w) es
 run-follows w [] x f = refl
@@ -71,4 +68,5 @@ module _ (b : List ℕ) (readLife writeLife : ℕ) (ready : startOf b readLife w
 
   -- and the bytes are well formed at each
   pub formed-bytes : (es : List Event) → AllBytes es → wellFormed (runBytes (begunOn (startOf b readLife writeLife .bytes)) es .bytes) ≡ true
-  formed-bytes es x = run-formed (begunOn (startOf b readLife writeLife .bytes)) es x (ready-formed b readLife writeLife ready)
+  formed-bytes es x = run-keeps nextBytes runBytes (λ w. refl) (λ w e es. refl) (λ w. AllBytes) (λ (w : ByteWorld). wellFormed (w .bytes) ≡ true) (λ w e es x f. (next-formed w e (x .0) f, x .1))
+      (begunOn (startOf b readLife writeLife .bytes)) es x (ready-formed b readLife writeLife ready)

@@ -15,18 +15,18 @@ use Rattle.show.specs.Show.{showOf}
 use Rattle.cache.specs.Run.{ran}
 use Rattle.numbered.specs.Commands.{ranBy}
 use Rattle.numbered.specs.declared.Numbered.{Numbered}
-use Rattle.promises.specs.OneAnswer.{Given}
+use Rattle.promises.specs.OneAnswer.{OneGiven}
 
 pub one-answer : {A : Type 0} (f x y : A) → x ≡ f → y ≡ f → x ≡ y
 one-answer f x y p q = p ∙ sym q
 
-one-reply : (f : Reply) (r t : Answer) (x y : List ℕ) → Given f r x → Given f t y → (r ≡ t) × (x ≡ y)
+one-reply : (f : Reply) → OneGiven f
 one-reply f r t x y p q = (one-answer (f .answer) r t (p .0) (q .0), one-answer (f .bytes) x y (p .1) (q .1))
 
-pub one-run : (b : List ℕ) (time : ℕ) (c : Command) (v : Value) (r t : Answer) (x y : List ℕ) → Given (ran b time c v) r x → Given (ran b time c v) t y → (r ≡ t) × (x ≡ y)
+pub one-run : (b : List ℕ) (time : ℕ) (c : Command) (v : Value) → OneGiven (ran b time c v)
 one-run b time c v = one-reply (ran b time c v)
 
-pub one-start : (b : List ℕ) (readLife writeLife : ℕ) (r t : Answer) (x y : List ℕ) → Given (startOf b readLife writeLife) r x → Given (startOf b readLife writeLife) t y → (r ≡ t) × (x ≡ y)
+pub one-start : (b : List ℕ) (readLife writeLife : ℕ) → OneGiven (startOf b readLife writeLife)
 one-start b readLife writeLife = one-reply (startOf b readLife writeLife)
 
 pub one-formed : (b : List ℕ) (x y : Bool) → x ≡ wellFormed b → y ≡ wellFormed b → x ≡ y
@@ -39,5 +39,5 @@ one-show b n k = one-answer (showOf b n k .answer)
 pub one-stretch : (s r t : RefT (List ℕ)) (n k : ℕ) → Stretch s r (showOf (s .now) n k) → Stretch s t (showOf (s .now) n k) → (r .ptr ≡ t .ptr) × (r .now ≡ t .now)
 one-stretch s r t n k p q = (one-answer _ (r .ptr) (t .ptr) (p .place) (q .place), one-answer _ (r .now) (t .now) (p .value) (q .value))
 
-pub one-numbered : (b : List ℕ) (time : ℕ) (v : Value) (n : Numbered) (r t : Answer) (x y : List ℕ) → Given (ranBy b time v n) r x → Given (ranBy b time v n) t y → (r ≡ t) × (x ≡ y)
+pub one-numbered : (b : List ℕ) (time : ℕ) (v : Value) (n : Numbered) → OneGiven (ranBy b time v n)
 one-numbered b time v n = one-reply (ranBy b time v n)

@@ -8,14 +8,14 @@ use mathlib.Core.Option.{Option, none, some}
 use Prim.Native.Nat.{ℕ, _+_, _≤_}
 use native.Mathlib.Omega.{arith}
 use lib.Dec.{eqb, ltb}
-use lib.ListN.{getD, set}
+use lib.ListN.{set}
 use Rattle.lent.proofs.Choices.{if-ind}
-use Rattle.machine.specs.Tables.{place, isNone}
+use Rattle.machine.specs.Tables.{isNone}
 use Rattle.machine.specs.Words.{wordOf, LEASE}
-use Rattle.machine.specs.Session.{opened, advanced, sealed, isDue}
+use Rattle.machine.specs.Session.{advanced, sealed, isDue}
 use Rattle.machine.specs.Decision.{grants}
-use Rattle.machine.specs.State.{Value, Lease, Key, blank, noSession, session, Staged, staged, State, free, freeRow, kindOf, stagedIn, rowOf, cached, leaseOn, sessionAt}
-use Rattle.machine.specs.Expiry.{withKeys, withClock, setValue, setLease, settle, leave, finish, those, expire}
+use Rattle.machine.specs.State.{Value, Lease, Key, session, Staged, staged, State, freeRow, kindOf, stagedIn, rowOf, cached, leaseOn, sessionAt}
+use Rattle.machine.specs.Expiry.{withKeys, withClock, setValue, settle, leave, finish, those, expire}
 use Rattle.machine.specs.Refusals.{decide, blocked, Sight, sight, countOf, refusal}
 use Rattle.machine.specs.Effects.{Outcome, told, begins, wait, leased, missed, looked, matches, fills, asks, changed, stagedAnswer, withSession, withStaged, stages, toCache, effect}
 use Rattle.machine.specs.Step.{settled, step}
@@ -33,28 +33,24 @@ pub data Leases (s : State) (c : Command) (a : Answer) (t : State) : Type 0 wher
   grant : (n k : ℕ) → c ≡ Get n k → a ≡ Answer.Lease (s .head .nextToken)
       → ((j : ℕ) (l : Lease) → leaseOn t j ≡ some l → ((k ≡ j → ⊥) × (leaseOn s j ≡ some l)) ⊎ ((k ≡ j) × (l .token ≡ s .head .nextToken))) → Leases s c a t
 
--- a session of t at place i: its number is new, or it stood there
-abbrev pub StoodAt : State → ℕ → Session → Type 0
-StoodAt s i x = (s .head .nextSession ≤ x .number) ⊎ ((m : Session) × (sessionAt s i ≡ session m) × (m .number ≡ x .number))
-
 pub record Moves (s : State) (c : Command) (r : Outcome) : Type 0 where
   pub leases : Leases s c (r .answer) (r .after)
-  pub places : (i : ℕ) (x : Session) → sessionAt (r .after) i ≡ session x → StoodAt s i x
+  pub places : (i : ℕ) (x : Session) → sessionAt (r .after) i ≡ session x → OrderlyKept.StoodAt s i x
   pub grows : s .head .nextSession ≤ r .after .head .nextSession
 
 module _ (s : State) (c : Command) where
   -- nothing changes
   moves-still : (a : Answer) (v : Value) → eqb (wordOf a) LEASE ≡ false → Moves s c (record { answer = a; handed = v; after = s })
-  moves-still a v q = record { leases = quiet q (λ k l e. e); places = λ i x e. inr (x, e, refl); grows = omega arith }
+  moves-still a v q = record { leases = quiet q (λ k l e. e); places = λ i x e. inr (x, e, refl, λ q. q); grows = omega arith }
 
   -- values change, and leases go
-  moves-keyed : (a : Answer) (ks : List Key) → eqb (wordOf a) LEASE ≡ false → ((k : ℕ) (l : Lease) → getD ks k blank .lease ≡ some l → leaseOn s k ≡ some l) → Moves s c (told a (withKeys s ks))
-  moves-keyed a ks q f = record { leases = quiet q f; places = λ i x e. inr (x, e, refl); grows = omega arith }
+  moves-keyed : (a : Answer) (ks : List Key) → eqb (wordOf a) LEASE ≡ false → OrderlyKept.LeasesFrom ks s → Moves s c (told a (withKeys s ks))
+  moves-keyed a ks q f = record { leases = quiet q f; places = λ i x e. inr (x, e, refl, λ q. q); grows = omega arith }
 
   -- sessions end
-  moves-ended : (a : Answer) (ns : List ℕ) (ks : List Key) → eqb (wordOf a) LEASE ≡ false → ((k : ℕ) (l : Lease) → getD ks k blank .lease ≡ some l → leaseOn s k ≡ some l) → Moves s c (told a (leave ns (withKeys s ks)))
+  moves-ended : (a : Answer) (ns : List ℕ) (ks : List Key) → eqb (wordOf a) LEASE ≡ false → OrderlyKept.LeasesFrom ks s → Moves s c (told a (leave ns (withKeys s ks)))
   unfolding leave
-  moves-ended a ns ks q f = record { leases = quiet q f; places = λ i x e. inr (x, OrderlyKept.was-session ns (s .sessions) i x e .0, refl); grows = omega arith }
+  moves-ended a ns ks q f = record { leases = quiet q f; places = λ i x e. inr (x, OrderlyKept.was-session ns (s .sessions) i x e .0, refl, λ q. q); grows = omega arith }
 
   moves-left : (a : Answer) (n : ℕ) → eqb (wordOf a) LEASE ≡ false → Moves s c (told a (leave (n ∷ []) s))
   moves-left a n q = moves-ended a (n ∷ []) (s .keys) q (λ k l e. e)
@@ -63,27 +59,15 @@ module _ (s : State) (c : Command) where
   unfolding finish
   moves-finished n = moves-ended Answer.Done (n ∷ []) (settle (n ∷ []) toCache (s .rows) (s .keys)) refl (λ k l e. sym (Views.settle-lease (n ∷ []) toCache k (s .rows) (s .keys)) ∙ e)
 
-  -- one session is put through f, which keeps its number
-  stood-slot : (n : ℕ) (f : Session → Session) → ((m : Session) → f m .number ≡ m .number) → (i : ℕ) (x : Session) → sessionAt (withSession s n f) i ≡ session x → StoodAt s i x
-  stood-slot n f same i x e = let r = OrderlyKept.was-slot s n f i x e in
-      inr (r .0, r .1, elim (r .2) [ inl p ↦ sym (ap (λ (y : Session). y .number) p) | inr p ↦ sym (ap (λ (y : Session). y .number) (p .1) ∙ same (r .0)) ])
-
   moves-begun : (now : ℕ) → Moves s c (begins s now)
   unfolding begins
-  moves-begun now = record {
-    leases = quiet refl (λ k l e. e);
-    places = λ i x e. elim (OrderlyKept.was-set (s .sessions) (place free (s .sessions)) (session (opened (s .head .nextSession) (now + s .head .writeLife))) i noSession (session x) (Views.no-session x) e) [
-      | inl p ↦ inr (x, p, refl)
-      | inr p ↦ inl (let y = p .1 in let z : s .head .nextSession ≡ x .number = cc in omega arith)
-    ];
-    grows = omega arith;
-  }
+  moves-begun now = record { leases = quiet refl (λ k l e. e); places = OrderlyKept.begun-stood s now; grows = omega arith }
 
   moves-staged : (n k : ℕ) (u : Staged) → Moves s c (told (stagedAnswer u) (withStaged (withSession s n advanced) n k u))
-  moves-staged n k u = record { leases = quiet (staged-quiet u) (λ j l e. e); places = stood-slot n advanced (λ m. refl); grows = omega arith }
+  moves-staged n k u = record { leases = quiet (staged-quiet u) (λ j l e. e); places = OrderlyKept.slot-stood s n advanced (λ m. (refl, λ q. q)); grows = omega arith }
 
   moves-sealed : (n : ℕ) → Moves s c (told Answer.Validated (withSession s n sealed))
-  moves-sealed n = record { leases = quiet refl (λ j l e. e); places = stood-slot n sealed (λ m. refl); grows = omega arith }
+  moves-sealed n = record { leases = quiet refl (λ j l e. e); places = OrderlyKept.slot-stood s n sealed (λ m. (refl, λ q. refl)); grows = omega arith }
 
   moves-staging : (n i k : ℕ) (u : Staged) → Moves s c (stages s n i k u)
   unfolding stages
@@ -92,31 +76,19 @@ module _ (s : State) (c : Command) where
   moves-asked : (n k kind : ℕ) → Moves s c (asks s n k kind)
   unfolding asks
   moves-asked n k kind = if-ind (Moves s c) (grants (decide s k kind))
-      (λ e. record { leases = quiet refl (λ j l p. OrderlyKept.voided-was s k j l p .1); places = λ i x p. inr (x, p, refl); grows = omega arith }) (λ e. moves-left Answer.Aborted n refl)
+      (λ e. record { leases = quiet refl (λ j l p. OrderlyKept.voided-was s k j l p .1); places = λ i x p. inr (x, p, refl, λ q. q); grows = omega arith }) (λ e. moves-left Answer.Aborted n refl)
 
 -- GET answered LEASE
 moves-leased : (s : State) (now n k : ℕ) → Moves s (Get n k) (leased s now k)
 unfolding leased
 moves-leased s now n k = record {
-  leases = grant n k refl refl (λ j l e. there j l e (Views.lease-after (s .keys) k (some new) j));
-  places = λ i x e. inr (x, e, refl);
+  leases = grant n k refl refl (λ j l e. elim (Views.key-was (λ (y : Key). y .lease) refl (s .keys) k _ j l e) [ inl x ↦ inl x | inr x ↦ inr (x .0, sym (ap (λ (y : Lease). y .token) (Views.some-eq new l (x .1)))) ]);
+  places = λ i x e. inr (x, e, refl, λ q. q);
   grows = omega arith;
 }
   where
     new : Lease
     new = record { token = s .head .nextToken; until = now + s .head .readLife }
-
-    ks : List Key
-    ks = setLease (s .keys) k (some new)
-
-    there : (j : ℕ) (l : Lease) → getD ks j blank .lease ≡ some l
-        → ((k ≡ j → ⊥) × (getD ks j blank .lease ≡ leaseOn s j)) ⊎ ((k ≡ j) × ((getD ks j blank .lease ≡ some new) ⊎ (getD ks j blank .lease ≡ none)))
-        → ((k ≡ j → ⊥) × (leaseOn s j ≡ some l)) ⊎ ((k ≡ j) × (l .token ≡ s .head .nextToken))
-    there j l e (inl x) = inl (x .0, sym (x .1) ∙ e)
-    there j l e (inr x) = elim (x .1) [
-      | inl y ↦ inr (x .0, sym (ap (λ (z : Lease). z .token) (Views.some-eq new l (sym y ∙ e))))
-      | inr y ↦ Views.no-some l (sym y ∙ e)
-    ]
 
 moves-looked : (s : State) (now n k : ℕ) (o : Option Sight) → Moves s (Get n k) (looked s now n k o)
 unfolding looked missed
@@ -151,7 +123,7 @@ moves-expired : (s : State) (now : ℕ) (c : Command) (r : Outcome) → Moves (e
 unfolding expire finish leave
 moves-expired s now c r m = record {
   leases = back (m .leases);
-  places = λ i x e. elim (m .places i x e) [ inl p ↦ inl p | inr p ↦ inr (p .0, expire-session now s i (p .0) (p .1), p .2) ];
+  places = λ i x e. elim (m .places i x e) [ inl p ↦ inl p | inr p ↦ inr (p .0, expire-session now s i (p .0) (p .1), p .2, p .3) ];
   grows = m .grows;
 }
   where

@@ -3,11 +3,12 @@
 use mathlib.Core.Path.{_≡_, refl, sym, ap, _∙_}
 use mathlib.Core.Bool.{true, false, not, _&&_}
 use mathlib.Core.Logic.{_⊎_, inl, inr}
-use mathlib.Core.List.{List}
+use mathlib.Core.List.{List, _∷_}
 use mathlib.Core.Option.{Option, none, some}
 use Prim.Native.Nat.{ℕ}
 use borrow.Author.Tests.{eqb-true}
 use lib.Dec.{eqb}
+use lib.ListN.{getD}
 use Rattle.lent.specs.Tables.{same}
 use Rattle.lent.proofs.Choices.{case-of, clash, if-ind}
 use Rattle.machine.specs.Tables.{any, mem}
@@ -15,7 +16,7 @@ use Rattle.machine.specs.Words.{wordOf, DONE, UNDONE}
 use Rattle.machine.specs.Session.{isDue}
 use Rattle.machine.specs.State.{Value, nothing, staged, DROP, Row, noRow, row, State, sessionPlace}
 use Rattle.machine.specs.Expiry.{freeIfOf, leave, finish, those, expire}
-use Rattle.machine.specs.Refusals.{notLive, refusals, refusal}
+use Rattle.machine.specs.Refusals.{notLive, clockRefusal, refusals, refusal}
 use Rattle.machine.specs.Effects.{effect}
 use Rattle.machine.specs.Step.{settled, step}
 use Rattle.machine.specs.Test.{differs}
@@ -30,9 +31,10 @@ use Rattle.rehearsed.proofs.Moves.{expire-session}
 -- A word that is not REFUSED is that of no refusal
 
 module _ (s : State) (now : ℕ) (c : Command) (v : Value) (word : ℕ) (some-word : eqb REFUSED word ≡ false) where
-  accepted : eqb (wordOf (step s now c v .answer)) word ≡ true → refusal (expire now s) now c v ≡ none
+  -- so each test of the command's list was false
+  accepted-passed : eqb (wordOf (step s now c v .answer)) word ≡ true → (i : ℕ) → getD (clockRefusal (expire now s) now ∷ refusals (expire now s) c v) i (false, 0) .0 ≡ false
   unfolding step settled
-  accepted = go (refusal (expire now s) now c v)
+  accepted-passed p = passed (expire now s) now c v (go (refusal (expire now s) now c v) p)
     where
       go : (o : Option ℕ) → eqb (wordOf (settled s now o (effect (expire now s) now c v) .answer)) word ≡ true → o ≡ none
       go none p = refl
@@ -42,11 +44,11 @@ module _ (s : State) (now n : ℕ) (v : Value) where
   -- DONE and UNDO are accepted of a session that is live after expiry
   pub done-live : eqb (wordOf (step s now (Done n) v .answer)) DONE ≡ true → notLive (expire now s) n ≡ false
   unfolding refusals
-  done-live p = passed (expire now s) now (Done n) v (accepted s now (Done n) v DONE refl p) 1
+  done-live p = accepted-passed s now (Done n) v DONE refl p 1
 
   pub undone-live : eqb (wordOf (step s now (Undo n) v .answer)) UNDONE ≡ true → notLive (expire now s) n ≡ false
   unfolding refusals
-  undone-live p = passed (expire now s) now (Undo n) v (accepted s now (Undo n) v UNDONE refl p) 1
+  undone-live p = accepted-passed s now (Undo n) v UNDONE refl p 1
 
 module _ (now : ℕ) (s : State) (n : ℕ) (live : notLive (expire now s) n ≡ false) where
   pub was-live : notLive s n ≡ false

@@ -8,11 +8,13 @@ use mathlib.Core.List.{List, [], _∷_, List·Memᴰ, List·Memᴰ·head, List·
 use mathlib.Core.Option.{Option, none, some}
 use Prim.Native.Nat.{ℕ, _≤_}
 use native.Mathlib.Omega.{arith}
-use borrow.Author.Tests.{eqb-true, eq-eqb, ne-eqb}
+use borrow.Author.Tests.{eq-eqb, ne-eqb}
 use lib.Dec.{eqb}
 use lib.ListN.{length}
 use Rattle.lent.specs.Tables.{if_then_else_, same, allZero}
-use Rattle.lent.proofs.Choices.{and-yes, clash, if-ind}
+use Rattle.lent.proofs.Choices.{clash, if-ind}
+use Rattle.lent.proofs.Equal.{zero-and-rest}
+use Rattle.lent.proofs.Runs.{run-keeps}
 use Rattle.machine.specs.Tables.{any}
 use Rattle.machine.specs.Words.{wordOf, LEASE, STORED}
 use Rattle.machine.specs.State.{Value, Lease, State, leaseOn}
@@ -38,12 +40,8 @@ use Rattle.rehearsed.proofs.Moves.{Leases, quiet, grant, Moves, moves-s
 -- The test of the two-value form is right: all 0 exactly if the rules are kept
 
 pub allKeptTwo-of : (w : World) (es : List Event) → allZero (verdictsTwo w es) ≡ true → AllKeptTwo w es
-unfolding allZero
 allKeptTwo-of w [] e = tt
-allKeptTwo-of w (x ∷ es) e = (
-  kept-of (twoValues w) x (eqb-true (brokenTwo w x) 0 (and-yes (eqb (brokenTwo w x) 0) (allZero (verdictsTwo (next w x) es)) e .0)),
-  allKeptTwo-of (next w x) es (and-yes (eqb (brokenTwo w x) 0) (allZero (verdictsTwo (next w x) es)) e .1),
-)
+allKeptTwo-of w (x ∷ es) e = let z = zero-and-rest (brokenTwo w x) (verdictsTwo (next w x) es) e in (kept-of (twoValues w) x (z .0), allKeptTwo-of (next w x) es (z .1))
 
 pub allKeptTwo-unbroken : (w : World) (es : List Event) → Orderly (w .state) → AllKeptTwo w es → allZero (verdictsTwo w es) ≡ true
 unfolding allZero
@@ -161,10 +159,6 @@ next-steady : (w : World) (e : Event) → Steady w → WriteKept w e → Steady 
 next-steady w (command now c v) g rule = commanded-steady w g c (step (w .state) now c v) (orderly-step (w .state) now c v (g .orderly)) (moves-step (w .state) now c v)
 next-steady w (write n k v) g rule = written-steady w g n k v (rule .1)
 
-run-steady : (w : World) (es : List Event) → Steady w → WritesKept w es → Steady (run w es)
-run-steady w [] g rules = g
-run-steady w (e ∷ es) g rules = run-steady (next w e) es (next-steady w e g (rules .0)) (rules .1)
-
 -- Then both forms say the same
 
 steady-two : (w : World) → Steady w → (e : Event) → brokenTwo w e ≡ broken w e
@@ -205,7 +199,7 @@ module _ (readLife writeLife : ℕ) (es : List Event) (rules : WritesKept (fresh
   reached = run (freshWorld readLife writeLife) es
 
   steady-run : Steady reached
-  steady-run = run-steady (freshWorld readLife writeLife) es (begun-steady readLife writeLife) rules
+  steady-run = run-keeps next run (λ w. refl) (λ w e es. refl) WritesKept Steady (λ w e es h g. (next-steady w e g (h .0), h .1)) (freshWorld readLife writeLife) es rules (begun-steady readLife writeLife)
 
   -- the theorem: the two-value form is rule 1
   pub two-values-rule-1 : (e : Event) → brokenTwo reached e ≡ broken reached e

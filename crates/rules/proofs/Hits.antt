@@ -6,27 +6,25 @@ use mathlib.Core.Bool.{Bool, true, false}
 use mathlib.Core.List.{List}
 use mathlib.Core.Option.{Option, none, some}
 use native.Mathlib.Omega.{arith}
-use lib.Dec.{eqb}
 use lib.ListN.{length}
 use borrow.Author.Tests.{leb-false}
-use Rattle.lent.specs.Tables.{if_then_else_}
 use Rattle.lent.proofs.Choices.{clash, if-ind}
-use Rattle.machine.specs.Sizes.{stateSize, keyCount, rowCount, valueMax, valueAt, stagedAt}
+use Rattle.machine.specs.Sizes.{stateSize, keyCount, valueMax}
 use Rattle.machine.specs.Tables.{first, mem}
-use Rattle.machine.specs.Words.{wordOf, detailOf, HIT, wordsOf, INVALIDATE}
-use Rattle.machine.specs.State.{Value, nothing, staged, DROP, Row, noRow, row, State, freeRow, rowPlace, rowOf, rowAt, cached}
+use Rattle.machine.specs.Words.{wordOf, detailOf, HIT, wordsOf}
+use Rattle.machine.specs.State.{Value, State, freeRow, rowOf}
 use Rattle.machine.specs.Sound.{sound}
 use Rattle.machine.specs.Expiry.{expire}
-use Rattle.machine.specs.Refusals.{Sight, cachedSight, rowSight, sight, blocked, refusals, refusal, startRefusals}
+use Rattle.machine.specs.Refusals.{Sight, sight, blocked, refusals, refusal, startRefusals}
 use Rattle.machine.specs.Effects.{Outcome, leased, missed, looked, effect}
 use Rattle.machine.specs.Step.{settled, step, started, start}
 use Rattle.machine.specs.declared.Answer.{Answer}
 use Rattle.machine.specs.declared.Command.{Command}
 use Rattle.machine.specs.declared.Command.the-variants.{Begin, Get, Fill, Quar, Stage, Delta, Validate, Done, Undo, Evict, Tick}
-use Rattle.machine.proofs.Views.{no-some, some-eq}
 use Rattle.machine.proofs.Accepted.{passed}
 use Rattle.machine.proofs.KeepsSound.{expire-sound}
 use Rattle.machine.proofs.Refused.{accepted-word}
+use Rattle.machine.proofs.Sights.{sight-ind}
 use Rattle.machine.proofs.SoundFacts as facts
 use Rattle.layout.specs.Layout.{decode}
 use Rattle.layout.specs.WellFormed.{wellFormed}
@@ -42,29 +40,10 @@ pub record ValueInside (at n : ℕ) : Type 0 where
 
 -- ---- what is in sight
 
-module _ (s : State) (ok : sound s ≡ true) (k : ℕ) (l : k < keyCount) where
-  cached-inside : (o : Option Value) → cached s k ≡ o → (x : Sight) → cachedSight k o ≡ some x → ValueInside (x .at) (length (x .value))
-  cached-inside none q x e = no-some x e
-  cached-inside (some v) q x e =
-      let f : length v ≤ valueMax = facts.value-fine s ok k q .short in
-      rw (← some-eq (record { at = valueAt k; value = v }) x e) (record { inside = omega arith; short = f })
-
-  row-inside : (i : ℕ) (r : Row) → rowAt s i ≡ r → (x : Sight) → rowSight i k r (cached s k) ≡ some x → ValueInside (x .at) (length (x .value))
-  row-inside i noRow q x e = cached-inside (cached s k) refl x e
-  row-inside i (row n j d nothing) q x e = go (eqb d INVALIDATE) e
-    where
-      go : (t : Bool) → (if t then none else cachedSight k (cached s k)) ≡ some x → ValueInside (x .at) (length (x .value))
-      go true f = no-some x f
-      go false f = cached-inside (cached s k) refl x f
-  row-inside i (row n j d (staged v)) q x e =
-      let p : i < rowCount = facts.row-place s ok i q in
-      let f : length v ≤ valueMax = facts.row-staged s ok i q .1 .short in
-      rw (← some-eq (record { at = stagedAt i; value = v }) x e) (record { inside = omega arith; short = f })
-  row-inside i (row n j d DROP) q x e = no-some x e
-
-  sight-inside : (n : ℕ) (x : Sight) → sight s n k ≡ some x → ValueInside (x .at) (length (x .value))
-  unfolding sight
-  sight-inside n x e = row-inside (rowPlace s n k) (rowOf s n k) refl x e
+sight-inside : (s : State) → sound s ≡ true → (k : ℕ) → k < keyCount → (n : ℕ) (x : Sight) → sight s n k ≡ some x → ValueInside (x .at) (length (x .value))
+sight-inside s ok k l = sight-ind (λ (x : Sight). ValueInside (x .at) (length (x .value))) s k
+    (λ v q. record { inside = omega (arith, facts.value-fine s ok k q .short); short = facts.value-fine s ok k q .short })
+    (λ i n j d v q. record { inside = omega (arith, facts.row-place s ok i q, facts.row-staged s ok i q .1 .short); short = facts.row-staged s ok i q .1 .short })
 
 -- ---- a HIT
 

@@ -28,44 +28,30 @@ use Rattle.rules.specs.Tests.{watched, asksFor}
 use Rattle.rules.specs.declared.Said.{Said as Told}
 use Rattle.rules.proofs.Hits.{HitInside, ran-inside, start-no-hit}
 
--- ---- the rule broken, by the word at which it counts
+-- ---- the rule broken, by the word at which it counts, which is not that of a refusal
 
-rule-is : (x b : List ℕ) (c : Command) (v : Value) (w : ℕ) → ruleOf x b c v w ≡ (if eqb w (watched c) then riskOf x b c v else 0)
-rule-is x b Begin v w = sym (if-same (eqb w UNREADABLE) 0)
-rule-is x b (Get n k) v w = sym (if-same (eqb w UNREADABLE) 0)
-rule-is x b (Fill t k) v w = if-and-not (eqb w STORED) (same v (registered b k) || same v (granted b k)) 1 0
-rule-is x b (Quar n k d) v w = sym (if-same (eqb w UNREADABLE) 0)
-rule-is x b (Stage n i k) v w = sym (if-same (eqb w UNREADABLE) 0)
-rule-is x b (Delta n i k o) v w = sym (if-same (eqb w UNREADABLE) 0)
-rule-is x b (Validate n m) v w = sym (if-same (eqb w UNREADABLE) 0)
-rule-is x b (Done n) v w = if-and (eqb w DONE) (staleFor x b n) 4 0
-rule-is x b (Undo n) v w = if-and (eqb w UNDONE) (wroteFor x b n) 3 0
-rule-is x b (Evict k) v w = sym (if-same (eqb w UNREADABLE) 0)
-rule-is x b Tick v w = sym (if-same (eqb w UNREADABLE) 0)
-
--- no rule counts at a refusal
-watched-not-refused : (c : Command) → eqb REFUSED (watched c) ≡ false
-watched-not-refused Begin = refl
-watched-not-refused (Get n k) = refl
-watched-not-refused (Fill t k) = refl
-watched-not-refused (Quar n k d) = refl
-watched-not-refused (Stage n i k) = refl
-watched-not-refused (Delta n i k o) = refl
-watched-not-refused (Validate n m) = refl
-watched-not-refused (Done n) = refl
-watched-not-refused (Undo n) = refl
-watched-not-refused (Evict k) = refl
-watched-not-refused Tick = refl
+rule-is : (x b : List ℕ) (c : Command) (v : Value) (w : ℕ) → (ruleOf x b c v w ≡ (if eqb w (watched c) then riskOf x b c v else 0)) × (eqb REFUSED (watched c) ≡ false)
+rule-is x b Begin v w = (sym (if-same (eqb w UNREADABLE) 0), refl)
+rule-is x b (Get n k) v w = (sym (if-same (eqb w UNREADABLE) 0), refl)
+rule-is x b (Fill t k) v w = (if-and-not (eqb w STORED) (same v (registered b k) || same v (granted b k)) 1 0, refl)
+rule-is x b (Quar n k d) v w = (sym (if-same (eqb w UNREADABLE) 0), refl)
+rule-is x b (Stage n i k) v w = (sym (if-same (eqb w UNREADABLE) 0), refl)
+rule-is x b (Delta n i k o) v w = (sym (if-same (eqb w UNREADABLE) 0), refl)
+rule-is x b (Validate n m) v w = (sym (if-same (eqb w UNREADABLE) 0), refl)
+rule-is x b (Done n) v w = (if-and (eqb w DONE) (staleFor x b n) 4 0, refl)
+rule-is x b (Undo n) v w = (if-and (eqb w UNDONE) (wroteFor x b n) 3 0, refl)
+rule-is x b (Evict k) v w = (sym (if-same (eqb w UNREADABLE) 0), refl)
+rule-is x b Tick v w = (sym (if-same (eqb w UNREADABLE) 0), refl)
 
 -- on bytes that are not well formed what would be broken does not matter
 rule-told : (x b : List ℕ) (now : ℕ) (c : Command) (v : Value) (risk w : ℕ) → w ≡ wordOf (ran x now c v .answer) → (wellFormed x ≡ true → risk ≡ riskOf x b c v)
     → (if eqb w (watched c) then risk else 0) ≡ ruleOf x b c v w
 unfolding ran
-rule-told x b now c v risk w e f = go (wellFormed x) refl ∙ sym (rule-is x b c v w)
+rule-told x b now c v risk w e f = go (wellFormed x) refl ∙ sym (rule-is x b c v w .0)
   where
     go : (t : Bool) → wellFormed x ≡ t → (if eqb w (watched c) then risk else 0) ≡ (if eqb w (watched c) then riskOf x b c v else 0)
     go true q = rw (f q)
-    go false q = let z : w ≡ REFUSED = e ∙ rw q in rw (z, watched-not-refused c)
+    go false q = let z : w ≡ REFUSED = e ∙ rw q in rw (z, rule-is x b c v w .1)
 
 -- ---- a grant, by its key
 

@@ -1,6 +1,6 @@
 -- What SHOW comes to, case by case, and that the value which is seen stands at its place in the bytes: a cached value in its key's record, a
 -- staged one in its row's.
-use mathlib.Core.Path.{_≡_, refl, ap, subst}
+use mathlib.Core.Path.{_≡_, refl, ap, subst, _∙_}
 use mathlib.Core.Bool.{Bool, true, false, not, _&&_}
 use mathlib.Core.List.{List, []}
 use mathlib.Core.Option.{Option, none, some}
@@ -10,14 +10,15 @@ use lib.ListN.{length}
 use borrow.Author.Tests.{le-leb, lt-leb, leb-true, leb-false}
 use Rattle.lent.specs.Bytes.{win}
 use Rattle.lent.specs.Tables.{if_then_else_}
+use Rattle.lent.proofs.Choices.{zero-one}
 use Rattle.lent.proofs.Splice.{win-none}
-use Rattle.machine.specs.Sizes.{keyCount, valueAt, stagedAt}
-use Rattle.machine.specs.State.{Value, nothing, staged, DROP, Row, noRow, row, State, stagedIn, rowPlace, rowOf, rowAt, cached}
-use Rattle.machine.specs.Refusals.{Sight as Seen, cachedSight, rowSight, sight, notLive}
+use Rattle.machine.specs.Sizes.{keyCount}
+use Rattle.machine.specs.State.{Value, staged, State, stagedIn}
+use Rattle.machine.specs.Refusals.{Sight as Seen, sight, notLive}
 use Rattle.machine.specs.Step.{Shown, seen, show}
-use Rattle.machine.specs.Words.{ARG, NO-SESSION, INVALIDATE}
+use Rattle.machine.specs.Words.{ARG, NO-SESSION}
 use Rattle.machine.specs.declared.Answer.{Answer}
-use Rattle.machine.proofs.Views.{no-some, some-eq}
+use Rattle.machine.proofs.Sights.{sight-ind}
 use Rattle.machine.proofs.SoundMeans.{row-inside}
 use Rattle.layout.specs.Holds.{Holds}
 use Rattle.layout.proofs.Held.{value-stands, staged-stands}
@@ -32,28 +33,9 @@ use Rattle.stretches.specs.declared.Span.{Span}
 abbrev pub Stands : List ℕ → ℕ → Value → Type 0
 Stands b at v = win b at (length v) ≡ v
 
-module _ {b : List ℕ} {s : State} (h : Holds b s) (k : ℕ) (l : k < keyCount) where
-  stands-is : (x y : Seen) → Stands b (x .at) (x .value) → some x ≡ some y → Stands b (y .at) (y .value)
-  stands-is x y p e = subst (λ (z : Seen). Stands b (z .at) (z .value)) (some-eq x y e) p
-
-  cached-stands : (o : Option Value) → cached s k ≡ o → (x : Seen) → cachedSight k o ≡ some x → Stands b (x .at) (x .value)
-  cached-stands none q x e = no-some x e
-  cached-stands (some v) q x e = stands-is (record { at = valueAt k; value = v }) x (value-stands h k l v q) e
-
-  row-stands : (i : ℕ) (r : Row) → rowAt s i ≡ r → (x : Seen) → rowSight i k r (cached s k) ≡ some x → Stands b (x .at) (x .value)
-  row-stands i noRow q x e = cached-stands (cached s k) refl x e
-  row-stands i (row n j d nothing) q x e = go (eqb d INVALIDATE) e
-    where
-      go : (t : Bool) → (if t then none else cachedSight k (cached s k)) ≡ some x → Stands b (x .at) (x .value)
-      go true f = no-some x f
-      go false f = cached-stands (cached s k) refl x f
-  row-stands i (row n j d (staged v)) q x e =
-      stands-is (record { at = stagedAt i; value = v }) x (staged-stands h i (row-inside s i n j d (staged v) (h .fits .rows) q) v (ap stagedIn q)) e
-  row-stands i (row n j d DROP) q x e = no-some x e
-
-  sight-stands : (n : ℕ) (x : Seen) → sight s n k ≡ some x → Stands b (x .at) (x .value)
-  unfolding sight
-  sight-stands n x e = row-stands (rowPlace s n k) (rowOf s n k) refl x e
+sight-stands : {b : List ℕ} {s : State} → Holds b s → (k : ℕ) → k < keyCount → (n : ℕ) (x : Seen) → sight s n k ≡ some x → Stands b (x .at) (x .value)
+sight-stands {b} {s} h k l = sight-ind (λ (x : Seen). Stands b (x .at) (x .value)) s k (value-stands h k l)
+    (λ i n j d v q. staged-stands h i (row-inside s i n j d (staged v) (h .fits .rows) q) v (ap stagedIn q))
 
 -- ---- SHOW
 

@@ -1,0 +1,9 @@
+-- A run takes its events one by one, so what each event keeps, the run keeps.
+use mathlib.Core.Path.{_≡_}
+use mathlib.Core.List.{List, [], _∷_}
+
+-- the run of any world through any events, which are as `Ok` says
+module _ {W E : Type 0} (next : W → E → W) (run : W → List E → W) (still : (w : W) → run w [] ≡ w) (first : (w : W) (e : E) (es : List E) → run w (e ∷ es) ≡ run (next w e) es) where
+  pub run-keeps : (Ok : W → List E → Type 0) (P : W → Type 0) → ((w : W) (e : E) (es : List E) → Ok w (e ∷ es) → P w → P (next w e) × Ok (next w e) es) → (w : W) (es : List E) → Ok w es → P w → P (run w es)
+  run-keeps Ok P keeps w [] ok p = rw (still w) p
+  run-keeps Ok P keeps w (e ∷ es) ok p = let r = keeps w e es ok p in rw (first w e es) (run-keeps Ok P keeps (next w e) es (r .1) (r .0))
