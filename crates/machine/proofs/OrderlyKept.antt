@@ -96,9 +96,9 @@ pub was-staged : (s : State) (n k : ℕ) (u : Staged) (i m j d : ℕ) (v : Stage
 was-staged s n k u i m j d v e = elim (was-changed (ofOn n k) (restaged u) (s .rows) i noRow (row m j d v) refl (Views.no-row m j d v) e) [
   | inl h ↦ (v, h, inl refl)
   | inr h ↦ (let r = Views.of-on-row n k (rowAt s i) (h .0) in
-    let here : rowAt s i ≡ row n k (r .0) (r .1) = r .2 in
-    let now : row n k (r .0) u ≡ row m j d v = sym (ap (restaged u) here) ∙ h .1 in
-    (r .1, cc, inr (cc, cc, cc)))
+      let here : rowAt s i ≡ row n k (r .0) (r .1) = r .2 in
+      let now : row n k (r .0) u ≡ row m j d v = sym (ap (restaged u) here) ∙ h .1 in
+      (r .1, cc, inr (cc, cc, cc)))
 ]
 
 -- and each row is still there, with what is staged in it

@@ -1,6 +1,6 @@
 -- What SHOW comes to, case by case, and that the value which is seen stands at its place in the bytes: a cached value in its key's record, a
 -- staged one in its row's.
-use mathlib.Core.Path.{_≡_, refl, ap, subst, _∙_}
+use mathlib.Core.Path.{_≡_, refl, ap}
 use mathlib.Core.Bool.{Bool, true, false, not, _&&_}
 use mathlib.Core.List.{List, []}
 use mathlib.Core.Option.{Option, none, some}
@@ -9,8 +9,6 @@ use lib.Dec.{eqb, leb}
 use lib.ListN.{length}
 use borrow.Author.Tests.{le-leb, lt-leb, leb-true, leb-false}
 use Rattle.lent.specs.Bytes.{win}
-use Rattle.lent.specs.Tables.{if_then_else_}
-use Rattle.lent.proofs.Choices.{zero-one}
 use Rattle.lent.proofs.Splice.{win-none}
 use Rattle.machine.specs.Sizes.{keyCount}
 use Rattle.machine.specs.State.{Value, staged, State, stagedIn}

@@ -37,8 +37,7 @@ loop-less c = search needs
 
 loop-again : tie.Need-loop-again Inv-loop μ-loop
 loop-again c = let end-due = c .before .before .before .before .end-due in
-    let loop = c .before .before .before .before .before .before .before .before .loop in
-    (
+    let loop = c .before .before .before .before .before .before .before .before .loop in (
       search needs,
       search needs,
       search needs,
@@ -56,12 +55,12 @@ same-length-2 c = search needs
 returns : tie.Need-returns Inv-loop μ-loop
 unfolding endDue
 returns c = let loop = c .before .loop in (
-      search needs,
-      λ σ h. (
-        walked-all (loop .inv .4) (omega arith) h (passed (freeDue _) noSession (withSessions σ) (endDue _) (λ i l. refl) (σ .sessions) _ (h .fits .sessions)),
-        loop .inv .5 σ h ∙ ap (those (isDue _)) (take-all (loop .i) (σ .sessions) (omega (arith, h .fits .sessions))),
-      ),
-    )
+  search needs,
+  λ σ h. (
+    walked-all (loop .inv .4) (omega arith) h (passed (freeDue _) noSession (withSessions σ) (endDue _) (λ i l. refl) (σ .sessions) _ (h .fits .sessions)),
+    loop .inv .5 σ h ∙ ap (those (isDue _)) (take-all (loop .i) (σ .sessions) (omega (arith, h .fits .sessions))),
+  ),
+)
 
 pub end-sessions-spec : {M : Type 1} → statement M
 end-sessions-spec =
