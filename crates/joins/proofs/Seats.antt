@@ -53,30 +53,29 @@ module _ {f : ℕ → ℕ} {i : ℕ} {nums seats loose : List ℕ} (h : i < sess
   others : (j : ℕ) → j < i → item placed j ≡ item nums j
   others j l = getD-set-other nums i j n 0 (λ o. omega arith)
 
-  -- taken seats stay, number i has its seat or finds it taken, and it is loose or not
-  entered-more : {seats′ loose′ : List ℕ} → Small (i + 1) seats′ → ((k : ℕ) → (item seats k ≡ 0 → ⊥) → item seats′ k ≡ item seats k) → ((n ≡ 0 → ⊥) → item seats′ (seatOf n) ≡ 0 → ⊥)
-      → length loose′ ≡ side → ((j : ℕ) → (j ≡ i → ⊥) → item loose′ j ≡ item loose j) → Stand placed seats′ i (item loose′ i) → Entered f (i + 1) placed seats′ loose′
-  entered-more {seats′} {loose′} small kept own long same stand = record {
-    gathered = gathered-more f i nums n (omega arith) (y .gathered) refl;
-    seated = record {
-      small = small;
-      held = λ j l z e. ⊎-elim
-          (λ q. let x : item placed j ≡ n = rw q mine in own (λ w. z (x ∙ w)) (ap (λ (v : ℕ). item seats′ (seatOf v)) (sym x) ∙ e))
-          (λ a. let t = y .seated .held j a (λ w. z (others j a ∙ w)) in
-          t (sym (kept (seatOf (item nums j)) t) ∙ (ap (λ (v : ℕ). item seats′ (seatOf v)) (sym (others j a)) ∙ e)))
-          (last-or j i l);
-    };
-    loosened = record {
-      long = long;
-      stands = λ j l. ⊎-elim (λ q. rw q stand) (λ a. rw (same j (λ o. omega arith)) (stand-kept placed seats′ (y .seated) a others kept (y .loosened .stands j a))) (last-or j i l);
-      rest = λ j l. same j (λ o. omega arith) ∙ y .loosened .rest j (omega arith);
-    };
-  }
+  -- taken seats stay, and number i has its seat or finds it taken
+  module _ {seats′ : List ℕ} (small : Small (i + 1) seats′) (kept : (k : ℕ) → (item seats k ≡ 0 → ⊥) → item seats′ k ≡ item seats k) (own : (n ≡ 0 → ⊥) → item seats′ (seatOf n) ≡ 0 → ⊥) where
+    entered-more : {loose′ : List ℕ} → length loose′ ≡ side → ((j : ℕ) → (j ≡ i → ⊥) → item loose′ j ≡ item loose j) → Stand placed seats′ i (item loose′ i) → Entered f (i + 1) placed seats′ loose′
+    entered-more {loose′} long same stand = record {
+      gathered = gathered-more f i nums n (omega arith) (y .gathered) refl;
+      seated = record {
+        small = small;
+        held = λ j l z e. ⊎-elim
+            (λ q. let x : item placed j ≡ n = rw q mine in own (λ w. z (x ∙ w)) (ap (λ (v : ℕ). item seats′ (seatOf v)) (sym x) ∙ e))
+            (λ a. let t = y .seated .held j a (λ w. z (others j a ∙ w)) in
+            t (sym (kept (seatOf (item nums j)) t) ∙ (ap (λ (v : ℕ). item seats′ (seatOf v)) (sym (others j a)) ∙ e)))
+            (last-or j i l);
+      };
+      loosened = record {
+        long = long;
+        stands = λ j l. ⊎-elim (λ q. rw q stand) (λ a. rw (same j (λ o. omega arith)) (stand-kept placed seats′ (y .seated) a others kept (y .loosened .stands j a))) (last-or j i l);
+        rest = λ j l. same j (λ o. omega arith) ∙ y .loosened .rest j (omega arith);
+      };
+    }
 
-  -- number i is not loose
-  entered-quiet : {seats′ : List ℕ} → Small (i + 1) seats′ → ((k : ℕ) → (item seats k ≡ 0 → ⊥) → item seats′ k ≡ item seats k) → ((n ≡ 0 → ⊥) → item seats′ (seatOf n) ≡ 0 → ⊥)
-      → Stand placed seats′ i 0 → Entered f (i + 1) placed seats′ loose
-  entered-quiet small kept own stand = entered-more small kept own (y .loosened .long) (λ j d. refl) (rw (y .loosened .rest i (omega arith)) stand)
+    -- number i is not loose
+    entered-quiet : Stand placed seats′ i 0 → Entered f (i + 1) placed seats′ loose
+    entered-quiet stand = entered-more (y .loosened .long) (λ j d. refl) (rw (y .loosened .rest i (omega arith)) stand)
 
   sat-none : n ≡ 0 → Sat f i true placed seats loose
   sat-none e = record {

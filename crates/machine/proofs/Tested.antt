@@ -170,11 +170,20 @@ kept-unbroken w (write n k v) h rule = rw (is-sealed (w .state) n h (rule .0), f
 
 -- Each run
 
+-- of a test of events, each in its turn, the verdicts of a run are all 0 exactly if the run is kept by what the test means
+module _ (test : World → Event → ℕ) (all : World → List Event → List ℕ) (none-left : (w : World) → all w [] ≡ []) (one-more : (w : World) (e : Event) (es : List Event) → all w (e ∷ es) ≡ test w e ∷ all (next w e) es)
+    (Means : World → List Event → Type 0) where
+  pub means-of : ((w : World) → Means w []) → ((w : World) (e : Event) (es : List Event) → test w e ≡ 0 → Means (next w e) es → Means w (e ∷ es)) → (w : World) (es : List Event) → allZero (all w es) ≡ true → Means w es
+  means-of end more w [] z = end w
+  means-of end more w (e ∷ es) z = let b = zero-and-rest (test w e) (all (next w e) es) (rw (one-more w e es) at z) in more w e es (b .0) (means-of end more (next w e) es (b .1))
+
+  pub zero-of : ((w : World) (e : Event) (es : List Event) → Orderly (w .state) → Means w (e ∷ es) → (test w e ≡ 0) × Means (next w e) es) → (w : World) (es : List Event) → Orderly (w .state) → Means w es → allZero (all w es) ≡ true
+  unfolding allZero
+  zero-of told w [] h m = rw (none-left w)
+  zero-of told w (e ∷ es) h m = let b = told w e es h m in rw (one-more w e es, b .0) (zero-of told (next w e) es (orderly-next w e h) (b .1))
+
 pub allKept-of : (w : World) (es : List Event) → allZero (verdicts w es) ≡ true → AllKept w es
-allKept-of w [] e = tt
-allKept-of w (x ∷ es) e = let z = zero-and-rest (broken w x) (verdicts (next w x) es) e in (kept-of w x (z .0), allKept-of (next w x) es (z .1))
+allKept-of = means-of broken verdicts (λ w. refl) (λ w e es. refl) AllKept (λ w. tt) (λ w e es z k. (kept-of w e z, k))
 
 pub allKept-unbroken : (w : World) (es : List Event) → Orderly (w .state) → AllKept w es → allZero (verdicts w es) ≡ true
-unfolding allZero
-allKept-unbroken w [] h rules = refl
-allKept-unbroken w (x ∷ es) h rules = rw (kept-unbroken w x h (rules .0)) (allKept-unbroken (next w x) es (orderly-next w x h) (rules .1))
+allKept-unbroken = zero-of broken verdicts (λ w. refl) (λ w e es. refl) AllKept (λ w e es h k. (kept-unbroken w e h (k .0), k .1))

@@ -33,20 +33,17 @@ use Rattle.machine.proofs.OrderlyKept.{orderly-fresh}
 use Rattle.machine.proofs.Shape.{orderly-next, orderly-step}
 use Rattle.machine.proofs.Accepted.{matched}
 use Rattle.machine.proofs.Frames.{expire-lease}
-use Rattle.machine.proofs.Tested.{kept-of, kept-unbroken}
+use Rattle.machine.proofs.Tested.{kept-of, kept-unbroken, means-of, zero-of}
 use Rattle.rehearsed.specs.TwoValues.{oldest, twoValues, brokenTwo, verdictsTwo, KeptTwo, AllKeptTwo, WriteKept, WritesKept}
 use Rattle.rehearsed.proofs.Moves.{Leases, quiet, grant, Moves, moves-step}
 
 -- The test of the two-value form is right: all 0 exactly if the rules are kept
 
 pub allKeptTwo-of : (w : World) (es : List Event) → allZero (verdictsTwo w es) ≡ true → AllKeptTwo w es
-allKeptTwo-of w [] e = tt
-allKeptTwo-of w (x ∷ es) e = let z = zero-and-rest (brokenTwo w x) (verdictsTwo (next w x) es) e in (kept-of (twoValues w) x (z .0), allKeptTwo-of (next w x) es (z .1))
+allKeptTwo-of = means-of brokenTwo verdictsTwo (λ w. refl) (λ w e es. refl) AllKeptTwo (λ w. tt) (λ w e es z k. (kept-of (twoValues w) e z, k))
 
 pub allKeptTwo-unbroken : (w : World) (es : List Event) → Orderly (w .state) → AllKeptTwo w es → allZero (verdictsTwo w es) ≡ true
-unfolding allZero
-allKeptTwo-unbroken w [] h rules = refl
-allKeptTwo-unbroken w (x ∷ es) h rules = rw (kept-unbroken (twoValues w) x h (rules .0)) (allKeptTwo-unbroken (next w x) es (orderly-next w x h) (rules .1))
+allKeptTwo-unbroken = zero-of brokenTwo verdictsTwo (λ w. refl) (λ w e es. refl) AllKeptTwo (λ w e es h k. (kept-unbroken (twoValues w) e h (k .0), k .1))
 
 -- What was held since a grant
 
