@@ -16,6 +16,7 @@ use Rattle.lent.specs.Tables.{if_then_else_}
 use Rattle.lent.proofs.Choices.{if-ind}
 use Rattle.lent.proofs.Numbers.{width32, le-bytes, le-front}
 use Rattle.lent.proofs.Splice.{getD-splice-after, getD-splice-before, getD-splice-in, length-splice, win-splice, win-splice-after, win-splice-before, win-splice-in}
+use Rattle.lent.proofs.Tables.{place-fits}
 use Rattle.machine.specs.Sizes.{keyCount, sessionCount, valueMax}
 use Rattle.machine.specs.State.{Value}
 use Rattle.machine.proofs.Views.{getD-same}
@@ -26,6 +27,14 @@ use Rattle.book.specs.Book.{bookSize, startedAt, linesAt, brokenAt, note
 -- the n bytes at k and the m bytes at a have none in common
 abbrev Apart : ℕ → ℕ → ℕ → ℕ → Type 0
 Apart k n a m = (k + n ≤ a) ⊎ (a + m ≤ k)
+
+-- two places of a table, whatever of its own place the one is written with
+places-apart : (from w j i m : ℕ) → m ≤ w → (j ≡ i → ⊥) → Apart (from + j * w) w (from + i * w) m
+places-apart from w j i m h n = go (ltb j i) refl
+  where
+    go : (t : Bool) → ltb j i ≡ t → Apart (from + j * w) w (from + i * w) m
+    go true q = inl (omega (arith, place-fits j i w (ltb-true j i q)))
+    go false q = inr (let l : i < j = omega (arith, ltb-false j i q, n) in omega (arith, place-fits i j w l))
 
 module _ (b : List ℕ) (a : ℕ) (x : List ℕ) (f : a + length x ≤ length b) (k n : ℕ) (d : Apart k n a (length x)) where
   getD-apart : (j : ℕ) → k ≤ j → j < k + n → getD (splice b a x) j 0 ≡ getD b j 0
@@ -130,11 +139,7 @@ module _ (b : List ℕ) (e : length b ≡ bookSize) (i : ℕ) (h : i < keyCount 
 
   note-other : (j : ℕ) → (j ≡ i → ⊥) → note (withNote b i v) j ≡ note b j
   unfolding withNote
-  note-other j n = note-apart b (noteAt i) (length v ∷ v) (omega arith) j (go (ltb j i) refl)
-    where
-      go : (t : Bool) → ltb j i ≡ t → Apart (noteAt j) noteWidth (noteAt i) (suc (length v))
-      go true q = inl (omega (arith, ltb-true j i q))
-      go false q = inr (omega (arith, ltb-false j i q, n))
+  note-other j n = note-apart b (noteAt i) (length v ∷ v) (omega arith) j (places-apart notesFrom noteWidth j i (suc (length v)) (omega arith) n)
 
 -- ---- the note i is written for the key k, if it is one
 
@@ -218,11 +223,7 @@ module _ (b : List ℕ) (e : length b ≡ bookSize) (i : ℕ) (h : i < sessionCo
 
   pub mark-other : (j : ℕ) → (j ≡ i → ⊥) → mark (withMark b i n) j ≡ mark b j
   unfolding withMark
-  mark-other j q = mark-apart b (marksFrom + i * markWidth) (bytes32 n) (omega arith) j (go (ltb j i) refl)
-    where
-      go : (t : Bool) → ltb j i ≡ t → Apart (marksFrom + j * markWidth) markWidth (marksFrom + i * markWidth) markWidth
-      go true p = inl (omega (arith, ltb-true j i p))
-      go false p = inr (omega (arith, ltb-false j i p, q))
+  mark-other j q = mark-apart b (marksFrom + i * markWidth) (bytes32 n) (omega arith) j (places-apart marksFrom markWidth j i markWidth (omega arith) q)
 
 -- ---- a line is counted
 

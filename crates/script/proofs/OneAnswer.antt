@@ -19,9 +19,13 @@ one-delivered s out put v w o p r t h g =
     (h .world ∙ sym (g .world), (h .printed .bytes ∙ sym (g .printed .bytes), h .printed .place ∙ sym (g .printed .place)))
 
 module _ (entry : Open Memory) (chunk : List ℕ) (from : ℕ) (out : List ℕ) where
-  -- a return that stops does not stop before another
-  not-before : (n m : ℕ) (v w : Open Memory) (o p : List ℕ) (r t : ℕ) → Stretched entry chunk from n v out o r → Stretched entry chunk from m w out p t → n < m → ⊥
-  not-before n m v w o p r t h g l =
+  -- a return stops at the place n
+  abbrev StopsAt : ℕ → Type 0
+  StopsAt n = (v : Open Memory) × ((o : List ℕ) × ((r : ℕ) × Stretched entry chunk from n v out o r))
+
+  -- and not before another
+  not-before : (n m : ℕ) → StopsAt n → StopsAt m → n < m → ⊥
+  not-before n m (v, (o, (r, h))) (w, (p, (t, g))) l =
       let f = h .reaches .within .0 in
       let e = h .reaches .answered .printed .place in
       ⊎-elim
@@ -29,15 +33,15 @@ module _ (entry : Open Memory) (chunk : List ℕ) (from : ℕ) (out : List ℕ) 
       (λ k. let j = g .reaches .room (n - from) (omega arith) in omega arith)
       (h .stops)
 
-  one-place : (n m : ℕ) (v w : Open Memory) (o p : List ℕ) (r t : ℕ) → Stretched entry chunk from n v out o r → Stretched entry chunk from m w out p t → n ≡ m
-  one-place n m v w o p r t h g = let a = not-before n m v w o p r t h g in let b = not-before m n w v p o t r g h in omega arith
+  one-place : (n m : ℕ) → StopsAt n → StopsAt m → n ≡ m
+  one-place n m h g = let a = not-before n m h g in let b = not-before m n g h in omega arith
 
 pub one-stretched : (cache book line : List ℕ) (held : ℕ) (chunk : List ℕ) (from : ℕ) (out : List ℕ) (n m h k r t : ℕ) (x y b c l j o p : List ℕ)
     → Stretched (opened cache book line held) chunk from n (opened x b l h) out o r → buffer l h ≡ pushedAll (buffer line held) (win chunk from (n - from))
     → Stretched (opened cache book line held) chunk from m (opened y c j k) out p t → buffer j k ≡ pushedAll (buffer line held) (win chunk from (m - from))
     → (n ≡ m) × ((h ≡ k) × ((r ≡ t) × ((x ≡ y) × ((b ≡ c) × ((l ≡ j) × (o ≡ p))))))
 one-stretched cache book line held chunk from out n m h k r t x y b c l j o p s e z f =
-    let q = one-place _ chunk from out n m _ _ o p r t s z in
+    let q = one-place _ chunk from out n m (_, (o, (r, s))) (_, (p, (t, z))) in
     let d = one-delivered _ out 0 _ _ o p r t (s .reaches .answered) (rw (← q) at (z .reaches .answered)) in
     let a : buffer l h ≡ buffer j k = e ∙ rw q (sym f) in (
       q,
