@@ -140,7 +140,7 @@ pub row-read : (r : Row) → RowFits r → decRow (encRow r) ≡ r
 unfolding decRow encRow
 row-read noRow f = refl
 row-read (row n k d u) f =
-    rw (row-session (row n k d u) f, given-not-zero n (f .given), row-key (row n k d u), row-kind-byte (row n k d u), staged-read n k d u)
+    rw (row-session (row n k d u) f, given-not-zero n (f .given), row-said (row n k d u) .0, row-said (row n k d u) .1, staged-read n k d u)
 
 -- ---- a session
 
