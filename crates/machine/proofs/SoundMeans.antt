@@ -11,7 +11,7 @@ use lib.Dec.{eqb, leb, ltb}
 use lib.ListN.{length, getD}
 use borrow.Author.Tests.{eqb-true, eq-eqb, leb-true, le-leb, ltb-true, lt-ltb}
 use Rattle.lent.specs.Tables.{if_then_else_, every, some as someAt}
-use Rattle.lent.proofs.Choices.{and-yes, and-both, case-of, clash}
+use Rattle.lent.proofs.Choices.{and-yes, and-both, case-of, clash, if-ind}
 use Rattle.lent.proofs.Walks.{all-every, some-at, some-is}
 use Rattle.machine.specs.Sizes.{keyCount, sessionCount, rowCount, valueMax, stepMax, lifeMax, timeMax, numberMax}
 use Rattle.machine.specs.Words.{isKind, INVALIDATE, REFRESH, INCREMENTAL}
@@ -146,11 +146,8 @@ shares-means r t {k} {d} {e} h p q = let x = and-yes (eqb d INVALIDATE) (eqb e I
 means-shares : (r t : Row) → ((m n k d e : ℕ) (u v : Staged) → r ≡ row m k d u → t ≡ row n k e v → (d ≡ INVALIDATE) × (e ≡ INVALIDATE)) → shares r t ≡ true
 means-shares noRow t f = refl
 means-shares (row m j d u) noRow f = refl
-means-shares (row m j d u) (row n k e v) f = go (case-of (eqb j k))
-  where
-    go : (eqb j k ≡ true) ⊎ (eqb j k ≡ false) → (if eqb j k then eqb d INVALIDATE && eqb e INVALIDATE else true) ≡ true
-    go (inl h) = let p : row n k e v ≡ row n j e v = rw (eqb-true j k h) in let x = f m n j d e u v refl p in rw h (and-both (eq-eqb d INVALIDATE (x .0)) (eq-eqb e INVALIDATE (x .1)))
-    go (inr h) = rw h
+means-shares (row m j d u) (row n k e v) f = if-ind (λ (t : Bool). t ≡ true) (eqb j k)
+    (λ h. let p : row n k e v ≡ row n j e v = rw (eqb-true j k h) in let x = f m n j d e u v refl p in and-both (eq-eqb d INVALIDATE (x .0)) (eq-eqb e INVALIDATE (x .1))) (λ h. refl)
 
 -- What stands in the tables
 

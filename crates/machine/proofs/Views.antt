@@ -11,7 +11,7 @@ use lib.Dec.{eqb, leb}
 use borrow.Author.Tests.{eqb-true, eqb-false, eq-eqb, leb-false}
 use lib.ListN.{length, getD, set, replicate}
 use Rattle.lent.specs.Tables.{if_then_else_}
-use Rattle.lent.proofs.Choices.{and-yes, case-of, clash, zero-one, if-left}
+use Rattle.lent.proofs.Choices.{and-yes, case-of, clash, zero-one, if-ind, if-left}
 use Rattle.machine.specs.Sizes.{keyCount, sessionCount, rowCount}
 use Rattle.machine.specs.Words.{wordOf}
 use Rattle.machine.specs.Tables.{place, find, any, first, mem}
@@ -84,20 +84,12 @@ module _ {A : Type 0} where
   -- the entry at the place of the first that passes passes; where none does, it is the default
   pub find-test : (p : A → Bool) (d : A) (l : List A) → (find p d l ≡ d) ⊎ (p (find p d l) ≡ true)
   find-test p d [] = inl refl
-  find-test p d (x ∷ l) = go (case-of (p x)) (find-test p d l)
-    where
-      go : (p x ≡ true) ⊎ (p x ≡ false) → (find p d l ≡ d) ⊎ (p (find p d l) ≡ true) → (find p d (x ∷ l) ≡ d) ⊎ (p (find p d (x ∷ l)) ≡ true)
-      go (inl q) r = inr (rw q q)
-      go (inr q) r = rw q r
+  find-test p d (x ∷ l) = if-ind (λ i. (getD (x ∷ l) i d ≡ d) ⊎ (p (getD (x ∷ l) i d) ≡ true)) (p x) (λ q. inr q) (λ q. find-test p d l)
 
   pub find-passes : (p : A → Bool) (d : A) (l : List A) (i : ℕ) → p d ≡ false → p (getD l i d) ≡ true → p (find p d l) ≡ true
   find-passes p d [] i e h = clash (p d) h e
   find-passes p d (x ∷ l) zero e h = rw h h
-  find-passes p d (x ∷ l) (suc i) e h = go (case-of (p x)) (find-passes p d l i e h)
-    where
-      go : (p x ≡ true) ⊎ (p x ≡ false) → p (find p d l) ≡ true → p (find p d (x ∷ l)) ≡ true
-      go (inl q) r = rw q q
-      go (inr q) r = rw q r
+  find-passes p d (x ∷ l) (suc i) e h = if-ind (λ j. p (getD (x ∷ l) j d) ≡ true) (p x) (λ q. q) (λ q. find-passes p d l i e h)
 
   -- the lowest free place is free
   pub free-place : (p : A → Bool) (d : A) (l : List A) → p d ≡ true → p (getD l (place p l) d) ≡ true
