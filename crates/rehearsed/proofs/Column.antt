@@ -7,7 +7,7 @@ use mathlib.Core.List.{List, [], _∷_, _++_}
 use Prim.Native.Nat.{ℕ}
 use native.Mathlib.Omega.{arith}
 use lib.Dec.{eqb}
-use lib.ListN.{length-replicate}
+use lib.ListN.{length, length-replicate}
 use borrow.Author.Tests.{lt-ltb}
 use Rattle.lent.specs.Bytes.{zeros}
 use Rattle.lent.specs.Tables.{same, allZero}
