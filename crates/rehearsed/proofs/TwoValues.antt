@@ -13,7 +13,6 @@ use lib.Dec.{eqb}
 use lib.ListN.{length}
 use Rattle.lent.specs.Tables.{if_then_else_, same, allZero}
 use Rattle.lent.proofs.Choices.{clash, if-ind}
-use Rattle.lent.proofs.Equal.{zero-and-rest}
 use Rattle.lent.proofs.Runs.{run-gives, run-keeps}
 use Rattle.machine.specs.Tables.{any}
 use Rattle.machine.specs.Words.{wordOf, LEASE, STORED}
@@ -30,7 +29,7 @@ use Rattle.machine.specs.declared.Command.{Command}
 use Rattle.machine.specs.declared.Command.the-variants.{Begin, Get, Fill, Quar, Stage, Delta, Validate, Done, Undo, Evict, Tick}
 use Rattle.machine.proofs.Views
 use Rattle.machine.proofs.OrderlyKept.{orderly-fresh}
-use Rattle.machine.proofs.Shape.{orderly-next, orderly-step}
+use Rattle.machine.proofs.Shape.{orderly-step}
 use Rattle.machine.proofs.Accepted.{matched}
 use Rattle.machine.proofs.Frames.{expire-lease}
 use Rattle.machine.proofs.Tested.{kept-of, kept-unbroken, means-of, zero-of}
