@@ -10,7 +10,7 @@ use native.Mathlib.Omega.{arith}
 use lib.Dec.{eqb, leb, ltb}
 use lib.ListN.{length, getD}
 use borrow.Author.Tests.{eqb-true, eq-eqb, leb-true, le-leb, ltb-true, lt-ltb}
-use Rattle.lent.specs.Tables.{if_then_else_, every, some as someAt}
+use Rattle.lent.specs.Tables.{every, some as someAt}
 use Rattle.lent.proofs.Choices.{and-yes, and-both, case-of, clash, if-ind}
 use Rattle.lent.proofs.Walks.{all-every, some-at, some-is}
 use Rattle.machine.specs.Sizes.{keyCount, sessionCount, rowCount, valueMax, stepMax, lifeMax, timeMax, numberMax}
