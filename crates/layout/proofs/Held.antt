@@ -22,7 +22,7 @@ use Rattle.machine.specs.Sound.{tokenIn, numberIn}
 use Rattle.layout.specs.Layout.{encHead, decHead, sessionFrom}
 use Rattle.layout.specs.Fields.{valueLength, leaseUntil, rowSession, rowKey, stagedMark, stagedLength, sessionIn}
 use Rattle.layout.specs.Holds.{HeadFits, SlotFits, RowFits, Holds}
-use Rattle.layout.proofs.Records.{key-there, key-length, key-value, key-token, key-until, row-session, row-key, row-kind-byte, row-mark, row-length, row-value, session-number-bytes, session-from}
+use Rattle.layout.proofs.Records.{key-there, key-length, key-value, key-token, key-until, row-session, row-said, row-value, session-number-bytes, session-from}
 use Rattle.layout.proofs.Places.{Stands, record-stands, win-at, le-at, byte-at, byte-first, le32-first, keys-table, rows-table, sessions-table, head-at, put-head, head-decoded}
 
 staged-short : (r : Row) (v : Value) → RowFits r → stagedIn r ≡ staged v → length v ≤ valueMax
@@ -115,16 +115,16 @@ module _ {b : List ℕ} {s : State} (h : Holds b s) where
     owner-held = le32-first row-stands (omega arith) row-session
 
     pub target-held : getD b (rowsFrom + i * rowWidth + rowKeyField) 0 ≡ rowKey (rowAt s i)
-    target-held = byte-at row-stands rowKeyField (omega arith) row-key
+    target-held = byte-at row-stands rowKeyField (omega arith) (λ r. row-said r .0)
 
     pub kind-held : getD b (rowsFrom + i * rowWidth + rowKindField) 0 ≡ kindOf (rowAt s i)
-    kind-held = byte-at row-stands rowKindField (omega arith) row-kind-byte
+    kind-held = byte-at row-stands rowKindField (omega arith) (λ r. row-said r .1)
 
     pub mark-held : getD b (rowsFrom + i * rowWidth + rowStagedField) 0 ≡ stagedMark (stagedIn (rowAt s i))
-    mark-held = byte-at row-stands rowStagedField (omega arith) row-mark
+    mark-held = byte-at row-stands rowStagedField (omega arith) (λ r. row-said r .2)
 
     pub staged-long : getD b (rowsFrom + i * rowWidth + rowLengthField) 0 ≡ stagedLength (stagedIn (rowAt s i))
-    staged-long = byte-at row-stands rowLengthField (omega arith) row-length
+    staged-long = byte-at row-stands rowLengthField (omega arith) (λ r. row-said r .3)
 
     pub staged-stands : (v : Value) → stagedIn (rowAt s i) ≡ staged v → win b (stagedAt i) (length v) ≡ v
     staged-stands v e =

@@ -114,29 +114,13 @@ unfolding encRow
 row-session noRow f = refl
 row-session (row n k d u) f = le-bytes width32 n (f .session)
 
-pub row-key : (r : Row) → getD (encRow r) rowKeyField 0 ≡ rowKey r
+-- its single bytes: the key, the kind, the mark and the length of what is staged
+pub row-said : (r : Row) → (getD (encRow r) rowKeyField 0 ≡ rowKey r) × (getD (encRow r) rowKindField 0 ≡ kindOf r) × (getD (encRow r) rowStagedField 0 ≡ stagedMark (stagedIn r)) × (getD (encRow r) rowLengthField 0 ≡ stagedLength (stagedIn r))
 unfolding encRow
-row-key noRow = refl
-row-key (row n k d u) = refl
-
-pub row-kind-byte : (r : Row) → getD (encRow r) rowKindField 0 ≡ kindOf r
-unfolding encRow
-row-kind-byte noRow = refl
-row-kind-byte (row n k d u) = refl
-
-pub row-mark : (r : Row) → getD (encRow r) rowStagedField 0 ≡ stagedMark (stagedIn r)
-unfolding encRow
-row-mark noRow = refl
-row-mark (row n k d nothing) = refl
-row-mark (row n k d (staged v)) = refl
-row-mark (row n k d DROP) = refl
-
-pub row-length : (r : Row) → getD (encRow r) rowLengthField 0 ≡ stagedLength (stagedIn r)
-unfolding encRow
-row-length noRow = refl
-row-length (row n k d nothing) = refl
-row-length (row n k d (staged v)) = refl
-row-length (row n k d DROP) = refl
+row-said noRow = (refl, refl, refl, refl)
+row-said (row n k d nothing) = (refl, refl, refl, refl)
+row-said (row n k d (staged v)) = (refl, refl, refl, refl)
+row-said (row n k d DROP) = (refl, refl, refl, refl)
 
 staged-bytes : (n k d : ℕ) (v : Value) → win (encRow (row n k d (staged v))) rowValueField (length v) ≡ v
 unfolding encRow win
@@ -156,7 +140,7 @@ pub row-read : (r : Row) → RowFits r → decRow (encRow r) ≡ r
 unfolding decRow encRow
 row-read noRow f = refl
 row-read (row n k d u) f =
-    rw (row-session (row n k d u) f, given-not-zero n (f .given), row-key (row n k d u), row-kind-byte (row n k d u), staged-read n k d u)
+    rw (row-session (row n k d u) f, given-not-zero n (f .given), row-said (row n k d u) .0, row-said (row n k d u) .1, staged-read n k d u)
 
 -- ---- a session
 

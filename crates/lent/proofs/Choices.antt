@@ -1,5 +1,5 @@
 -- Choices and tests by the value of a Boolean: each law is its two cases.
-use mathlib.Core.Path.{_≡_, refl, sym, _∙_}
+use mathlib.Core.Path.{_≡_, refl, sym, ap, _∙_}
 use mathlib.Core.Logic.{_⊎_, inl, inr}
 use mathlib.Core.Bool.{Bool, true, false, not, _&&_, _||_, and-false}
 use Prim.Native.Nat.{ℕ}
@@ -72,6 +72,10 @@ if-ind P false f g = g refl
 pub if-second : {A : Type 0} (t : Bool) {x y z : A} → (x ≡ z → ⊥) → (if t then x else y) ≡ z → (y ≡ z) × (t ≡ false)
 if-second true n e = absurd (n e)
 if-second false n e = (e, refl)
+
+-- and where the test is of the second way, what is chosen fails it
+pub if-left : {A : Type 0} (p : A → Bool) {x y z : A} → (x ≡ z → ⊥) → (if p y then x else y) ≡ z → (y ≡ z) × (p z ≡ false)
+if-left p {y} n e = let f = if-second (p y) n e in (f .0, sym (ap p (f .0)) ∙ f .1)
 
 pub if-same : {A : Type 0} (t : Bool) (x : A) → (if t then x else x) ≡ x
 if-same true x = refl

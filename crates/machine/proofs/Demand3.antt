@@ -4,11 +4,12 @@
 use mathlib.Core.Path.{_≡_, refl, sym, ap, _∙_}
 use mathlib.Core.Bool.{false}
 use mathlib.Core.Logic.{_⊎_, inl, inr}
-use mathlib.Core.List.{List, [], _∷_, _++_}
+use mathlib.Core.List.{List, _++_}
 use mathlib.Core.Option.{Option, none, some}
 use Prim.Native.Nat.{ℕ}
 use lib.Dec.{eqb}
 use Rattle.lent.proofs.Choices.{clash, if-ind}
+use Rattle.lent.proofs.Runs.{run-gives}
 use Rattle.machine.specs.Tables.{first}
 use Rattle.machine.specs.Words.{wordOf, HIT}
 use Rattle.machine.specs.State.{Value, Row, noRow, State, freeRow, rowOf, rowPlace, cached}
@@ -94,8 +95,7 @@ pub demand-3-whole : (readLife writeLife : ℕ) (es : List Event) → AllKept (f
 demand-3-whole readLife writeLife es h = consistent (run (freshWorld readLife writeLife) es) (run-good (freshWorld readLife writeLife) es (fresh-good readLife writeLife) h)
 
 kept-before : (w : World) (es fs : List Event) → AllKept w (es ++ fs) → AllKept w es
-kept-before w [] fs h = tt
-kept-before w (e ∷ es) fs h = (h .0, kept-before (next w e) es fs (h .1))
+kept-before w es fs = run-gives next (λ w es. AllKept w (es ++ fs)) AllKept (λ w h. tt) (λ w e es h. (h .1, λ k. (h .0, k))) w es
 
 -- at each moment of each run: after each first part of it
 pub demand-3 : (readLife writeLife : ℕ) (es fs : List Event) → AllKept (freshWorld readLife writeLife) (es ++ fs) → Consistent (run (freshWorld readLife writeLife) es)

@@ -6,7 +6,7 @@ use mathlib.Core.Bool.{Bool, true, false, and-true}
 use mathlib.Core.Logic.{_⊎_, inl, inr}
 use mathlib.Core.List.{List, [], _∷_, map, List·Memᴰ, List·Memᴰ·eq-of-singleton}
 use mathlib.Core.Option.{Option, none, some}
-use Prim.Native.Nat.{ℕ, _+_, _<_}
+use Prim.Native.Nat.{ℕ, _+_, _≤_, _<_}
 use native.Mathlib.Omega.{arith}
 use borrow.Author.Tests.{eq-eqb, ne-eqb}
 use lib.Dec.{eqb, ltb}
@@ -16,11 +16,12 @@ use Rattle.machine.specs.Tables.{place, mem, putAt, isNone}
 use Rattle.machine.specs.Words.{wordOf, LEASE, INVALIDATE}
 use Rattle.machine.specs.Session.{advanced, sealed, isDue}
 use Rattle.machine.specs.Decision.{grants}
-use Rattle.machine.specs.State.{Value, Lease, Key, blank, Staged, nothing, staged, DROP, Row, noRow, row, State, free, freeRow, kindOf, stagedIn, sessionPlace, sessionOf, rowOf, cached, leaseOn, rowAt}
-use Rattle.machine.specs.Expiry.{withKeys, withRows, setValue, setLease, freeIfOf, settle, leave, finish, lapsedValue, lapsedLease, those, expire}
+use Rattle.machine.specs.State.{Value, Head, Lease, Key, blank, Slot, noSession, session, Staged, nothing, staged, DROP, Row, noRow, row, State, free, freeRow, kindOf, stagedIn, sessionPlace, sessionOf, rowOf, cached, leaseOn, rowAt}
+use Rattle.machine.specs.Expiry.{withHead, withKeys, withSessions, withRows, setValue, setLease, freeIfOf, settle, leave, finish, lapsedValue, lapsedLease, those, expire}
 use Rattle.machine.specs.Refusals.{decide, blocked, Sight, sight, sealedIn, countOf, refusals, refusal}
 use Rattle.machine.specs.Effects.{Outcome, begins, wait, leased, missed, looked, matches, fills, asks, changed, stagedAnswer, withSession, withStaged, stages, toCache, effect}
 use Rattle.machine.specs.World.{World, sinceGrant, Rules}
+use Rattle.machine.specs.declared.Session.{Session}
 use Rattle.machine.specs.declared.Answer.{Answer}
 use Rattle.machine.specs.declared.Command.{Command}
 use Rattle.machine.specs.declared.Command.the-variants.{Begin, Get, Fill, Quar, Stage, Delta, Validate, Done, Undo, Evict, Tick}
@@ -72,15 +73,20 @@ module _ (w : World) (g : Good w) where
   abbrev pub Framed : Outcome → Type 0
   Framed r = Frame w (r .answer) (r .after)
 
-  -- nothing changes
-  pub frame-kept : (a : Answer) → eqb (wordOf a) LEASE ≡ false → Frame w a (w .state)
-  frame-kept a quiet = record {
+  -- the header and the sessions change, nothing else: each session has a new number, or stood there
+  frame-sessions : (a : Answer) (h : Head) (l : List Slot) → eqb (wordOf a) LEASE ≡ false → w .state .head .nextSession ≤ h .nextSession
+      → ((i : ℕ) (x : Session) → getD l i noSession ≡ session x → OrderlyKept.StoodAt (w .state) i x) → Frame w a (withHead (withSessions (w .state) l) h)
+  frame-sessions a h l quiet more stood = record {
     keeps = λ k v p q. p;
     value = λ k v p. inr (p, λ q. q);
-    opens = λ i x p. inr (x, p, refl, λ q. q);
-    grows = omega arith;
+    opens = stood;
+    grows = more;
     unwritten = λ k l p u m. g .unwritten k l p u (rw quiet at m);
   }
+
+  -- nothing changes
+  pub frame-kept : (a : Answer) → eqb (wordOf a) LEASE ≡ false → Frame w a (w .state)
+  frame-kept a quiet = frame-sessions a (w .state .head) (w .state .sessions) quiet (omega arith) (λ i x p. inr (x, p, refl, λ q. q))
 
   -- values and leases change, nothing else: no lease is new, and no value but the register's, on a key with no row
   frame-keys : (a : Answer) (ks : List Key) → eqb (wordOf a) LEASE ≡ false
@@ -218,13 +224,7 @@ module _ (w : World) (g : Good w) where
   -- BEGIN: the new session has the next number
   frame-begin : (now : ℕ) → Framed (begins (w .state) now)
   unfolding begins
-  frame-begin now = record {
-    keeps = λ k v p q. p;
-    value = λ k v p. inr (p, λ q. q);
-    opens = OrderlyKept.begun-stood (w .state) now;
-    grows = omega arith;
-    unwritten = g .unwritten;
-  }
+  frame-begin now = frame-sessions (begins (w .state) now .answer) (begins (w .state) now .after .head) (begins (w .state) now .after .sessions) refl (omega arith) (OrderlyKept.begun-stood (w .state) now)
 
   -- QUAR granted: every row and value stays
   frame-granted : (n k kind : ℕ) → Frame w Answer.Granted (withKeys (withRows (w .state) (putAt freeRow (row n k kind nothing) (w .state .rows))) (setLease (w .state .keys) k none))
@@ -254,13 +254,7 @@ module _ (w : World) (g : Good w) where
 
   -- VALIDATE
   frame-seal : (n : ℕ) → Frame w Answer.Validated (withSession (w .state) n sealed)
-  frame-seal n = record {
-    keeps = λ k v p q. p;
-    value = λ k v p. inr (p, λ q. q);
-    opens = OrderlyKept.slot-stood (w .state) n sealed (λ m. (refl, λ q. refl));
-    grows = omega arith;
-    unwritten = g .unwritten;
-  }
+  frame-seal n = frame-sessions Answer.Validated (w .state .head) (withSession (w .state) n sealed .sessions) refl (omega arith) (OrderlyKept.slot-stood (w .state) n sealed (λ m. (refl, λ q. refl)))
 
   -- Each accepted command
 

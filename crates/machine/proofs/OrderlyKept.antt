@@ -254,13 +254,22 @@ orderly-staged s n k i d u v mine apart h = orderly-rows s₁ (withStaged s₁ n
       | inr q ↦ (let same : row n k d v ≡ row m l c y′ = sym mine ∙ ap (rowAt s) q ∙ e in apart (cc))
     ])
 
+-- records whose numbers are below the next, each number at one place, and new ones at the place `at`, with the next: each number is at one place still
+pub next-alone : {A : Type 0} (number : A → ℕ) (next at : ℕ) (Old : ℕ → A → Type 0) (New : A → Type 0) → ((i : ℕ) (x : A) → Old i x → number x < next) → ((x : A) → New x → number x ≡ next)
+    → ((i j : ℕ) (x y : A) → Old i x → Old j y → number x ≡ number y → i ≡ j)
+    → (i j : ℕ) (x y : A) → Old i x ⊎ ((at ≡ i) × New x) → Old j y ⊎ ((at ≡ j) × New y) → number x ≡ number y → i ≡ j
+next-alone number next at Old New below is alone i j x y (inl p) (inl q) e = alone i j x y p q e
+next-alone number next at Old New below is alone i j x y (inl p) (inr q) e = absurd (let a = below i x p in let b = is y (q .1) in omega arith)
+next-alone number next at Old New below is alone i j x y (inr p) (inl q) e = absurd (let a = below j y q in let b = is x (p .1) in omega arith)
+next-alone number next at Old New below is alone i j x y (inr p) (inr q) e = sym (p .0) ∙ q .0
+
 -- BEGIN: the new number is the next, in a free place
 pub orderly-begin : (s : State) (now : ℕ) → Orderly s → Orderly (begins s now .after)
 unfolding begins
 orderly-begin s now h = record {
   leases = h .leases;
   numbers = λ i x e. elim (seen i x e) [ inl p ↦ (let q = h .numbers i x p in omega arith) | inr p ↦ (let q = p .1 in omega arith) ];
-  unique = λ i j x y e f q. two i j x y q (seen i x e) (seen j y f);
+  unique = λ i j x y e f. next-alone (λ (x : Session). x .number) (s .head .nextSession) at (λ i x. sessionAt s i ≡ session x) (λ x. x .number ≡ s .head .nextSession) (h .numbers) (λ x e. e) (h .unique) i j x y (seen i x e) (seen j y f);
   kinds = h .kinds;
   alone = h .alone;
   plain = h .plain;
@@ -277,12 +286,6 @@ orderly-begin s now h = record {
 
     seen : (i : ℕ) (x : Session) → getD (set (s .sessions) at (session new)) i noSession ≡ session x → Seen i x
     seen i x e = elim (was-set (s .sessions) at (session new) i noSession (session x) (Views.no-session x) e) [ inl p ↦ inl p | inr p ↦ inr (p .0, (let q = p .1 in cc)) ]
-
-    two : (i j : ℕ) (x y : Session) → x .number ≡ y .number → Seen i x → Seen j y → i ≡ j
-    two i j x y q (inl e) (inl f) = h .unique i j x y e f q
-    two i j x y q (inl e) (inr f) = absurd (let a = h .numbers i x e in let b = f .1 in omega arith)
-    two i j x y q (inr e) (inl f) = absurd (let a = h .numbers j y f in let b = e .1 in omega arith)
-    two i j x y q (inr e) (inr f) = sym (e .0) ∙ f .0
 
 -- GET answered LEASE: the next token, on a key with no row
 pub orderly-leased : (s : State) (now k : ℕ) → ((i n d : ℕ) (v : Staged) → rowAt s i ≡ row n k d v → ⊥) → Orderly s → Orderly (leased s now k .after)

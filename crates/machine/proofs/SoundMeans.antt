@@ -10,8 +10,8 @@ use native.Mathlib.Omega.{arith}
 use lib.Dec.{eqb, leb, ltb}
 use lib.ListN.{length, getD}
 use borrow.Author.Tests.{eqb-true, eq-eqb, leb-true, le-leb, ltb-true, lt-ltb}
-use Rattle.lent.specs.Tables.{if_then_else_, every, some as someAt}
-use Rattle.lent.proofs.Choices.{and-yes, and-both, case-of, clash}
+use Rattle.lent.specs.Tables.{every, some as someAt}
+use Rattle.lent.proofs.Choices.{and-yes, and-both, case-of, clash, if-ind}
 use Rattle.lent.proofs.Walks.{all-every, some-at, some-is}
 use Rattle.machine.specs.Sizes.{keyCount, sessionCount, rowCount, valueMax, stepMax, lifeMax, timeMax, numberMax}
 use Rattle.machine.specs.Words.{isKind, INVALIDATE, REFRESH, INCREMENTAL}
@@ -39,11 +39,12 @@ parts (a ∷ b ∷ l) e (suc i) = parts (b ∷ l) (and-yes a (all (b ∷ l)) e .
 
 -- Numbers
 
-given-means : (next n : ℕ) → given next n ≡ true → (1 ≤ n) × (n < next)
-given-means next n e = let r = and-yes (leb 1 n) (ltb n next) e in (leb-true 1 n (r .0), ltb-true n next (r .1))
+-- one that was given, of a record of which the rest is tested too
+given-means : (next n : ℕ) (rest : Bool) → (given next n && rest) ≡ true → (1 ≤ n) × (n < next) × (rest ≡ true)
+given-means next n rest e = let a = and-yes (given next n) rest e in let r = and-yes (leb 1 n) (ltb n next) (a .0) in (leb-true 1 n (r .0), ltb-true n next (r .1), a .1)
 
-means-given : (next n : ℕ) → 1 ≤ n → n < next → given next n ≡ true
-means-given next n p q = and-both (le-leb 1 n p) (lt-ltb n next q)
+means-given : (next n : ℕ) {rest : Bool} → 1 ≤ n → n < next → rest ≡ true → (given next n && rest) ≡ true
+means-given next n p q r = and-both (and-both (le-leb 1 n p) (lt-ltb n next q)) r
 
 -- One record alone
 
@@ -99,14 +100,13 @@ module _ (h : Head) where
   lease-means : (l : Lease) → leaseSound h (some l) ≡ true → LeaseOf l
   unfolding LeaseOf
   lease-means l e =
-      let a = and-yes (given (h .nextToken) (l .token)) (leb (l .until) (h .clock + h .readLife)) e in
-      let b = given-means (h .nextToken) (l .token) (a .0) in
-      (b .1, record { positive = b .0; deadline = leb-true (l .until) (h .clock + h .readLife) (a .1) })
+      let a = given-means (h .nextToken) (l .token) (leb (l .until) (h .clock + h .readLife)) e in
+      (a .1, record { positive = a .0; deadline = leb-true (l .until) (h .clock + h .readLife) (a .2) })
 
   means-lease : (o : Option Lease) → IfAny some LeaseOf o → leaseSound h o ≡ true
   unfolding LeaseOf
   means-lease none f = refl
-  means-lease (some l) f = let g = f l refl in and-both (means-given (h .nextToken) (l .token) (g .1 .positive) (g .0)) (le-leb (l .until) (h .clock + h .readLife) (g .1 .deadline))
+  means-lease (some l) f = let g = f l refl in means-given (h .nextToken) (l .token) (g .1 .positive) (g .0) (le-leb (l .until) (h .clock + h .readLife) (g .1 .deadline))
 
   means-life : (p : Life) → IfAny Life.Open (λ t. t ≤ h .clock + h .writeLife) p → lifeSound h p ≡ true
   means-life (Life.Open t) f = le-leb t (h .clock + h .writeLife) (f t refl)
@@ -115,16 +115,15 @@ module _ (h : Head) where
   session-means : (x : Session) → sessionSound h (session x) ≡ true → SessionOf x
   unfolding sessionSound SessionOf
   session-means x e =
-      let a = and-yes (given (h .nextSession) (x .number)) (leb (x .count) stepMax && lifeSound h (x .life)) e in
-      let b = given-means (h .nextSession) (x .number) (a .0) in
-      let c = and-yes (leb (x .count) stepMax) (lifeSound h (x .life)) (a .1) in
-      (b .1, record { positive = b .0; steps = leb-true (x .count) stepMax (c .0); deadline = λ t q. leb-true t (h .clock + h .writeLife) (rw q at (c .1)) })
+      let a = given-means (h .nextSession) (x .number) (leb (x .count) stepMax && lifeSound h (x .life)) e in
+      let c = and-yes (leb (x .count) stepMax) (lifeSound h (x .life)) (a .2) in
+      (a .1, record { positive = a .0; steps = leb-true (x .count) stepMax (c .0); deadline = λ t q. leb-true t (h .clock + h .writeLife) (rw q at (c .1)) })
 
   means-session : (e : Slot) → IfAny session SessionOf e → sessionSound h e ≡ true
   unfolding sessionSound SessionOf
   means-session noSession f = refl
   means-session (session x) f = let g = f x refl in
-      and-both (means-given (h .nextSession) (x .number) (g .1 .positive) (g .0)) (and-both (le-leb (x .count) stepMax (g .1 .steps)) (means-life (x .life) (g .1 .deadline)))
+      means-given (h .nextSession) (x .number) (g .1 .positive) (g .0) (and-both (le-leb (x .count) stepMax (g .1 .steps)) (means-life (x .life) (g .1 .deadline)))
 
 -- Two rows
 
@@ -147,11 +146,8 @@ shares-means r t {k} {d} {e} h p q = let x = and-yes (eqb d INVALIDATE) (eqb e I
 means-shares : (r t : Row) → ((m n k d e : ℕ) (u v : Staged) → r ≡ row m k d u → t ≡ row n k e v → (d ≡ INVALIDATE) × (e ≡ INVALIDATE)) → shares r t ≡ true
 means-shares noRow t f = refl
 means-shares (row m j d u) noRow f = refl
-means-shares (row m j d u) (row n k e v) f = go (case-of (eqb j k))
-  where
-    go : (eqb j k ≡ true) ⊎ (eqb j k ≡ false) → (if eqb j k then eqb d INVALIDATE && eqb e INVALIDATE else true) ≡ true
-    go (inl h) = let p : row n k e v ≡ row n j e v = rw (eqb-true j k h) in let x = f m n j d e u v refl p in rw h (and-both (eq-eqb d INVALIDATE (x .0)) (eq-eqb e INVALIDATE (x .1)))
-    go (inr h) = rw h
+means-shares (row m j d u) (row n k e v) f = if-ind (λ (t : Bool). t ≡ true) (eqb j k)
+    (λ h. let p : row n k e v ≡ row n j e v = rw (eqb-true j k h) in let x = f m n j d e u v refl p in and-both (eq-eqb d INVALIDATE (x .0)) (eq-eqb e INVALIDATE (x .1))) (λ h. refl)
 
 -- What stands in the tables
 

@@ -11,7 +11,7 @@ use lib.Dec.{eqb, leb}
 use borrow.Author.Tests.{eqb-true, eqb-false, eq-eqb, leb-false}
 use lib.ListN.{length, getD, set, replicate}
 use Rattle.lent.specs.Tables.{if_then_else_}
-use Rattle.lent.proofs.Choices.{and-yes, case-of, clash, zero-one, if-second}
+use Rattle.lent.proofs.Choices.{and-yes, case-of, clash, zero-one, if-ind, if-left}
 use Rattle.machine.specs.Sizes.{keyCount, sessionCount, rowCount}
 use Rattle.machine.specs.Words.{wordOf}
 use Rattle.machine.specs.Tables.{place, find, any, first, mem}
@@ -84,20 +84,12 @@ module _ {A : Type 0} where
   -- the entry at the place of the first that passes passes; where none does, it is the default
   pub find-test : (p : A → Bool) (d : A) (l : List A) → (find p d l ≡ d) ⊎ (p (find p d l) ≡ true)
   find-test p d [] = inl refl
-  find-test p d (x ∷ l) = go (case-of (p x)) (find-test p d l)
-    where
-      go : (p x ≡ true) ⊎ (p x ≡ false) → (find p d l ≡ d) ⊎ (p (find p d l) ≡ true) → (find p d (x ∷ l) ≡ d) ⊎ (p (find p d (x ∷ l)) ≡ true)
-      go (inl q) r = inr (rw q q)
-      go (inr q) r = rw q r
+  find-test p d (x ∷ l) = if-ind (λ i. (getD (x ∷ l) i d ≡ d) ⊎ (p (getD (x ∷ l) i d) ≡ true)) (p x) (λ q. inr q) (λ q. find-test p d l)
 
   pub find-passes : (p : A → Bool) (d : A) (l : List A) (i : ℕ) → p d ≡ false → p (getD l i d) ≡ true → p (find p d l) ≡ true
   find-passes p d [] i e h = clash (p d) h e
   find-passes p d (x ∷ l) zero e h = rw h h
-  find-passes p d (x ∷ l) (suc i) e h = go (case-of (p x)) (find-passes p d l i e h)
-    where
-      go : (p x ≡ true) ⊎ (p x ≡ false) → p (find p d l) ≡ true → p (find p d (x ∷ l)) ≡ true
-      go (inl q) r = rw q q
-      go (inr q) r = rw q r
+  find-passes p d (x ∷ l) (suc i) e h = if-ind (λ j. p (getD (x ∷ l) j d) ≡ true) (p x) (λ q. q) (λ q. find-passes p d l i e h)
 
   -- the lowest free place is free
   pub free-place : (p : A → Bool) (d : A) (l : List A) → p d ≡ true → p (getD l (place p l) d) ≡ true
@@ -195,14 +187,14 @@ of-on-taken n k (row m j d v) e = refl
 
 pub freed-was : (ns : List ℕ) (r : Row) (n k d : ℕ) (v : Staged) → freeIfOf ns r ≡ row n k d v → (r ≡ row n k d v) × (mem n ns ≡ false)
 freed-was ns noRow n k d v e = no-row n k d v e
-freed-was ns (row m j c u) n k d v e = let f = if-second (mem m ns) (no-row n k d v) e in let g : m ≡ n = cc in (f .0, rw (← g) (f .1))
+freed-was ns (row m j c u) n k d v e = if-left (λ (x : Row). elim x [ noRow ↦ false | row n k d v ↦ mem n ns ]) (no-row n k d v) e
 
 pub not-freed : (ns : List ℕ) (r : Row) (n k d : ℕ) (v : Staged) → r ≡ row n k d v → mem n ns ≡ false → freeIfOf ns r ≡ row n k d v
 not-freed ns r n k d v e q = rw e (rw q)
 
 pub ended-was : (ns : List ℕ) (r : Slot) (l : Session) → freeSession ns r ≡ session l → (r ≡ session l) × (mem (l .number) ns ≡ false)
 ended-was ns noSession l e = no-session l e
-ended-was ns (session m) l e = let f = if-second (mem (m .number) ns) (no-session l) e in let g : m ≡ l = cc in (f .0, rw (← g) (f .1))
+ended-was ns (session m) l e = if-left (λ (x : Slot). elim x [ noSession ↦ false | session y ↦ mem (y .number) ns ]) (no-session l) e
 
 -- who is among those passes the test; and who passes it is among them
 pub among-those : (p : Session → Bool) (l : List Slot) (n : ℕ) → mem n (those p l) ≡ true → (i : ℕ) × (m : Session) × (getD l i noSession ≡ session m) × (m .number ≡ n) × (p m ≡ true)
@@ -236,7 +228,7 @@ due-open now (Life.Open t) e q = zero-one cc
 -- a lease that is left was there, and ends after now
 pub unlapsed-was : (now : ℕ) (o : Option Lease) (l : Lease) → unlapsed now o ≡ some l → (o ≡ some l) × (now < l .until)
 unlapsed-was now none l e = no-some l e
-unlapsed-was now (some m) l e = let f = if-second (leb (m .until) now) (no-some l) e in let g : m ≡ l = cc in (f .0, leb-false (l .until) now (rw (← g) (f .1)))
+unlapsed-was now (some m) l e = let f = if-left (λ (x : Option Lease). elim x [ none ↦ false | some y ↦ leb (y .until) now ]) (no-some l) e in (f .0, leb-false (l .until) now (f .1))
 
 -- Values and leases
 

@@ -141,7 +141,8 @@ module _ (s : State) (now : ℕ) (h : WellFormed s now) where
       length = length-set (s .keys) k _ ∙ h .keys .length;
       values = λ j p. h .keys .values j (sym (Views.lease-value (s .keys) k (some new) j) ∙ p);
       leases = λ j {l} p. fits j l (OrderlyKept.leased-was s k new j l p);
-      distinct = λ i j {l} {m} p q e. two i j l m e (OrderlyKept.leased-was s k new i l p) (OrderlyKept.leased-was s k new j m q);
+      distinct = λ i j {l} {m} p q. OrderlyKept.next-alone (λ (x : Lease). x .token) (s .head .nextToken) k (λ j l. leaseOn s j ≡ some l) (λ l. new ≡ l) (λ j l p. h .orderly .leases j l p .0) (λ l e. sym (ap (λ (x : Lease). x .token) e))
+          (λ i j l m p q. h .keys .distinct i j p q) i j l m (OrderlyKept.leased-was s k new i l p) (OrderlyKept.leased-was s k new j m q);
     };
     sessions = h .sessions;
     rows = h .rows;
@@ -151,18 +152,9 @@ module _ (s : State) (now : ℕ) (h : WellFormed s now) where
       new : Lease
       new = record { token = s .head .nextToken; until = now + s .head .readLife }
 
-      Seen : ℕ → Lease → Type 0
-      Seen j l = (leaseOn s j ≡ some l) ⊎ ((k ≡ j) × (new ≡ l))
-
-      fits : (j : ℕ) (l : Lease) → Seen j l → LeaseFits (now + s .head .readLife) l
+      fits : (j : ℕ) (l : Lease) → (leaseOn s j ≡ some l) ⊎ ((k ≡ j) × (new ≡ l)) → LeaseFits (now + s .head .readLife) l
       fits j l (inl p) = h .keys .leases j p
       fits j l (inr p) = subst (LeaseFits (now + s .head .readLife)) (p .1) (record { positive = h .head .nextToken .0; deadline = omega arith })
-
-      two : (i j : ℕ) (l m : Lease) → l .token ≡ m .token → Seen i l → Seen j m → i ≡ j
-      two i j l m e (inl p) (inl q) = h .keys .distinct i j p q e
-      two i j l m e (inl p) (inr q) = absurd (let a : s .head .nextToken ≡ m .token = ap (λ (z : Lease). z .token) (q .1) in let b = h .orderly .leases i l p .0 in omega arith)
-      two i j l m e (inr p) (inl q) = absurd (let a : s .head .nextToken ≡ l .token = ap (λ (z : Lease). z .token) (p .1) in let b = h .orderly .leases j m q .0 in omega arith)
-      two i j l m e (inr p) (inr q) = sym (p .0) ∙ q .0
 
   -- BEGIN
   pub well-begin : s .head .nextSession < numberMax → WellFormed (begins s now .after) now

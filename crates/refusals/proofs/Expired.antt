@@ -8,7 +8,7 @@ use Prim.Native.Nat.{ℕ}
 use lib.Dec.{eqb}
 use lib.ListN.{getD, List·getD-map}
 use borrow.Author.Tests.{eqb-true, eq-eqb}
-use Rattle.lent.proofs.Choices.{case-of, clash, if-second}
+use Rattle.lent.proofs.Choices.{case-of, clash, if-left}
 use Rattle.machine.specs.Tables.{place, find, mem}
 use Rattle.machine.specs.Session.{isDue}
 use Rattle.machine.specs.State.{Slot, noSession, session, Row, noRow, row, State, numbered, ofOn, sessionPlace, sessionOf, rowOf, sessionAt}
@@ -24,7 +24,7 @@ use Rattle.sweep.proofs.Due.{due-freed, due-number}
 -- a place that is taken after expiry was taken, by a session that is not due
 pub due-freed-was : (now : ℕ) (e : Slot) (y : Session) → freeDue now e ≡ session y → (e ≡ session y) × (isDue now y ≡ false)
 due-freed-was now noSession y q = no-session y q
-due-freed-was now (session x) y q = let f = if-second (isDue now x) (no-session y) q in let g : x ≡ y = cc in (f .0, rw (← g) (f .1))
+due-freed-was now (session x) y q = if-left (dueSlot now) (no-session y) q
 
 -- a search of a table whose entries were put through f, which does not change the test
 place-mapped : {A : Type 0} (p : A → Bool) (f : A → A) → ((x : A) → p (f x) ≡ p x) → (l : List A) → place p (map f l) ≡ place p l

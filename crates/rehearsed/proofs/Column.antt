@@ -7,7 +7,7 @@ use mathlib.Core.List.{List, [], _∷_, _++_}
 use Prim.Native.Nat.{ℕ}
 use native.Mathlib.Omega.{arith}
 use lib.Dec.{eqb}
-use lib.ListN.{length-replicate}
+use lib.ListN.{length, length-replicate}
 use borrow.Author.Tests.{lt-ltb}
 use Rattle.lent.specs.Bytes.{zeros}
 use Rattle.lent.specs.Tables.{same, allZero}
@@ -154,19 +154,14 @@ readable-before (e ∷ es) fs x = (x .0, readable-before es fs (x .1))
 pub new-zeros : NewBook (zeros bookSize)
 new-zeros = record { size = length-replicate {A = ℕ} bookSize 0; empty = Laws.registered-new bookSize; unmarked = λ i f. Laws.mark-new bookSize i }
 
+new-as : (b c : List ℕ) → length c ≡ bookSize → ((k : ℕ) → registered c k ≡ registered b k) → ((i : ℕ) → mark c i ≡ mark b i) → NewBook b → NewBook c
+new-as b c size register marks h = record { size = size; empty = λ k. register k ∙ h .empty k; unmarked = λ i f. marks i ∙ h .unmarked i f }
+
 pub new-counted : (b : List ℕ) (rule : ℕ) → NewBook b → NewBook (counted b rule)
-new-counted b rule h = record {
-  size = Laws.length-counted b (h .size) rule;
-  empty = λ k. Laws.registered-counted b (h .size) rule k ∙ h .empty k;
-  unmarked = λ i f. Laws.mark-counted b (h .size) rule i ∙ h .unmarked i f;
-}
+new-counted b rule h = new-as b (counted b rule) (Laws.length-counted b (h .size) rule) (Laws.registered-counted b (h .size) rule) (Laws.mark-counted b (h .size) rule) h
 
 new-started : (b : List ℕ) → NewBook b → NewBook (withStarted b)
-new-started b h = record {
-  size = Laws.length-started b (h .size);
-  empty = λ k. Laws.registered-started b (h .size) k ∙ h .empty k;
-  unmarked = λ i f. Laws.mark-started b (h .size) i ∙ h .unmarked i f;
-}
+new-started b h = new-as b (withStarted b) (Laws.length-started b (h .size)) (Laws.registered-started b (h .size)) (Laws.mark-started b (h .size)) h
 
 recorded-new : (b : List ℕ) (readLife writeLife : ℕ) → NewBook b → Recorded b (freshWorld readLife writeLife)
 unfolding fresh

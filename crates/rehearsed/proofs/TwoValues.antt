@@ -13,7 +13,7 @@ use lib.Dec.{eqb}
 use lib.ListN.{length}
 use Rattle.lent.specs.Tables.{if_then_else_, same, allZero}
 use Rattle.lent.proofs.Choices.{clash, if-ind}
-use Rattle.lent.proofs.Runs.{run-keeps}
+use Rattle.lent.proofs.Runs.{run-gives, run-keeps}
 use Rattle.machine.specs.Tables.{any}
 use Rattle.machine.specs.Words.{wordOf, LEASE, STORED}
 use Rattle.machine.specs.State.{Value, Lease, State, leaseOn}
@@ -88,15 +88,10 @@ under false x y n f = refl
 
 pub record Steady (w : World) : Type 0 where
   pub orderly : Orderly (w .state)
-  pub noted : (k : ℕ) (l : Lease) → leaseOn (w .state) k ≡ some l → 1 ≤ length (w .since (l .token) k)
-  pub level : (k : ℕ) (l : Lease) → leaseOn (w .state) k ≡ some l → Level (w .register k) (w .since (l .token) k)
+  pub since : (k : ℕ) (l : Lease) → leaseOn (w .state) k ≡ some l → (1 ≤ length (w .since (l .token) k)) × Level (w .register k) (w .since (l .token) k)
 
 begun-steady : (readLife writeLife : ℕ) → Steady (freshWorld readLife writeLife)
-begun-steady readLife writeLife = record {
-  orderly = orderly-fresh readLife writeLife;
-  noted = λ k l e. Views.fresh-lease readLife writeLife k l e;
-  level = λ k l e. Views.fresh-lease readLife writeLife k l e;
-}
+begun-steady readLife writeLife = record { orderly = orderly-fresh readLife writeLife; since = λ k l e. Views.fresh-lease readLife writeLife k l e }
 
 -- what is remembered of a token after an answer
 pub since-quiet : (register : ℕ → Value) (since : ℕ → ℕ → List Value) (a : Answer) (t k : ℕ) → eqb (wordOf a) LEASE ≡ false → sinceGrant register since a t k ≡ since t k
@@ -125,28 +120,16 @@ remembered w c r h m k l e = go (m .leases)
 
 commanded-steady : (w : World) → Steady w → (c : Command) (r : Outcome) → Orderly (r .after) → Moves (w .state) c r → Steady (commanded w r)
 unfolding commanded
-commanded-steady w g c r h m = record {
-  orderly = h;
-  noted = λ k l e. noted k l (remembered w c r (g .orderly) m k l e);
-  level = λ k l e. level k l (remembered w c r (g .orderly) m k l e);
-}
+commanded-steady w g c r h m = record { orderly = h; since = λ k l e. since k l (remembered w c r (g .orderly) m k l e) }
   where
-    noted : (k : ℕ) (l : Lease) → Remembered w (r .answer) k l → 1 ≤ length (sinceGrant (w .register) (w .since) (r .answer) (l .token) k)
-    noted k l (kept-lease p q) = rw q (g .noted k l p)
-    noted k l (new-lease q) = rw q (omega arith)
-
-    level : (k : ℕ) (l : Lease) → Remembered w (r .answer) k l → Level (w .register k) (sinceGrant (w .register) (w .since) (r .answer) (l .token) k)
-    level k l (kept-lease p q) = rw q (g .level k l p)
-    level k l (new-lease q) = rw q (λ u x. List·Memᴰ·eq-of-singleton x)
+    since : (k : ℕ) (l : Lease) → Remembered w (r .answer) k l → let x = sinceGrant (w .register) (w .since) (r .answer) (l .token) k in (1 ≤ length x) × Level (w .register k) x
+    since k l (kept-lease p q) = rw q (g .since k l p)
+    since k l (new-lease q) = rw q (omega arith, λ u x. List·Memᴰ·eq-of-singleton x)
 
 -- rule 2: a key that is written has a row, and so no lease
 written-steady : (w : World) → Steady w → (n k : ℕ) (v : Value) → HasRow (w .state .rows) n k → Steady (written w n k v)
 unfolding written
-written-steady w g n k v held = record {
-  orderly = g .orderly;
-  noted = λ j l e. rw (other j l e) (g .noted j l e);
-  level = λ j l e. rw (other j l e) (g .level j l e);
-}
+written-steady w g n k v held = record { orderly = g .orderly; since = λ j l e. rw (other j l e) (g .since j l e) }
   where
     other : (j : ℕ) (l : Lease) → leaseOn (w .state) j ≡ some l → eqb j k ≡ false
     other j l e = ne-eqb j k (λ q. g .orderly .leases j l e .1 (held .place) n (held .kind) (held .what) (rw q (held .is)))
@@ -165,9 +148,8 @@ steady-two w g (command now (Fill t k) v) = under (eqb (wordOf (step (w .state) 
     one : eqb (wordOf (step (w .state) now (Fill t k) v .answer)) STORED ≡ true → not (any (same v) (w .register k ∷ oldest (w .register k) (w .since t k) ∷ [])) ≡ not (any (same v) (w .since t k))
     one p =
         let x = stored-lease (w .state) now t k v p in
-        let h : Level (w .register k) (w .since t k) = rw (x .2) at (g .level k (x .0) (x .1)) in
-        let long : 1 ≤ length (w .since t k) = rw (x .2) at (g .noted k (x .0) (x .1)) in
-        ap not (level-any v (w .register k) (w .register k ∷ oldest (w .register k) (w .since t k) ∷ []) (omega arith) (two h) ∙ sym (level-any v (w .register k) (w .since t k) long h))
+        let h : (1 ≤ length (w .since t k)) × Level (w .register k) (w .since t k) = rw (x .2) at (g .since k (x .0) (x .1)) in
+        ap not (level-any v (w .register k) (w .register k ∷ oldest (w .register k) (w .since t k) ∷ []) (omega arith) (two (h .1)) ∙ sym (level-any v (w .register k) (w .since t k) (h .0) (h .1)))
       where
         two : Level (w .register k) (w .since t k) → Level (w .register k) (w .register k ∷ oldest (w .register k) (w .since t k) ∷ [])
         two h u (List·Memᴰ·head q) = q
@@ -214,17 +196,11 @@ write-kept w (command now c v) h = tt
 write-kept w (write n k v) h = h
 
 all-kept : (w : World) (es : List Event) → Steady w → AllKeptTwo w es → AllKept w es
-all-kept w [] g h = tt
-all-kept w (e ∷ es) g h = (
-  steady-kept w g e (h .0),
-  all-kept (next w e) es (next-steady w e g (write-kept w e (h .0))) (h .1),
-)
+all-kept w es g h = run-gives next (λ w es. Steady w × AllKeptTwo w es) AllKept (λ w a. tt) (λ w e es a. ((next-steady w e (a .0) (write-kept w e (a .1 .0)), a .1 .1), λ k. (steady-kept w (a .0) e (a .1 .0), k))) w es (g, h)
 
 all-two : (w : World) (es : List Event) → Steady w → AllKept w es → AllKeptTwo w es
-all-two w [] g h = tt
-all-two w (e ∷ es) g h =
-    let two : KeptTwo w e = steady-kept-two w g e (h .0) in
-    (two, all-two (next w e) es (next-steady w e g (write-kept w e two)) (h .1))
+all-two w es g h = run-gives next (λ w es. Steady w × AllKept w es) AllKeptTwo (λ w a. tt)
+    (λ w e es a. let two = steady-kept-two w (a .0) e (a .1 .0) in ((next-steady w e (a .0) (write-kept w e two), a .1 .1), λ k. (two, k))) w es (g, h)
 
 pub two-allKept : (readLife writeLife : ℕ) (es : List Event) → AllKeptTwo (freshWorld readLife writeLife) es → AllKept (freshWorld readLife writeLife) es
 two-allKept readLife writeLife es = all-kept (freshWorld readLife writeLife) es (begun-steady readLife writeLife)
