@@ -24,26 +24,6 @@ use Rattle.layout.proofs.Search.{found-entry, found-passes, nothing-entry}
 use Rattle.layout.proofs.Records.{lease-none, row-none}
 use Rattle.waits.specs.Waits.{rowEnd}
 
--- ---- a session's end, by its number
-
-numbered-end : (n : ℕ) (e : Slot) → numbered n e ≡ true → slotEnd e ≡ lifeEnd (sessionIn e .life)
-numbered-end n noSession p = clash false p refl
-numbered-end n (session x) p = refl
-
--- the end of the session that a search told of, which is sealed where there is none
-abbrev pub endBy : State → Found → Option ℕ
-endBy s (Found.At j) = lifeEnd (sessionIn (sessionAt s j) .life)
-endBy s Found.Nothing = none
-
-pub end-by : (s : State) (n : ℕ) → length (s .sessions) ≡ sessionCount → {r : Found} → found sessionCount (sessionPlace s n) ≡ r → slotEnd (sessionOf s n) ≡ endBy s r
-end-by s n l f = go _ f
-  where
-    go : (r : Found) → found sessionCount (sessionPlace s n) ≡ r → slotEnd (sessionOf s n) ≡ endBy s r
-    go (Found.At j) f =
-        rw (found-entry (numbered n) noSession (s .sessions) sessionCount j f)
-        (numbered-end n (sessionAt s j) (found-passes (numbered n) noSession (s .sessions) sessionCount j l f))
-    go Found.Nothing f = rw (nothing-entry (numbered n) noSession (s .sessions) sessionCount l f)
-
 -- ---- what a row adds
 
 module _ (s : State) (k : ℕ) where

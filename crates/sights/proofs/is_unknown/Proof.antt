@@ -1,5 +1,12 @@
 -- 0 asks for no session and is never unknown; any other number is live where a place has it.
-use mathlib.Core.Path.{sym, _∙_}
+use mathlib.Core.Path.{_≡_, sym, _∙_}
+use mathlib.Core.Bool.{not, _&&_}
+use lib.Dec.{eqb}
+use Rattle.machine.specs.State.{State, free}
+use Rattle.machine.specs.Refusals.{notLive}
+use Rattle.layout.specs.Holds.{Holds}
+use Rattle.layout.specs.declared.Found.{Found}
+use Rattle.layout.proofs.Slots.{slotBy}
 use Rattle.sights.proofs.Known.{known-zero, known-by}
 use borrow.Author.Needs.{needs}
 use Rattle.sights.proofs.is_unknown.Statement.{statement}
