@@ -17,7 +17,7 @@ use Rattle.joins.specs.Bits.{wordBits, hasBit, withBit}
 use Rattle.order.specs.Order.{item}
 use Rattle.joins.specs.Joins.{markWords, hasMark, withMark, setBit, meetsMark, noted, Marked, Met}
 use Rattle.joins.proofs.Bits.{bit-with}
-use Rattle.order.proofs.Numbers.{last-or, same-or, new-zero, new-used, distinct-more}
+use Rattle.order.proofs.Numbers.{last-or, same-or, new-zero, new-unlike, distinct-more}
 
 pub set-bit : (marks : List ℕ) (k b : ℕ) → k < length marks → (a c : ℕ) → hasBit (item (setBit marks k b) a) c ≡ (hasBit (item marks a) c || (eqb a k && eqb c b))
 set-bit marks k b h a c =
@@ -41,10 +41,7 @@ module _ {f : ℕ → ℕ} {k : ℕ} {marks : List ℕ} (y : Marked f k marks) w
 
   module _ (used : f k ≡ 0 → ⊥) where
     unmet : hasMark marks (f k) ≡ false → newAt f k ≡ true
-    unmet free =
-        new-used f k (f k) refl used
-        ∙ all-every (λ j. not (eqb (f j) (f k))) k
-        (λ j l. ap not (ne-eqb (f j) (f k) (λ q. clash (hasMark marks (f k)) (ap (hasMark marks) (sym q) ∙ y .has j l (λ z. used (sym q ∙ z))) free)))
+    unmet free = new-unlike f k (f k) refl used (λ j l q. clash (hasMark marks (f k)) (ap (hasMark marks) (sym q) ∙ y .has j l (λ z. used (sym q ∙ z))) free)
 
     own : (m : ℕ) → m ≡ f k → hasMark marks m || (eqb (m / wordBits % markWords) (f k / wordBits % markWords) && eqb (m % wordBits) (f k % wordBits)) ≡ true
     own m q = rw (q, eq-eqb (f k / wordBits % markWords) (f k / wordBits % markWords) refl, eq-eqb (f k % wordBits) (f k % wordBits) refl) (or-true (hasMark marks (f k)))
