@@ -13,7 +13,7 @@ use borrow.Author.Tests.{ne-eqb}
 use Rattle.lent.proofs.Walks.{all-every}
 use Rattle.machine.specs.Sound.{newAt}
 use Rattle.order.specs.Order.{side, item}
-use Rattle.order.proofs.Numbers.{last-or, same-or, new-zero, new-used}
+use Rattle.order.proofs.Numbers.{last-or, same-or, new-zero, new-unlike}
 use Rattle.joins.specs.Joins.{chainCount, chainOf, Linked, here, there, Chained, Passed}
 
 -- ---- the places of a chain
@@ -72,10 +72,7 @@ module _ {nums heads next : List ℕ} {k n : ℕ} (y : Chained nums k heads next
 
   module _ (used : n ≡ 0 → ⊥) {h q : ℕ} (ish : h ≡ chainOf n) (isq : q ≡ item heads h) where
     pub new-passed : Passed nums next q n → k < side → newAt (item nums) k ≡ true
-    new-passed f low =
-        new-used (item nums) k n is used
-        ∙ all-every (λ j. not (eqb (item nums j) n)) k
-        (λ j l. ap not (ne-eqb (item nums j) n (λ e. f k j low (rw (isq, ish, ← e) (y .linked j l (λ z. used (sym e ∙ z)))) e)))
+    new-passed f low = new-unlike (item nums) k n is used (λ j l e. f k j low (rw (isq, ish, ← e) (y .linked j l (λ z. used (sym e ∙ z)))) e)
 
     pub chained-more : h < chainCount → k < side → Chained nums (k + 1) (set heads h k) (set next k q)
     chained-more a b = record {
