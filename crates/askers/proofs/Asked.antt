@@ -9,7 +9,7 @@ use Prim.Native.Nat.{ℕ}
 use lib.ListN.{length}
 use borrow.Author.Tests.{eqb-true, eq-eqb}
 use Rattle.lent.specs.Tables.{if_then_else_}
-use Rattle.lent.proofs.Choices.{clash, zero-one}
+use Rattle.lent.proofs.Choices.{zero-one}
 use Rattle.machine.specs.Sizes.{sessionCount}
 use Rattle.machine.specs.Tables.{first}
 use Rattle.machine.specs.Session.{isSealed}

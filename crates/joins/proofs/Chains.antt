@@ -1,16 +1,13 @@
 -- Chains: a number that is at no place of its chain is new, since the same number is on the same chain. A place comes to the front of a chain, so the
 -- chains before it stay as they were.
 use mathlib.Core.Path.{_≡_, sym, ap, _∙_}
-use mathlib.Core.Bool.{true, not}
+use mathlib.Core.Bool.{true}
 use mathlib.Core.Logic.{_⊎_, ⊎-elim, inl, inr}
 use mathlib.Core.List.{List}
 use Prim.Native.Nat.{ℕ, _+_, _-_, _<_}
 use native.Mathlib.Omega.{arith}
 use lib.ListN.{set, replicate, length-set, length-replicate}
 use lib.Seq.{getD-set-same, getD-set-other}
-use lib.Dec.{eqb}
-use borrow.Author.Tests.{ne-eqb}
-use Rattle.lent.proofs.Walks.{all-every}
 use Rattle.machine.specs.Sound.{newAt}
 use Rattle.order.specs.Order.{side, item}
 use Rattle.order.proofs.Numbers.{last-or, same-or, new-zero, new-unlike}

@@ -1,7 +1,7 @@
 -- Marks: setting one changes no other. So a number whose mark is not there before it sets it differs from each number that has one, since the
 -- same number has the same mark.
 use mathlib.Core.Path.{_≡_, refl, sym, ap, _∙_}
-use mathlib.Core.Bool.{Bool, true, false, not, _&&_, _||_, or-false, or-true}
+use mathlib.Core.Bool.{Bool, true, false, _&&_, _||_, or-false, or-true}
 use mathlib.Core.Logic.{⊎-elim}
 use mathlib.Core.List.{List}
 use Prim.Native.Nat.{ℕ, _+_, _/_, _%_, _<_}
@@ -11,7 +11,6 @@ use lib.Seq.{getD-set-same, getD-set-other}
 use lib.Dec.{eqb}
 use borrow.Author.Tests.{eq-eqb, ne-eqb}
 use Rattle.lent.proofs.Choices.{or-no, clash}
-use Rattle.lent.proofs.Walks.{all-every}
 use Rattle.machine.specs.Sound.{newAt, distinct}
 use Rattle.joins.specs.Bits.{wordBits, hasBit, withBit}
 use Rattle.order.specs.Order.{item}

@@ -13,7 +13,6 @@ use lib.Seq.{getD-set-same, getD-set-other}
 use lib.Dec.{eqb}
 use borrow.Author.Tests.{eq-eqb, ne-eqb, eqb-true, eqb-false, not-true, not-false}
 use Rattle.lent.proofs.Choices.{clash}
-use Rattle.lent.proofs.Walks.{all-every}
 use Rattle.machine.proofs.Views.{getD-same}
 use Rattle.machine.specs.Sizes.{sessionCount}
 use Rattle.machine.specs.Sound.{distinct}

@@ -8,11 +8,11 @@ use mathlib.Core.Option.{Option, none, some}
 use Prim.Native.Nat.{ℕ, _≤_}
 use lib.Dec.{eqb, ltb}
 use Rattle.lent.specs.Tables.{if_then_else_}
-use Rattle.lent.proofs.Choices.{clash, zero-one}
+use Rattle.lent.proofs.Choices.{zero-one}
 use Rattle.machine.specs.Sizes.{sessionCount, stepMax}
 use Rattle.machine.specs.Tables.{first}
 use Rattle.machine.specs.Session.{isDue, advanced, sealed, isSealed, validationOf}
-use Rattle.machine.specs.State.{Slot, noSession, session, State, free, numbered, sessionPlace, sessionOf, sessionAt, rowPlace, rowOf}
+use Rattle.machine.specs.State.{Slot, noSession, session, State, free, sessionPlace, sessionOf, sessionAt, rowPlace, rowOf}
 use Rattle.machine.specs.Expiry.{expire}
 use Rattle.machine.specs.Sound.{sound}
 use Rattle.machine.specs.Refusals.{countOf, stagingRefusals, refusals}

@@ -1,19 +1,15 @@
 -- A row breaks rule 4 for n where it is n's, has a staged value, and that value is not the register's; each test is read from the row's fields.
-use Prim.Native.Nat.{ℕ, _≤_, _<_}
+use Prim.Native.Nat.{ℕ, _<_}
 use mathlib.Core.Path.{_≡_, refl, ap, _∙_}
-use mathlib.Core.Bool.{Bool, false, not}
+use mathlib.Core.Bool.{false, not}
 use mathlib.Core.List.{List}
 use native.Mathlib.Omega.{arith}
-use lib.ListN.{length}
 use borrow.Author.Tests.{eq-eqb, ne-eqb}
 use Rattle.lent.specs.Bytes.{win}
-use Rattle.lent.specs.Tables.{same, some}
-use Rattle.lent.proofs.Walks.{some-none}
+use Rattle.lent.specs.Tables.{same}
 use Rattle.machine.specs.Sizes.{rowCount, stagedAt}
-use Rattle.machine.specs.Tables.{any}
 use Rattle.machine.specs.State.{Value, nothing, staged, DROP, Row, noRow, row, State, stagedIn, rowAt}
 use Rattle.machine.specs.Test.{differs}
-use Rattle.machine.proofs.Views.{none-any}
 use Rattle.layout.specs.Fields.{rowSession, rowKey, VALUED, stagedMark, stagedLength}
 use Rattle.layout.specs.Holds.{Holds}
 use Rattle.layout.proofs.Held.{staged-stands}

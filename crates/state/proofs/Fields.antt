@@ -2,22 +2,21 @@
 -- stands in the bytes, whatever the bytes are, since a number that is read as 0 is 0.
 use Prim.Native.Nat.{ℕ, _+_, _*_, _<_}
 use mathlib.Core.Path.{_≡_, refl, sym, ap, _∙_}
-use mathlib.Core.Bool.{Bool, true, false}
+use mathlib.Core.Bool.{Bool}
 use mathlib.Core.List.{List}
-use mathlib.Core.Option.{none, some}
 use native.Mathlib.Omega.{arith}
 use lib.Dec.{eqb}
 use borrow.Author.Tests.{eqb-true}
-use Rattle.lent.specs.Bytes.{le32, le64, win}
+use Rattle.lent.specs.Bytes.{le32, win}
 use Rattle.lent.specs.Tables.{if_then_else_}
 use Rattle.lent.proofs.Choices.{if-ind}
 use Rattle.lent.proofs.Numbers.{width32, le-front, le-win}
 use Rattle.lent.proofs.Splice.{getD-win}
 use Rattle.lent.proofs.Tables.{read-tab-at}
 use Rattle.machine.specs.Sizes.{keyCount, keysFrom, keyWidth, rowCount, rowsFrom, rowWidth, sessionCount, sessionsFrom, sessionWidth}
-use Rattle.machine.specs.State.{Key, Row, noRow, row, noSession, session, blank, keyOf, rowAt, sessionAt}
+use Rattle.machine.specs.State.{Key, Row, noRow, row, noSession, blank, keyOf, rowAt, sessionAt}
 use Rattle.machine.specs.Sound.{tokenIn, numberIn, numberAt, tokenAt}
-use Rattle.layout.specs.Layout.{decKey, decRow, decStaged, sessionFrom, decSession, decode}
+use Rattle.layout.specs.Layout.{decKey, decRow, decStaged, decSession, decode}
 use Rattle.joins.specs.Joins.{sessionNumbers, rowSession, rowKey, rowKind}
 
 -- a number that is read as 0 is 0

@@ -1,6 +1,6 @@
 -- The tests of the bytes, all together, are the definition of well formed: the encoding is compared table by table and record by record, `sound`
 -- goes by the same records, and each record's two conditions are its form.
-use Prim.Native.Nat.{ℕ, _+_, _*_, _≤_, _<_}
+use Prim.Native.Nat.{ℕ, _+_, _*_, _≤_}
 use mathlib.Core.Path.{_≡_, refl, sym, ap, _∙_}
 use mathlib.Core.Bool.{Bool, true, false, _&&_, and-assoc}
 use mathlib.Core.List.{List, _++_}

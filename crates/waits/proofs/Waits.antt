@@ -11,16 +11,11 @@ use lib.ListN.{length, getD, drop, drop-of-length-le}
 use lib.Seq.{drop-cons}
 use borrow.Author.Tests.{eq-eqb, ne-eqb}
 use Rattle.lent.specs.Tables.{if_then_else_}
-use Rattle.lent.proofs.Choices.{clash}
-use Rattle.machine.specs.Sizes.{sessionCount}
-use Rattle.machine.specs.State.{Lease, Slot, noSession, session, Row, noRow, row, State, numbered, sessionPlace, sessionOf, sessionAt, leaseOn}
+use Rattle.machine.specs.State.{Lease, Row, noRow, row, State, sessionOf, leaseOn}
 use Rattle.machine.specs.Sound.{tokenIn}
-use Rattle.machine.specs.Effects.{lifeEnd, slotEnd, later, latest, leaseEnd, lessNow, wait}
-use Rattle.layout.specs.Fields.{leaseUntil, rowSession, rowKey, sessionIn}
+use Rattle.machine.specs.Effects.{slotEnd, later, latest, leaseEnd, lessNow, wait}
+use Rattle.layout.specs.Fields.{leaseUntil, rowSession, rowKey}
 use Rattle.layout.specs.Holds.{LeaseFits, RowFits}
-use Rattle.layout.specs.Search.{found}
-use Rattle.layout.specs.declared.Found.{Found}
-use Rattle.layout.proofs.Search.{found-entry, found-passes, nothing-entry}
 use Rattle.layout.proofs.Records.{lease-none, row-none}
 use Rattle.waits.specs.Waits.{rowEnd}
 
