@@ -9,7 +9,7 @@ use Prim.Native.Nat.{ℕ}
 use lib.ListN.{length}
 use borrow.Author.Tests.{eqb-true, eq-eqb}
 use Rattle.lent.specs.Tables.{if_then_else_}
-use Rattle.lent.proofs.Choices.{clash, zero-one}
+use Rattle.lent.proofs.Choices.{zero-one}
 use Rattle.machine.specs.Sizes.{sessionCount}
 use Rattle.machine.specs.Tables.{first}
 use Rattle.machine.specs.Session.{isSealed}
@@ -21,27 +21,23 @@ use Rattle.machine.proofs.Views.{find-test, no-session}
 use Rattle.layout.specs.Fields.{sessionIn}
 use Rattle.layout.specs.Search.{found}
 use Rattle.layout.specs.declared.Found.{Found}
-use Rattle.layout.proofs.Search.{found-at, found-passes, nothing-entry}
+use Rattle.layout.proofs.Search.{found-at}
+use Rattle.layout.proofs.Slots.{session-by}
 use Rattle.askers.specs.Asker.{askerAt, askerOf}
 use Rattle.askers.specs.declared.Asker.{Asker}
-
-numbered-slot : (n : ℕ) (e : Slot) → numbered n e ≡ true → e ≡ session (sessionIn e)
-numbered-slot n noSession q = clash false q refl
-numbered-slot n (session x) q = refl
 
 -- ---- what a search for the number finds
 
 module _ (s : State) (l : length (s .sessions) ≡ sessionCount) (n : ℕ) where
   pub asker-none : found sessionCount (sessionPlace s n) ≡ Found.Nothing → askerOf s n ≡ Asker.Refused NO-SESSION
   unfolding askerOf
-  asker-none e = rw (nothing-entry (numbered n) noSession (s .sessions) sessionCount l e)
+  asker-none e = rw (session-by s n l e)
 
   -- the session x at place i, by whether it is sealed
   pub asker-at : {i : ℕ} {x : Session} {t : Bool} → found sessionCount (sessionPlace s n) ≡ Found.At i → x ≡ sessionIn (sessionAt s i) → isSealed x ≡ t
       → askerOf s n ≡ (if t then Asker.Refused SEALED else Asker.Open i x)
   unfolding askerOf
-  asker-at {i} f e q =
-      rw (found-at sessionCount (sessionPlace s n) i f .0, numbered-slot n (sessionAt s i) (found-passes (numbered n) noSession (s .sessions) sessionCount i l f), ← e, q)
+  asker-at {i} f e q = rw (session-by s n l f, found-at sessionCount (sessionPlace s n) i f .0, ← e, q)
 
 -- ---- what the asker tells
 

@@ -1,4 +1,3 @@
-pub mod Searches
 pub mod Steps
 pub mod Passes
 pub mod Ended

@@ -1,19 +1,16 @@
 -- Chains: a number that is at no place of its chain is new, since the same number is on the same chain. A place comes to the front of a chain, so the
 -- chains before it stay as they were.
 use mathlib.Core.Path.{_≡_, sym, ap, _∙_}
-use mathlib.Core.Bool.{true, not}
+use mathlib.Core.Bool.{true}
 use mathlib.Core.Logic.{_⊎_, ⊎-elim, inl, inr}
 use mathlib.Core.List.{List}
 use Prim.Native.Nat.{ℕ, _+_, _-_, _<_}
 use native.Mathlib.Omega.{arith}
 use lib.ListN.{set, replicate, length-set, length-replicate}
 use lib.Seq.{getD-set-same, getD-set-other}
-use lib.Dec.{eqb}
-use borrow.Author.Tests.{ne-eqb}
-use Rattle.lent.proofs.Walks.{all-every}
 use Rattle.machine.specs.Sound.{newAt}
 use Rattle.order.specs.Order.{side, item}
-use Rattle.order.proofs.Numbers.{last-or, same-or, new-zero, new-used}
+use Rattle.order.proofs.Numbers.{last-or, same-or, new-zero, new-unlike}
 use Rattle.joins.specs.Joins.{chainCount, chainOf, Linked, here, there, Chained, Passed}
 
 -- ---- the places of a chain
@@ -72,10 +69,7 @@ module _ {nums heads next : List ℕ} {k n : ℕ} (y : Chained nums k heads next
 
   module _ (used : n ≡ 0 → ⊥) {h q : ℕ} (ish : h ≡ chainOf n) (isq : q ≡ item heads h) where
     pub new-passed : Passed nums next q n → k < side → newAt (item nums) k ≡ true
-    new-passed f low =
-        new-used (item nums) k n is used
-        ∙ all-every (λ j. not (eqb (item nums j) n)) k
-        (λ j l. ap not (ne-eqb (item nums j) n (λ e. f k j low (rw (isq, ish, ← e) (y .linked j l (λ z. used (sym e ∙ z)))) e)))
+    new-passed f low = new-unlike (item nums) k n is used (λ j l e. f k j low (rw (isq, ish, ← e) (y .linked j l (λ z. used (sym e ∙ z)))) e)
 
     pub chained-more : h < chainCount → k < side → Chained nums (k + 1) (set heads h k) (set next k q)
     chained-more a b = record {

@@ -1,7 +1,7 @@
 -- Marks: setting one changes no other. So a number whose mark is not there before it sets it differs from each number that has one, since the
 -- same number has the same mark.
 use mathlib.Core.Path.{_≡_, refl, sym, ap, _∙_}
-use mathlib.Core.Bool.{Bool, true, false, not, _&&_, _||_, or-false, or-true}
+use mathlib.Core.Bool.{Bool, true, false, _&&_, _||_, or-false, or-true}
 use mathlib.Core.Logic.{⊎-elim}
 use mathlib.Core.List.{List}
 use Prim.Native.Nat.{ℕ, _+_, _/_, _%_, _<_}
@@ -11,13 +11,12 @@ use lib.Seq.{getD-set-same, getD-set-other}
 use lib.Dec.{eqb}
 use borrow.Author.Tests.{eq-eqb, ne-eqb}
 use Rattle.lent.proofs.Choices.{or-no, clash}
-use Rattle.lent.proofs.Walks.{all-every}
 use Rattle.machine.specs.Sound.{newAt, distinct}
 use Rattle.joins.specs.Bits.{wordBits, hasBit, withBit}
 use Rattle.order.specs.Order.{item}
 use Rattle.joins.specs.Joins.{markWords, hasMark, withMark, setBit, meetsMark, noted, Marked, Met}
 use Rattle.joins.proofs.Bits.{bit-with}
-use Rattle.order.proofs.Numbers.{last-or, same-or, new-zero, new-used, distinct-more}
+use Rattle.order.proofs.Numbers.{last-or, same-or, new-zero, new-unlike, distinct-more}
 
 pub set-bit : (marks : List ℕ) (k b : ℕ) → k < length marks → (a c : ℕ) → hasBit (item (setBit marks k b) a) c ≡ (hasBit (item marks a) c || (eqb a k && eqb c b))
 set-bit marks k b h a c =
@@ -41,10 +40,7 @@ module _ {f : ℕ → ℕ} {k : ℕ} {marks : List ℕ} (y : Marked f k marks) w
 
   module _ (used : f k ≡ 0 → ⊥) where
     unmet : hasMark marks (f k) ≡ false → newAt f k ≡ true
-    unmet free =
-        new-used f k (f k) refl used
-        ∙ all-every (λ j. not (eqb (f j) (f k))) k
-        (λ j l. ap not (ne-eqb (f j) (f k) (λ q. clash (hasMark marks (f k)) (ap (hasMark marks) (sym q) ∙ y .has j l (λ z. used (sym q ∙ z))) free)))
+    unmet free = new-unlike f k (f k) refl used (λ j l q. clash (hasMark marks (f k)) (ap (hasMark marks) (sym q) ∙ y .has j l (λ z. used (sym q ∙ z))) free)
 
     own : (m : ℕ) → m ≡ f k → hasMark marks m || (eqb (m / wordBits % markWords) (f k / wordBits % markWords) && eqb (m % wordBits) (f k % wordBits)) ≡ true
     own m q = rw (q, eq-eqb (f k / wordBits % markWords) (f k / wordBits % markWords) refl, eq-eqb (f k % wordBits) (f k % wordBits) refl) (or-true (hasMark marks (f k)))

@@ -13,12 +13,11 @@ use lib.Seq.{getD-set-same, getD-set-other}
 use lib.Dec.{eqb}
 use borrow.Author.Tests.{eq-eqb, ne-eqb, eqb-true, eqb-false, not-true, not-false}
 use Rattle.lent.proofs.Choices.{clash}
-use Rattle.lent.proofs.Walks.{all-every}
 use Rattle.machine.proofs.Views.{getD-same}
 use Rattle.machine.specs.Sizes.{sessionCount}
 use Rattle.machine.specs.Sound.{distinct}
 use Rattle.order.specs.Order.{side, item}
-use Rattle.order.proofs.Numbers.{last-or, same-or, or-none, new-zero, new-used, distinct-more, twice-same}
+use Rattle.order.proofs.Numbers.{last-or, same-or, or-none, new-zero, new-unlike, distinct-more, twice-same}
 use Rattle.joins.specs.Joins.{seatCount, seatOf, seatsWith, looseWith, sitsWith, Small, Stand, no-number, in-seat, at-large, Entered, Sat}
 use Rattle.joins.proofs.Gathered.{gathered-none, gathered-more}
 use Rattle.joins.proofs.Loose.{stand-kept, loosened-none}
@@ -114,7 +113,7 @@ module _ {f : ℕ → ℕ} {i : ℕ} {nums seats loose : List ℕ} (h : i < sess
             (λ g z. getD-set-other seats (seatOf n) g (i + 1) 0 (λ e. z (ap (item seats) e ∙ free)))
             (λ z e. let o : i + 1 ≡ 0 = sym own ∙ e in omega (arith, o))
             (in-seat (there taken ∙ own) refl);
-        new = λ z. new-used f i n refl used ∙ all-every (λ j. not (eqb (f j) n)) i (λ j l. ap not (ne-eqb (f j) n (unlike j l)));
+        new = λ z. new-unlike f i n refl used unlike;
         twice = λ r. clash true refl r;
       }
 

@@ -6,4 +6,6 @@ pub mod Formed
 pub mod Held
 pub mod Parts
 pub mod Search
+pub mod Slots
+pub mod Scans
 pub mod Walked

@@ -57,6 +57,10 @@ unfolding every
 every-cong p q zero f = refl
 every-cong p q (suc n) f = rw (every-cong p q n (λ i h. f i (omega arith)), f n (omega arith))
 
+-- a test of what is the same
+pub every-ap : {A : Type 0} (p : A → Bool) (f g : ℕ → A) (n : ℕ) → ((i : ℕ) → i < n → f i ≡ g i) → every (λ i. p (f i)) n ≡ every (λ i. p (g i)) n
+every-ap p f g n e = every-cong (λ i. p (f i)) (λ i. p (g i)) n (λ i l. ap p (e i l))
+
 -- ---- some index
 
 module _ (p : ℕ → Bool) where

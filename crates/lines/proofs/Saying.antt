@@ -112,6 +112,10 @@ module _ (most : ℕ) (o : Option (List ℕ)) (r : Hex) (a : r ≡ lengthRead o)
 
 -- ---- what is given
 
+-- no value is read, and the buffer stays
+pub unread : {o : Option (List ℕ)} {v : List ℕ} → o ≡ none → (Hex.Not ≡ lengthRead o) × (v ≡ splice v 0 (valueRead o))
+unread {v = v} e = rw e (refl, sym (splice-none v 0))
+
 pub gives-unvalued : (x : Read) (r : Line) (s : List ℕ) → x ≡ unvalued r → Gives x r s s
 gives-unvalued x r s e = rw e (record { line = refl; value = sym (splice-none s 0) })
 

@@ -43,6 +43,9 @@ module _ (f : ℕ → ℕ) (i n : ℕ) (is : n ≡ f i) where
   unfolding newAt
   new-used z = rw (ne-eqb (f i) 0 (λ y. z (is ∙ y)), is)
 
+  pub new-unlike : (n ≡ 0 → ⊥) → ((j : ℕ) → j < i → f j ≡ n → ⊥) → newAt f i ≡ true
+  new-unlike z g = new-used z ∙ all-every (λ j. not (eqb (f j) n)) i (λ j l. ap not (ne-eqb (f j) n (g j l)))
+
 -- among numbers that are the same
 pub new-cong : (f g : ℕ → ℕ) (i : ℕ) → ((j : ℕ) → j ≤ i → f j ≡ g j) → newAt f i ≡ newAt g i
 unfolding newAt
@@ -75,7 +78,7 @@ all-new f m g =
     all-every (newAt f) m
     (λ i h. ⊎-elim
     (λ e. new-zero f i (f i) refl e)
-    (λ z. new-used f i (f i) refl z ∙ all-every (λ j. not (eqb (f j) (f i))) i (λ j l. ap not (ne-eqb (f j) (f i) (g i j h l z))))
+    (λ z. new-unlike f i (f i) refl z (λ j l. g i j h l z))
     (same-or (f i) 0))
 
 -- a number that is not 0 at two places

@@ -49,23 +49,15 @@ module _ (s : State) (n k kind : ℕ) where
 
   -- ---- what would be granted
 
-  pub grants-held-not : eqb (kindOf (rowOf s n k)) kind ≡ true → wouldGrant s n k kind ≡ false
-  unfolding wouldGrant
-  grants-held-not e = rw e
-
-  pub grants-by : eqb (kindOf (rowOf s n k)) kind ≡ false → wouldGrant s n k kind ≡ grants (decide s k kind)
+  pub grants-by : {t : Bool} → eqb (kindOf (rowOf s n k)) kind ≡ t → wouldGrant s n k kind ≡ not t && grants (decide s k kind)
   unfolding wouldGrant
   grants-by e = rw e
 
   -- ---- a row that it has
 
-  pub hold-own : eqb (kindOf (rowOf s n k)) kind ≡ true → hold s n k kind ≡ told Answer.Held s
+  pub hold-by : {t : Bool} → eqb (kindOf (rowOf s n k)) kind ≡ t → hold s n k kind ≡ (if t then told Answer.Held s else ask s n k kind)
   unfolding hold
-  hold-own e = rw e
-
-  pub hold-asks : eqb (kindOf (rowOf s n k)) kind ≡ false → hold s n k kind ≡ ask s n k kind
-  unfolding hold
-  hold-asks e = rw e
+  hold-by e = rw e
 
   -- ---- its arguments and its session; 0 stands for the time, which QUAR does not look at
 

@@ -8,11 +8,11 @@ use mathlib.Core.Option.{Option, none, some}
 use Prim.Native.Nat.{ℕ, _≤_}
 use lib.Dec.{eqb, ltb}
 use Rattle.lent.specs.Tables.{if_then_else_}
-use Rattle.lent.proofs.Choices.{clash, zero-one}
+use Rattle.lent.proofs.Choices.{zero-one}
 use Rattle.machine.specs.Sizes.{sessionCount, stepMax}
 use Rattle.machine.specs.Tables.{first}
 use Rattle.machine.specs.Session.{isDue, advanced, sealed, isSealed, validationOf}
-use Rattle.machine.specs.State.{Slot, noSession, session, State, free, numbered, sessionPlace, sessionOf, sessionAt, rowPlace, rowOf}
+use Rattle.machine.specs.State.{Slot, noSession, session, State, free, sessionPlace, sessionOf, sessionAt, rowPlace, rowOf}
 use Rattle.machine.specs.Expiry.{expire}
 use Rattle.machine.specs.Sound.{sound}
 use Rattle.machine.specs.Refusals.{countOf, stagingRefusals, refusals}
@@ -25,7 +25,7 @@ use Rattle.machine.proofs.SoundMeans.{sessions-length}
 use Rattle.layout.specs.Fields.{sessionIn}
 use Rattle.layout.specs.Search.{found}
 use Rattle.layout.specs.declared.Found.{Found}
-use Rattle.layout.proofs.Search.{found-entry, found-passes, nothing-entry}
+use Rattle.layout.proofs.Slots.{session-by}
 use Rattle.stages.specs.Staging.{orElse, stagingOf}
 use Rattle.stages.specs.declared.Staging.{Staging}
 use Rattle.deadlines.specs.Deadlines.{dueSlot}
@@ -84,23 +84,16 @@ validates t n m x e h q = sym (ap refusalOf (validate-live t n m [] h x e) ∙ g
     go false true = refl
     go false false = refl
 
-slot-left : (now n : ℕ) (e : Slot) → numbered n e ≡ true → (t : Bool) → isDue now (sessionIn e) ≡ t → freeDue now e ≡ (if t then noSession else session (sessionIn e))
-slot-left now n noSession q t d = clash false q refl
-slot-left now n (session x) q t d = rw d
-
 module _ (s : State) (ok : sound s ≡ true) (now n : ℕ) where
   -- ---- what the search for the number finds
 
   pub left-none : found sessionCount (sessionPlace s n) ≡ Found.Nothing → sessionOf (expire now s) n ≡ noSession
-  left-none f = session-expired s ok now n ∙ ap (freeDue now) (nothing-entry (numbered n) noSession (s .sessions) sessionCount (sessions-length s ok) f)
+  left-none f = session-expired s ok now n ∙ ap (freeDue now) (session-by s n (sessions-length s ok) f)
 
   -- x stands where it was found
   pub left-by : {i : ℕ} {x : Session} {t : Bool} → found sessionCount (sessionPlace s n) ≡ Found.At i → x ≡ sessionIn (sessionAt s i) → isDue now x ≡ t
       → sessionOf (expire now s) n ≡ (if t then noSession else session x)
-  left-by {i} {x} {t} f e d =
-      session-expired s ok now n
-      ∙ ap (freeDue now) (found-entry (numbered n) noSession (s .sessions) sessionCount i f)
-      ∙ rw e (slot-left now n (sessionAt s i) (found-passes (numbered n) noSession (s .sessions) sessionCount i (sessions-length s ok) f) t (rw e at d))
+  left-by f e d = session-expired s ok now n ∙ ap (freeDue now) (session-by s n (sessions-length s ok) f) ∙ rw (← e, d)
 
   -- ---- who is left
 

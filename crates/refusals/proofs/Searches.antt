@@ -16,7 +16,7 @@ use Rattle.machine.proofs.Views.{find-test, any-at, any-mapped}
 use Rattle.layout.specs.Search.{found}
 use Rattle.layout.specs.declared.Found.{Found}
 use Rattle.layout.proofs.Search.{found-at, found-passes, found-full, count-most}
-use Rattle.endings.proofs.Searches.{any-hit}
+use Rattle.layout.proofs.Scans.{any-hit}
 
 -- a search has found something
 abbrev pub isAt : Found → Bool

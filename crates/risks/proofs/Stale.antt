@@ -1,24 +1,18 @@
--- A row breaks rule 4 for n where it is n's, has a staged value, and that value is not the register's; each test is read from the row's fields, and a walk that met no such row shows there is none.
-use Prim.Native.Nat.{ℕ, _≤_, _<_}
+-- A row breaks rule 4 for n where it is n's, has a staged value, and that value is not the register's; each test is read from the row's fields.
+use Prim.Native.Nat.{ℕ, _<_}
 use mathlib.Core.Path.{_≡_, refl, ap, _∙_}
-use mathlib.Core.Bool.{Bool, false, not}
+use mathlib.Core.Bool.{false, not}
 use mathlib.Core.List.{List}
 use native.Mathlib.Omega.{arith}
-use lib.ListN.{length}
 use borrow.Author.Tests.{eq-eqb, ne-eqb}
 use Rattle.lent.specs.Bytes.{win}
-use Rattle.lent.specs.Tables.{same, some}
-use Rattle.lent.proofs.Walks.{some-none}
+use Rattle.lent.specs.Tables.{same}
 use Rattle.machine.specs.Sizes.{rowCount, stagedAt}
-use Rattle.machine.specs.Tables.{any}
 use Rattle.machine.specs.State.{Value, nothing, staged, DROP, Row, noRow, row, State, stagedIn, rowAt}
 use Rattle.machine.specs.Test.{differs}
-use Rattle.machine.proofs.Views.{none-any}
 use Rattle.layout.specs.Fields.{rowSession, rowKey, VALUED, stagedMark, stagedLength}
 use Rattle.layout.specs.Holds.{Holds}
 use Rattle.layout.proofs.Held.{staged-stands}
-
--- ---- a row
 
 module _ (register : ℕ → Value) (n : ℕ) where
   pub differs-other : (r : Row) → (rowSession r ≡ n → ⊥) → differs register n r ≡ false
@@ -45,8 +39,3 @@ module _ (register : ℕ → Value) (n : ℕ) where
       → l ≡ stagedLength (stagedIn (rowAt s i)) → k ≡ rowKey (rowAt s i) → differs register n (rowAt s i) ≡ not (same (win b (stagedAt i) l) (register k))
   differs-row {b} {s} h i g l k e m q p =
       differs-staged (rowAt s i) (win b (stagedAt i) l) e m (λ u f. ap (win b (stagedAt i)) (q ∙ ap stagedLength f) ∙ staged-stands h i g u f) ∙ rw p
-
--- ---- all rows
-
-pub none-stale : (p : Row → Bool) (s : State) (i : ℕ) → length (s .rows) ≡ rowCount → rowCount ≤ i → some (λ j. p (rowAt s j)) i ≡ false → any p (s .rows) ≡ false
-none-stale p s i l g e = none-any p noRow (s .rows) (λ j h. some-none (λ j. p (rowAt s j)) i j e (omega arith))

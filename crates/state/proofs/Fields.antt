@@ -2,38 +2,34 @@
 -- stands in the bytes, whatever the bytes are, since a number that is read as 0 is 0.
 use Prim.Native.Nat.{ℕ, _+_, _*_, _<_}
 use mathlib.Core.Path.{_≡_, refl, sym, ap, _∙_}
-use mathlib.Core.Bool.{Bool, true, false}
+use mathlib.Core.Bool.{Bool}
 use mathlib.Core.List.{List}
-use mathlib.Core.Option.{none, some}
 use native.Mathlib.Omega.{arith}
 use lib.Dec.{eqb}
 use borrow.Author.Tests.{eqb-true}
-use Rattle.lent.specs.Bytes.{le32, le64, win}
+use Rattle.lent.specs.Bytes.{le32, win}
 use Rattle.lent.specs.Tables.{if_then_else_}
+use Rattle.lent.proofs.Choices.{if-ind}
 use Rattle.lent.proofs.Numbers.{width32, le-front, le-win}
 use Rattle.lent.proofs.Splice.{getD-win}
 use Rattle.lent.proofs.Tables.{read-tab-at}
 use Rattle.machine.specs.Sizes.{keyCount, keysFrom, keyWidth, rowCount, rowsFrom, rowWidth, sessionCount, sessionsFrom, sessionWidth}
-use Rattle.machine.specs.State.{Key, Row, noRow, row, noSession, session, blank, keyOf, rowAt, sessionAt}
+use Rattle.machine.specs.State.{Key, Row, noRow, row, noSession, blank, keyOf, rowAt, sessionAt}
 use Rattle.machine.specs.Sound.{tokenIn, numberIn, numberAt, tokenAt}
-use Rattle.layout.specs.Layout.{decKey, decRow, decStaged, sessionFrom, decSession, decode}
+use Rattle.layout.specs.Layout.{decKey, decRow, decStaged, decSession, decode}
 use Rattle.joins.specs.Joins.{sessionNumbers, rowSession, rowKey, rowKind}
+
+-- a number that is read as 0 is 0
+zero-read : {A : Type 0} (f : A → ℕ) (n : ℕ) {a b : A} → f a ≡ 0 → f b ≡ n → f (if eqb n 0 then a else b) ≡ n
+zero-read f n p q = if-ind (λ x. f x ≡ n) (eqb n 0) (λ e. p ∙ sym (eqb-true n 0 e)) (λ e. q)
 
 number-decoded : (x : List ℕ) → numberIn (decSession x) ≡ le32 x 0
 unfolding decSession
-number-decoded x = go (eqb (le32 x 0) 0) refl
-  where
-    go : (t : Bool) → eqb (le32 x 0) 0 ≡ t → numberIn (if t then noSession else session (sessionFrom x)) ≡ le32 x 0
-    go true e = sym (eqb-true (le32 x 0) 0 e)
-    go false e = refl
+number-decoded x = zero-read numberIn (le32 x 0) refl refl
 
 token-decoded : (x : List ℕ) → tokenIn (decKey x .lease) ≡ le32 x 4
 unfolding decKey
-token-decoded x = go (eqb (le32 x 4) 0) refl
-  where
-    go : (t : Bool) → eqb (le32 x 4) 0 ≡ t → tokenIn (if t then none else some (record { token = le32 x 4; until = le64 x 8 })) ≡ le32 x 4
-    go true e = sym (eqb-true (le32 x 4) 0 e)
-    go false e = refl
+token-decoded x = zero-read tokenIn (le32 x 4) refl refl
 
 module _ (s : List ℕ) where
   -- the bytes of a record

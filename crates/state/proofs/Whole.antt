@@ -1,6 +1,6 @@
 -- The tests of the bytes, all together, are the definition of well formed: the encoding is compared table by table and record by record, `sound`
 -- goes by the same records, and each record's two conditions are its form.
-use Prim.Native.Nat.{ℕ, _+_, _*_, _≤_, _<_}
+use Prim.Native.Nat.{ℕ, _+_, _*_, _≤_}
 use mathlib.Core.Path.{_≡_, refl, sym, ap, _∙_}
 use mathlib.Core.Bool.{Bool, true, false, _&&_, and-assoc}
 use mathlib.Core.List.{List, _++_}
@@ -14,7 +14,7 @@ use Rattle.lent.proofs.Choices.{and-swap, and-ahead}
 use Rattle.lent.proofs.Equal.{same-split, same-zeros}
 use Rattle.lent.proofs.Splice.{bytes-win, length-win}
 use Rattle.lent.proofs.Tables.{length-read, place-fits, same-tab-at}
-use Rattle.lent.proofs.Walks.{every-both, every-cong}
+use Rattle.lent.proofs.Walks.{every-both, every-cong, every-ap}
 use Rattle.machine.specs.Sizes.{stateSize, headSize, keyCount, keysFrom, keyWidth, rowCount, rowsFrom, rowWidth, sessionCount, sessionsFrom, sessionWidth, restFrom, restSize}
 use Rattle.machine.specs.State.{Head, State, keyOf, rowAt, sessionAt}
 use Rattle.machine.specs.Sound.{headSound, keySound, rowSound, sessionSound, distinct, joined, sized, sound}
@@ -30,10 +30,6 @@ use Rattle.state.proofs.Joined.{joined-by-bytes}
 pub wrong-length : (s : List ℕ) → (length s ≡ stateSize → ⊥) → wellFormed s ≡ false
 unfolding wellFormed
 wrong-length s n = rw (ne-eqb (length s) stateSize n)
-
--- a test of records that are the same
-every-ap : {A : Type 0} (p : A → Bool) (f g : ℕ → A) (n : ℕ) → ((i : ℕ) → i < n → f i ≡ g i) → every (λ i. p (f i)) n ≡ every (λ i. p (g i)) n
-every-ap p f g n e = every-cong (λ i. p (f i)) (λ i. p (g i)) n (λ i l. ap p (e i l))
 
 module _ (s : List ℕ) (h : length s ≡ stateSize) (f : Bytes s) where
   abbrev σ : State

@@ -3,4 +3,3 @@ pub mod Ended
 pub mod Due
 pub mod Lapsing
 pub mod Whole
-pub mod Scans

@@ -29,7 +29,8 @@ use Rattle.machine.proofs.SoundMeans.{sessions-length}
 use Rattle.layout.specs.Fields.{sessionIn}
 use Rattle.layout.specs.Search.{found}
 use Rattle.layout.specs.declared.Found.{Found}
-use Rattle.layout.proofs.Search.{found-at, nothing-entry, place-passes}
+use Rattle.layout.proofs.Search.{found-at, place-passes}
+use Rattle.layout.proofs.Slots.{session-by}
 use Rattle.outcome.specs.Outcome.{unless, tried}
 
 -- ---- the session that was found, as it was loaded
@@ -55,7 +56,7 @@ pub located-at : (s : State) (n : ℕ) {i : ℕ} {x : Session} {r : Found} → s
 located-at s n ok f q d = located s n ok d (found-at sessionCount _ _ (sym f ∙ q))
 
 pub unlocated : (s : State) (n : ℕ) → sound s ≡ true → found sessionCount (sessionPlace s n) ≡ Found.Nothing → sessionOf s n ≡ noSession
-unlocated s n ok e = nothing-entry (numbered n) noSession (s .sessions) sessionCount (sessions-length s ok) e
+unlocated s n ok e = session-by s n (sessions-length s ok) e
 
 module _ {s : State} {n i : ℕ} {x : Session} (w : Located s n i x) where
   pub number-same : {m : ℕ} → m ≡ numberIn (sessionAt s i) → m ≡ n

@@ -11,38 +11,13 @@ use lib.ListN.{length, getD, drop, drop-of-length-le}
 use lib.Seq.{drop-cons}
 use borrow.Author.Tests.{eq-eqb, ne-eqb}
 use Rattle.lent.specs.Tables.{if_then_else_}
-use Rattle.lent.proofs.Choices.{clash}
-use Rattle.machine.specs.Sizes.{sessionCount}
-use Rattle.machine.specs.State.{Lease, Slot, noSession, session, Row, noRow, row, State, numbered, sessionPlace, sessionOf, sessionAt, leaseOn}
+use Rattle.machine.specs.State.{Lease, Row, noRow, row, State, sessionOf, leaseOn}
 use Rattle.machine.specs.Sound.{tokenIn}
-use Rattle.machine.specs.Effects.{lifeEnd, slotEnd, later, latest, leaseEnd, lessNow, wait}
-use Rattle.layout.specs.Fields.{leaseUntil, rowSession, rowKey, sessionIn}
+use Rattle.machine.specs.Effects.{slotEnd, later, latest, leaseEnd, lessNow, wait}
+use Rattle.layout.specs.Fields.{leaseUntil, rowSession, rowKey}
 use Rattle.layout.specs.Holds.{LeaseFits, RowFits}
-use Rattle.layout.specs.Search.{found}
-use Rattle.layout.specs.declared.Found.{Found}
-use Rattle.layout.proofs.Search.{found-entry, found-passes, nothing-entry}
 use Rattle.layout.proofs.Records.{lease-none, row-none}
 use Rattle.waits.specs.Waits.{rowEnd}
-
--- ---- a session's end, by its number
-
-numbered-end : (n : ℕ) (e : Slot) → numbered n e ≡ true → slotEnd e ≡ lifeEnd (sessionIn e .life)
-numbered-end n noSession p = clash false p refl
-numbered-end n (session x) p = refl
-
--- the end of the session that a search told of, which is sealed where there is none
-abbrev pub endBy : State → Found → Option ℕ
-endBy s (Found.At j) = lifeEnd (sessionIn (sessionAt s j) .life)
-endBy s Found.Nothing = none
-
-pub end-by : (s : State) (n : ℕ) → length (s .sessions) ≡ sessionCount → {r : Found} → found sessionCount (sessionPlace s n) ≡ r → slotEnd (sessionOf s n) ≡ endBy s r
-end-by s n l f = go _ f
-  where
-    go : (r : Found) → found sessionCount (sessionPlace s n) ≡ r → slotEnd (sessionOf s n) ≡ endBy s r
-    go (Found.At j) f =
-        rw (found-entry (numbered n) noSession (s .sessions) sessionCount j f)
-        (numbered-end n (sessionAt s j) (found-passes (numbered n) noSession (s .sessions) sessionCount j l f))
-    go Found.Nothing f = rw (nothing-entry (numbered n) noSession (s .sessions) sessionCount l f)
 
 -- ---- what a row adds
 

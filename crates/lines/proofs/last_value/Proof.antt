@@ -1,26 +1,23 @@
 -- `last_value` meets its contract: the field is the last where it ends with the line; its length is known before a byte is written, so that the buffer stays where the value is refused.
 use Prim.Native.Nat.{_-_}
-use mathlib.Core.Path.{_≡_, refl, sym}
+use mathlib.Core.Path.{_≡_, _∙_}
 use lib.ListN.{take, drop}
 use native.Mathlib.Omega.{arith}
-use Rattle.lent.proofs.Splice.{splice-none}
 use Rattle.hex.specs.Hex.{readHex}
 use Rattle.lines.specs.Fields.{fieldsAt, upTo, lastValue}
-use Rattle.lines.proofs.Saying.{value-past, value-not-last, value-last, up-to-not, up-to-long, up-to-all}
+use Rattle.lines.proofs.Saying.{value-past, value-not-last, value-last, up-to-not, up-to-long, up-to-all, unread}
 use borrow.Author.Needs.{needs}
 use Rattle.lines.proofs.last_value.Statement.{statement}
 use Rattle.lines.proofs.last_value.Tie as tie
 
 returns : tie.Need-returns
-returns c = rw (value-past (c .before .before .before .args .most) (c .before .before .before .args .line .now) (c .before .before .before .args .at) (search needs)) (refl, sym (splice-none _ _))
+returns c = unread (value-past _ _ _ (search needs))
 
 field-end-requires : tie.Need-field-end-requires
 field-end-requires c κs = search needs
 
 returns-2 : tie.Need-returns-2
-returns-2 c =
-    let a = c .before .before .before .before .before .args in
-    rw (value-not-last (a .most) (a .line .now) (a .at) (c .before .field-end .result) (c .before .field-end .ensures) (search needs)) (refl, sym (splice-none _ _))
+returns-2 c = unread (value-not-last _ _ _ _ (c .before .field-end .ensures) (search needs))
 
 sub-length : tie.Need-sub-length
 sub-length c = search needs
@@ -48,16 +45,10 @@ value-is : (c : tie.After-length)
 value-is c = value-last _ _ _ _ (c .before .before .before .field-end .ensures) (omega arith)
 
 returns-3 : tie.Need-returns-3
-returns-3 c =
-    let l = c .before .before in
-    let most = l .before .before .before .before .before .before .before .args .most in
-    rw (value-is l, up-to-not most _ (l .length .result) (l .length .ensures) (c .enum-told .given .1)) (refl, sym (splice-none _ _))
+returns-3 c = let l = c .before .before in unread (value-is l ∙ rw (up-to-not (l .before .before .before .before .before .before .before .args .most) _ (l .length .result) (l .length .ensures) (c .enum-told .given .1)))
 
 returns-4 : tie.Need-returns-4
-returns-4 c =
-    let l = c .before .before .before .before in
-    let most = l .before .before .before .before .before .before .before .args .most in
-    rw (value-is l, up-to-long most _ (l .length .result) (l .length .ensures) _ (c .before .before .n .given .1) (search needs)) (refl, sym (splice-none _ _))
+returns-4 c = let l = c .before .before .before .before in unread (value-is l ∙ rw (up-to-long (l .before .before .before .before .before .before .before .args .most) _ (l .length .result) (l .length .ensures) _ (c .before .before .n .given .1) (search needs)))
 
 sub-read : tie.Need-sub-read
 sub-read c = search needs

@@ -1,6 +1,6 @@
 -- A row of that kind is HELD; without one the table says whether it is granted.
 use mathlib.Core.Path.{sym, _∙_}
-use Rattle.quars.proofs.Tried.{grants-held-not, grants-by}
+use Rattle.quars.proofs.Tried.{grants-by}
 use borrow.Author.Needs.{needs}
 use Rattle.quars.proofs.would_grant.Statement.{statement}
 use Rattle.quars.proofs.would_grant.Tie as tie
@@ -9,7 +9,7 @@ holds-requires : tie.Need-holds-requires
 holds-requires c κs = search needs
 
 returns : tie.Need-returns
-returns c = λ σ h ok. sym (grants-held-not σ _ _ _ (sym (c .before .holds .ensures σ h) ∙ c .if1 .taken))
+returns c = λ σ h ok. sym (grants-by σ _ _ _ (sym (c .before .holds .ensures σ h) ∙ c .if1 .taken))
 
 grants-requires : tie.Need-grants-requires
 grants-requires c κs = search needs

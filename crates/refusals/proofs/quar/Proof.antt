@@ -3,11 +3,13 @@ use mathlib.Core.Path.{_≡_, sym, _∙_}
 use mathlib.Core.Bool.{Bool, true}
 use mathlib.Core.List.{[]}
 use mathlib.Core.Option.{none, some}
+use Prim.Native.Nat.{_<_}
 use native.Mathlib.Omega.{arith}
 use Rattle.lent.specs.Tables.{if_then_else_}
 use Rattle.lent.proofs.Choices.{test-failed, test-passed}
 use Rattle.machine.specs.Tables.{first}
-use Rattle.machine.specs.Words.{ROOM, INVALIDATE, INCREMENTAL}
+use Rattle.machine.specs.Sizes.{keyCount}
+use Rattle.machine.specs.Words.{ROOM, INVALIDATE, INCREMENTAL, isKind}
 use Rattle.machine.specs.State.{State}
 use Rattle.machine.specs.Expiry.{expire}
 use Rattle.machine.specs.Sound.{sound}
@@ -36,6 +38,10 @@ returns-2 c = λ σ h ok. meets (quar-kind _ _ _ _ _ (test-failed (c .before .is
 session-requires : tie.Need-session-requires
 session-requires c κs = search needs
 
+-- the tests of the key and of the kind are passed
+right : (c : tie.After-session) → let a = c .before .before .before .before .before .args in (a .key < keyCount) × (isKind (a .kind) ≡ true)
+right c = (c .before .before .before .if1 .left, test-passed (c .before .before .is-kind .ensures) (c .before .if2 .left))
+
 enum-known-x : tie.Need-enum-known-x
 enum-known-x c = search needs
 
@@ -44,18 +50,16 @@ enum-told c = search needs
 
 returns-3 : tie.Need-returns-3
 returns-3 c =
-    let key = c .before .before .before .before .before .if1 .left in
-    let kind = test-passed (c .before .before .before .before .is-kind .ensures) (c .before .before .before .if2 .left) in
-    λ σ h ok. meets (quar-not-live _ _ _ _ _ key kind (left-nobody _ (c .before .before .session .ensures σ h ok) (c .enum-told .given .1)))
+    let w = right (c .before .before) in
+    λ σ h ok. meets (quar-not-live _ _ _ _ _ (w .0) (w .1) (left-nobody _ (c .before .before .session .ensures σ h ok) (c .enum-told .given .1)))
 
 is-sealed-requires : tie.Need-is-sealed-requires
 is-sealed-requires c κs = search needs
 
 returns-4 : tie.Need-returns-4
 returns-4 c =
-    let key = c .before .before .before .before .before .before .before .before .if1 .left in
-    let kind = test-passed (c .before .before .before .before .before .before .before .is-kind .ensures) (c .before .before .before .before .before .before .if2 .left) in
-    λ σ h ok. meets (quar-sealed _ _ _ _ _ key kind _ (left-is _ (c .before .before .before .before .before .session .ensures σ h ok) (c .before .before .before .x .given .1)) (sym (c .before .is-sealed .ensures) ∙ c .if3 .taken))
+    let w = right (c .before .before .before .before .before) in
+    λ σ h ok. meets (quar-sealed _ _ _ _ _ (w .0) (w .1) _ (left-is _ (c .before .before .before .before .before .session .ensures σ h ok) (c .before .before .before .x .given .1)) (sym (c .before .is-sealed .ensures) ∙ c .if3 .taken))
 
 rows-full-requires : tie.Need-rows-full-requires
 rows-full-requires c κs = search needs
@@ -67,14 +71,11 @@ asks c σ h ok =
     let if3 = c .before .if3 in
     let is-sealed = c .before .before .is-sealed in
     let x = c .before .before .before .before .x in
-    let session = c .before .before .before .before .before .before .session in
-    let if2 = c .before .before .before .before .before .before .before .if2 in
-    let is-kind = c .before .before .before .before .before .before .before .before .is-kind in
-    let if1 = c .before .before .before .before .before .before .before .before .before .if1 in
+    let asked = c .before .before .before .before .before .before in
     record {
-      key = if1 .left;
-      kind = test-passed (is-kind .ensures) (if2 .left);
-      live = left-is _ (session .ensures σ h ok) (x .given .1);
+      key = right asked .0;
+      kind = right asked .1;
+      live = left-is _ (asked .session .ensures σ h ok) (x .given .1);
       unsealed = sym (is-sealed .ensures) ∙ if3 .left;
     }
 
@@ -87,7 +88,7 @@ cast-would-grant c = search needs
 
 -- the kind is 1, 2 or 3
 kind-within : (c : tie.After-rows-full) → Within INVALIDATE INCREMENTAL (c .before .before .before .before .before .before .before .before .before .before .before .args .kind)
-kind-within c = is-kind _ (test-passed (c .before .before .before .before .before .before .before .before .is-kind .ensures) (c .before .before .before .before .before .before .before .if2 .left))
+kind-within c = is-kind _ (right (c .before .before .before .before .before .before) .1)
 
 cast-would-grant-2 : tie.Need-cast-would-grant-2
 cast-would-grant-2 c = omega (arith, kind-within (c .before) .1)

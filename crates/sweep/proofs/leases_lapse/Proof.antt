@@ -5,7 +5,7 @@ use borrow.Author.Needs.{needs}
 use Rattle.machine.specs.Sizes.{keyCount}
 use Rattle.machine.specs.State.{blank}
 use Rattle.deadlines.specs.Deadlines.{lapsedOn}
-use Rattle.sweep.proofs.Scans.{Scanned, scanned-none, scanned-more, scanned-hit, scanned-all}
+use Rattle.layout.proofs.Scans.{Scanned, scanned-none, scanned-more, scanned-hit, scanned-all}
 use Rattle.sweep.proofs.leases_lapse.Statement.{statement}
 use Rattle.sweep.proofs.leases_lapse.Tie as tie
 

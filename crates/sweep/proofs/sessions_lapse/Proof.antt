@@ -5,7 +5,7 @@ use borrow.Author.Needs.{needs}
 use Rattle.machine.specs.Sizes.{sessionCount}
 use Rattle.machine.specs.State.{noSession}
 use Rattle.deadlines.specs.Deadlines.{dueSlot}
-use Rattle.sweep.proofs.Scans.{Scanned, scanned-none, scanned-more, scanned-hit, scanned-all}
+use Rattle.layout.proofs.Scans.{Scanned, scanned-none, scanned-more, scanned-hit, scanned-all}
 use Rattle.sweep.proofs.sessions_lapse.Statement.{statement}
 use Rattle.sweep.proofs.sessions_lapse.Tie as tie
 

@@ -4,13 +4,14 @@ use native.Mathlib.Omega.{arith}
 use Prim.Native.Nat.{_<_}
 use Rattle.machine.specs.Sizes.{sessionCount}
 use Rattle.machine.specs.State.{State, rowAt}
-use Rattle.machine.specs.Effects.{lifeEnd}
+use Rattle.machine.specs.Effects.{lifeEnd, slotEnd}
 use Rattle.machine.specs.declared.Session.{Session}
 use Rattle.layout.specs.Holds.{Holds}
 use Rattle.layout.specs.declared.Found.{Found}
 use Rattle.layout.proofs.Held.{row-stands}
+use Rattle.layout.proofs.Slots.{slotBy, session-by}
 use Rattle.waits.specs.Waits.{rowEnd}
-use Rattle.waits.proofs.Waits.{endBy, end-by, row-end-free, row-end-other, row-end-on}
+use Rattle.waits.proofs.Waits.{row-end-free, row-end-other, row-end-on}
 use borrow.Author.Needs.{needs}
 use Rattle.waits.proofs.row_life.Statement.{statement}
 use Rattle.waits.proofs.row_life.Tie as tie
@@ -36,7 +37,7 @@ find-requires : tie.Need-find-requires
 find-requires c κs = search needs
 
 -- the row is on the key, and the search for its session told d
-ends-by : (c : tie.After-find) {d : Found} → c .find .result ≡ d → (σ : State) → let a = c .before .before .before .before .before .before .args in Holds (a .s .now) σ → endBy σ d ≡ rowEnd σ (a .k) (rowAt σ (a .i))
+ends-by : (c : tie.After-find) {d : Found} → c .find .result ≡ d → (σ : State) → let a = c .before .before .before .before .before .before .args in Holds (a .s .now) σ → slotEnd (slotBy σ d) ≡ rowEnd σ (a .k) (rowAt σ (a .i))
 ends-by c e σ h =
     let if2 = c .before .if2 in
     let key = c .before .before .key in
@@ -44,7 +45,7 @@ ends-by c e σ h =
     let session = c .before .before .before .before .session in
     let a = c .before .before .before .before .before .before .args in
     sym (row-end-on σ (a .k) (rowAt σ (a .i)) (λ q. if1 .left (session .ensures σ h ∙ q)) (sym (key .ensures .0 σ h) ∙ if2 .left)
-    ∙ rw (← session .ensures σ h) (end-by σ (session .result) (h .fits .sessions) (sym (c .find .ensures .0 σ h) ∙ e)))
+    ∙ rw (← session .ensures σ h) (ap slotEnd (session-by σ (session .result) (h .fits .sessions) (sym (c .find .ensures .0 σ h) ∙ e))))
 
 enum-known-place : tie.Need-enum-known-place
 enum-known-place c = search needs

@@ -1,6 +1,10 @@
 -- An I lease decides, and where there is none the rows.
-use mathlib.Core.Path.{sym, _∙_}
+use mathlib.Core.Path.{_≡_, sym, _∙_}
 use native.Mathlib.Omega.{arith}
+use Rattle.machine.specs.State.{State}
+use Rattle.machine.specs.Effects.{lifeEnd, lessNow, wait}
+use Rattle.machine.specs.declared.Life.{Life}
+use Rattle.layout.specs.Holds.{Holds}
 use Rattle.layout.proofs.Held.{key-stands}
 use Rattle.waits.proofs.Waits.{wait-lease, wait-rows}
 use borrow.Author.Needs.{needs}
@@ -29,23 +33,20 @@ enum-known-life c = search needs
 enum-told : tie.Need-enum-told
 enum-told c = search needs
 
+-- there is no lease, and the rows' life is d
+rows-wait : (c : tie.After-latest) {d : Life} → c .latest .result ≡ d → (σ : State) → let a = c .before .before .before .before .args in Holds (a .s .now) σ → lessNow (lifeEnd d) (a .time) ≡ wait σ (a .k) (a .time)
+rows-wait c e σ h =
+    let a = c .before .before .before .before .args in
+    sym (wait-rows σ (a .k) (a .time) (key-stands h (a .k) (omega arith) .fits .lease) (sym (c .before .before .lease-token .ensures σ h) ∙ c .before .if1 .left) ∙ rw (← c .latest .ensures σ h, e))
+
 returns-2 : tie.Need-returns-2
-returns-2 c = let latest = c .before .before .latest in
-    let if1 = c .before .before .before .if1 in
-    let lease-token = c .before .before .before .before .lease-token in
-    let args = c .before .before .before .before .before .before .args in
-    λ σ h. sym (wait-rows σ (args .k) (args .time) (key-stands h (args .k) (omega arith) .fits .lease) (sym (lease-token .ensures σ h) ∙ if1 .left) ∙ rw (← latest .ensures σ h, c .enum-told .given .1))
+returns-2 c = rows-wait (c .before .before) (c .enum-told .given .1)
 
 less-now-requires-2 : tie.Need-less-now-requires-2
 less-now-requires-2 c κs = search needs
 
 returns-3 : tie.Need-returns-3
-returns-3 c = let life = c .before .before .life in
-    let latest = c .before .before .before .before .latest in
-    let if1 = c .before .before .before .before .before .if1 in
-    let lease-token = c .before .before .before .before .before .before .lease-token in
-    let args = c .before .before .before .before .before .before .before .before .args in
-    λ σ h. c .less-now2 .ensures ∙ sym (wait-rows σ (args .k) (args .time) (key-stands h (args .k) (omega arith) .fits .lease) (sym (lease-token .ensures σ h) ∙ if1 .left) ∙ rw (← latest .ensures σ h, life .given .1))
+returns-3 c = λ σ h. c .less-now2 .ensures ∙ rows-wait (c .before .before .before .before) (c .before .before .life .given .1) σ h
 
 pub wait-spec : {M : Type 1} → statement M
 wait-spec =

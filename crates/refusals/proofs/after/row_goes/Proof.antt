@@ -2,7 +2,8 @@
 use mathlib.Core.Path.{sym, _∙_}
 use Rattle.machine.specs.Sizes.{sessionCount}
 use Rattle.machine.specs.State.{noSession, numbered}
-use Rattle.layout.proofs.Search.{found-entry, nothing-entry}
+use Rattle.layout.proofs.Search.{found-entry}
+use Rattle.layout.proofs.Slots.{session-by}
 use borrow.Author.Needs.{needs}
 use Rattle.refusals.proofs.after.row_goes.Statement.{statement}
 use Rattle.refusals.proofs.after.row_goes.Tie as tie
@@ -23,7 +24,7 @@ enum-told : tie.Need-enum-told
 enum-told c = search needs
 
 returns : tie.Need-returns
-returns c = λ σ h. rw (← c .before .before .before .session .ensures σ h, nothing-entry (numbered (c .before .before .before .session .result)) noSession (σ .sessions) sessionCount (h .fits .sessions) (sym (c .before .before .find .ensures .0 σ h) ∙ c .enum-told .given .1))
+returns c = λ σ h. rw (← c .before .before .before .session .ensures σ h, session-by σ (c .before .before .before .session .result) (h .fits .sessions) (sym (c .before .before .find .ensures .0 σ h) ∙ c .enum-told .given .1))
 
 session-due-requires : tie.Need-session-due-requires
 session-due-requires c κs = (c .before .before .before .before .before .before .pre .0, rw (c .before .j .given .1) at (c .before .before .before .find .ensures .1))
