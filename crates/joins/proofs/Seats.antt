@@ -18,7 +18,7 @@ use Rattle.machine.specs.Sizes.{sessionCount}
 use Rattle.machine.specs.Sound.{distinct}
 use Rattle.order.specs.Order.{side, item}
 use Rattle.order.proofs.Numbers.{last-or, same-or, or-none, new-zero, new-unlike, distinct-more, twice-same}
-use Rattle.joins.specs.Joins.{seatCount, seatOf, seatsWith, looseWith, sitsWith, Small, Stand, no-number, in-seat, at-large, Entered, Sat}
+use Rattle.joins.specs.Joins.{seatCount, seatOf, seatsWith, looseWith, sitsWith, Comes, Small, Stand, no-number, in-seat, at-large, Entered, Sat}
 use Rattle.joins.proofs.Gathered.{gathered-none, gathered-more}
 use Rattle.joins.proofs.Loose.{stand-kept, loosened-none}
 
@@ -148,8 +148,8 @@ module _ {f : ℕ → ℕ} {i : ℕ} {nums seats loose : List ℕ} (h : i < sess
       (λ u. rw (ne-eqb n 0 u) (⊎-elim (λ z. rw (eq-eqb by 0 z) (sat-free u z)) (λ t. rw (ne-eqb by 0 t) (sat-loose u t)) (same-or by 0)))
       (same-or n 0)
 
-  pub number-sat : {r : Bool} {nums′ seats′ loose′ : List ℕ} → (r ≡ sitsWith nums′ seats n) × (nums′ ≡ placed) → (seats′ ≡ seatsWith seats i n) × (loose′ ≡ looseWith seats loose i n) → Sat f i r nums′ seats′ loose′
-  number-sat e o = rw (e .0, e .1, o .0, o .1) sits
+  pub number-sat : {r : Bool} {nums′ seats′ loose′ : List ℕ} → Comes i n nums seats loose r nums′ seats′ loose′ → Sat f i r nums′ seats′ loose′
+  number-sat c = rw (c .sits, c .side-by-side, c .seated, c .loosened) sits
 
 -- a turn of a loop that keeps whether a number is loose
 pub sat-more : {f : ℕ → ℕ} {i crowd : ℕ} {r : Bool} {nums seats loose : List ℕ} → (crowd ≡ 0 → distinct f i ≡ true) → Sat f i r nums seats loose → bitOr crowd (item loose i) ≡ 0 → distinct f (i + 1) ≡ true

@@ -157,6 +157,13 @@ looseWith seats loose i n = if eqb n 0 then loose else if eqb (item seats (seatO
 abbrev pub sitsWith : List ℕ → List ℕ → ℕ → Bool
 sitsWith nums seats n = if eqb n 0 then true else if eqb (item seats (seatOf n)) 0 then true else not (eqb (item nums (item seats (seatOf n) - 1)) n)
 
+-- all that comes of it
+pub record Comes (i n : ℕ) (nums seats loose : List ℕ) (r : Bool) (nums′ seats′ loose′ : List ℕ) : Type 0 where
+  pub sits : r ≡ sitsWith nums′ seats n
+  pub side-by-side : nums′ ≡ set nums i n
+  pub seated : seats′ ≡ seatsWith seats i n
+  pub loosened : loose′ ≡ looseWith seats loose i n
+
 -- the number at place j is 0, sits in its seat, or is loose: there is another number in its seat. x is the number if it is loose, or 0
 pub data Stand (nums seats : List ℕ) (j x : ℕ) : Type 0 where
   no-number : item nums j ≡ 0 → x ≡ 0 → Stand nums seats j x

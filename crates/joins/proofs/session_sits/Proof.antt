@@ -25,7 +25,7 @@ returns : tie.Need-returns
 returns c =
     let n = c .before .load-u32 .ensures in
     let z = eq-eqb _ 0 (sym n ∙ c .if1 .taken) in
-    ((rw z, rw (sym n)), (rw z, rw z))
+    record { sits = rw z; side-by-side = rw (sym n); seated = rw z; loosened = rw z }
 
 seat-requires : tie.Need-seat-requires
 seat-requires c κs = search needs
@@ -51,7 +51,7 @@ returns-2 c =
     let k = c .before .before .before .seat .ensures .0 in
     let u = ne-eqb _ 0 (a .if1 .left) in
     let t = eq-eqb _ 0 (ap (item (a .before .before .before .args .seats .now)) (sym k) ∙ (sym (c .before .index .ensures .0) ∙ c .if2 .taken)) in
-    rw (sym (a .before .load-u32 .ensures)) ((rw (u, t), refl), (rw (u, t, k), rw (u, t)))
+    rw (sym (a .before .load-u32 .ensures)) (record { sits = rw (u, t); side-by-side = refl; seated = rw (u, t, k); loosened = rw (u, t) })
 
 mul-loose : tie.Need-mul-loose
 mul-loose c = search needs
@@ -76,7 +76,7 @@ returns-3 c =
     let u = ne-eqb _ 0 (a .if1 .left) in
     let e = ap (item (a .before .before .before .args .seats .now)) (sym k) ∙ sym q in
     let t = ne-eqb _ 0 (λ z. c .before .if2 .left (sym e ∙ z)) in
-    rw (sym (a .before .load-u32 .ensures)) ((rw (u, t, e), refl), (rw (u, t), rw (u, t)))
+    rw (sym (a .before .load-u32 .ensures)) (record { sits = rw (u, t, e); side-by-side = refl; seated = rw (u, t); loosened = rw (u, t) })
 
 pub session-sits-spec : {M : Type 1} → statement M
 session-sits-spec =

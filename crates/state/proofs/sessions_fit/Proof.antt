@@ -75,7 +75,7 @@ returns-2 : tie.Need-returns-2 Inv-loop μ-loop
 unfolding sessionsFit
 returns-2 c =
     let b = c .before .before .before .before .before in
-    let m = number-sat (search needs) (b .before .before .before .before .loop .inv .noted) (c .before .session-sits .ensures .0) (c .before .session-sits .ensures .1) in
+    let m = number-sat (search needs) (b .before .before .before .before .loop .inv .noted) (c .before .session-sits .ensures) in
     (rw (m .twice (not-true _ (c .if2 .taken)), and-false), λ o. clash false o refl)
 
 mul-crowd : tie.Need-mul-crowd Inv-loop μ-loop
@@ -94,7 +94,7 @@ loop-again : tie.Need-loop-again Inv-loop μ-loop
 loop-again c =
     let b = c .before .before .before .before .before in
     let w = b .before .before .before .before .loop .inv in
-    let m = number-sat (search needs) (w .noted) (c .before .session-sits .ensures .0) (c .before .session-sits .ensures .1) in
+    let m = number-sat (search needs) (w .noted) (c .before .session-sits .ensures) in
     walked-more w (search needs) (session-told (b .before)) (b .if1 .left) (m .entered (not-false _ (c .if2 .left))) (λ d. sat-more d m)
 
 returns-3 : tie.Need-returns-3 Inv-loop μ-loop
