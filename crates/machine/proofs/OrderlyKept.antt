@@ -287,11 +287,15 @@ orderly-begin s now h = record {
     seen : (i : ℕ) (x : Session) → getD (set (s .sessions) at (session new)) i noSession ≡ session x → Seen i x
     seen i x e = elim (was-set (s .sessions) at (session new) i noSession (session x) (Views.no-session x) e) [ inl p ↦ inl p | inr p ↦ inr (p .0, (let q = p .1 in cc)) ]
 
+-- the lease that GET gives
+abbrev pub nextLease : State → ℕ → Lease
+nextLease s now = record { token = s .head .nextToken; until = now + s .head .readLife }
+
 -- GET answered LEASE: the next token, on a key with no row
 pub orderly-leased : (s : State) (now k : ℕ) → ((i n d : ℕ) (v : Staged) → rowAt s i ≡ row n k d v → ⊥) → Orderly s → Orderly (leased s now k .after)
 unfolding leased
 orderly-leased s now k bare h = record {
-  leases = λ j l e. lease j l (leased-was s k new j l e);
+  leases = λ j l e. lease j l (leased-was s k (nextLease s now) j l e);
   numbers = h .numbers;
   unique = h .unique;
   kinds = h .kinds;
@@ -299,10 +303,7 @@ orderly-leased s now k bare h = record {
   plain = h .plain;
 }
   where
-    new : Lease
-    new = record { token = s .head .nextToken; until = now + s .head .readLife }
-
-    lease : (j : ℕ) (l : Lease) → (leaseOn s j ≡ some l) ⊎ ((k ≡ j) × (new ≡ l)) → (l .token < suc (s .head .nextToken)) × ((i n d : ℕ) (v : Staged) → rowAt s i ≡ row n j d v → ⊥)
+    lease : (j : ℕ) (l : Lease) → (leaseOn s j ≡ some l) ⊎ ((k ≡ j) × (nextLease s now ≡ l)) → (l .token < suc (s .head .nextToken)) × ((i n d : ℕ) (v : Staged) → rowAt s i ≡ row n j d v → ⊥)
     lease j l (inl x) = let p = h .leases j l x in (omega (arith, p .0), p .1)
     lease j l (inr x) = (let q : s .head .nextToken ≡ l .token = ap (λ (y : Lease). y .token) (x .1) in omega arith, rw (← (x .0)) bare)
 

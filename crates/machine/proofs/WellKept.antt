@@ -139,20 +139,17 @@ module _ (s : State) (now : ℕ) (h : WellFormed s now) where
     head = record { time = h .head .time; readLife = h .head .readLife; writeLife = h .head .writeLife; nextSession = h .head .nextSession; nextToken = (omega (arith, h .head .nextToken .0), room) };
     keys = record {
       length = length-set (s .keys) k _ ∙ h .keys .length;
-      values = λ j p. h .keys .values j (sym (Views.lease-value (s .keys) k (some new) j) ∙ p);
-      leases = λ j {l} p. fits j l (OrderlyKept.leased-was s k new j l p);
-      distinct = λ i j {l} {m} p q. OrderlyKept.next-alone (λ (x : Lease). x .token) (s .head .nextToken) k (λ j l. leaseOn s j ≡ some l) (λ l. new ≡ l) (λ j l p. h .orderly .leases j l p .0) (λ l e. sym (ap (λ (x : Lease). x .token) e))
-          (λ i j l m p q. h .keys .distinct i j p q) i j l m (OrderlyKept.leased-was s k new i l p) (OrderlyKept.leased-was s k new j m q);
+      values = λ j p. h .keys .values j (sym (Views.lease-value (s .keys) k (some (OrderlyKept.nextLease s now)) j) ∙ p);
+      leases = λ j {l} p. fits j l (OrderlyKept.leased-was s k (OrderlyKept.nextLease s now) j l p);
+      distinct = λ i j {l} {m} p q. OrderlyKept.next-alone (λ (x : Lease). x .token) (s .head .nextToken) k (λ j l. leaseOn s j ≡ some l) (λ l. OrderlyKept.nextLease s now ≡ l) (λ j l p. h .orderly .leases j l p .0) (λ l e. sym (ap (λ (x : Lease). x .token) e))
+          (λ i j l m p q. h .keys .distinct i j p q) i j l m (OrderlyKept.leased-was s k (OrderlyKept.nextLease s now) i l p) (OrderlyKept.leased-was s k (OrderlyKept.nextLease s now) j m q);
     };
     sessions = h .sessions;
     rows = h .rows;
     live = h .live;
   }
     where
-      new : Lease
-      new = record { token = s .head .nextToken; until = now + s .head .readLife }
-
-      fits : (j : ℕ) (l : Lease) → (leaseOn s j ≡ some l) ⊎ ((k ≡ j) × (new ≡ l)) → LeaseFits (now + s .head .readLife) l
+      fits : (j : ℕ) (l : Lease) → (leaseOn s j ≡ some l) ⊎ ((k ≡ j) × (OrderlyKept.nextLease s now ≡ l)) → LeaseFits (now + s .head .readLife) l
       fits j l (inl p) = h .keys .leases j p
       fits j l (inr p) = subst (LeaseFits (now + s .head .readLife)) (p .1) (record { positive = h .head .nextToken .0; deadline = omega arith })
 

@@ -4,7 +4,7 @@ use mathlib.Core.Path.{_≡_, refl, ap, _∙_}
 use mathlib.Core.Bool.{true}
 use mathlib.Core.List.{List, [], _∷_, _++_}
 use Prim.Native.Nat.{ℕ}
-use Rattle.lent.proofs.Runs.{run-keeps}
+use Rattle.lent.proofs.Runs.{front-kept, run-keeps}
 use Rattle.machine.specs.State.{Value, State}
 use Rattle.machine.specs.Step.{step}
 use Rattle.machine.specs.World.{Event, command, write, World, commanded, written, next, run, AllKept, Consistent, EventBytes, AllBytes}
@@ -54,8 +54,7 @@ kept-follows w (e ∷ es) x f h = (h .0, rw (next-follows w e (x .0) f) at (kept
 -- ---- the theorem
 
 pub all-bytes-before : (es fs : List Event) → AllBytes (es ++ fs) → AllBytes es
-all-bytes-before [] fs x = tt
-all-bytes-before (e ∷ es) fs x = (x .0, all-bytes-before es fs (x .1))
+all-bytes-before = front-kept AllBytes tt (λ e es gs x. (x .1, λ a. (x .0, a)))
 
 module _ (b : List ℕ) (readLife writeLife : ℕ) (ready : startOf b readLife writeLife .answer ≡ Answer.Ready) where
   -- at each moment of each run from the bytes that START wrote: after each first part of it

@@ -37,6 +37,7 @@ use Rattle.layout.proofs.Formed.{formed}
 use Rattle.startup.specs.Start.{Reply, startOf}
 use Rattle.startup.proofs.Sound.{ready-formed, ready-decodes}
 use Rattle.cache.specs.Run.{ran}
+use Rattle.lent.proofs.Runs.{front-kept}
 use Rattle.promises.proofs.Follow.{all-bytes-before}
 use Rattle.cache.proofs.Taken.{ran-formed}
 use Rattle.promises.proofs.Ran.{formed-kept, decode-ran}
@@ -145,8 +146,7 @@ column-as p w h (e ∷ es) x y =
     ∙ ap (λ (l : List ℕ). brokenTwo w e ∷ l) (column-as (after p e) (next w e) (tied-next p w h e (x .0) (y .0)) es (x .1) (y .1))
 
 readable-before : (es fs : List Event) → AllReadable (es ++ fs) → AllReadable es
-readable-before [] fs x = tt
-readable-before (e ∷ es) fs x = (x .0, readable-before es fs (x .1))
+readable-before = front-kept AllReadable tt (λ e es gs x. (x .1, λ a. (x .0, a)))
 
 -- START
 
