@@ -76,3 +76,10 @@ pub fn each(state: &[u8], mut give: impl FnMut(String, &[u8])) {
         }
     }
 }
+
+/// Buffers that are no state by their length.
+pub fn lengths(mut give: impl FnMut(String, &[u8])) {
+    for length in [0, 1, STATE_BYTES - 1, STATE_BYTES + 1] {
+        give(format!("{length} bytes"), &vec![0; length]);
+    }
+}

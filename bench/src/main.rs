@@ -19,8 +19,9 @@ const USAGE: &str = "usage:
   bench call WHO STATE TIMES          the check alone; WHO is plain, proved or second, STATE fresh, light, full, random, climbing,
                                       falling, mixed, pair, idle, leases, squared, squared-leases, chained, chained-leases,
                                       or any-N, the Nth of many made by chance
-  bench damaged STATE                 the check alone on each of some 2,000 damages of a state, by both programs, with a mark to count
-                                      from before, between and after them; says of each whether it is refused, and its name
+  bench damaged STATE                 the check alone on each of some 2,000 damages of a state, or on buffers of wrong lengths (lengths), by
+                                      both programs, with a mark to count from before, between and after them; says of each
+                                      whether it is refused, and its name
   bench work PART STATE WORK TIMES    PART is proved, second, proved-check, second-check or nothing, STATE light or full,
                                       WORK get-hit, get-miss, session or sweep";
 
@@ -107,15 +108,19 @@ pub fn counted_mark(said: bool) -> bool {
     black_box(said)
 }
 
-/// Each damage of a state is judged once by both.
+/// Each damage of a state is judged once by both; "lengths" are buffers of wrong lengths.
 fn damaged(plan: &str) -> Option<()> {
-    damages::each(&state(&named(plan)?), |name, state| {
+    let judge = |name: String, state: &[u8]| {
         counted_mark(true);
         let proved = counted_mark(proved::well_formed(black_box(state)));
         let second = counted_mark(second::lent::well_formed(black_box(state)));
         assert_eq!(proved, second, "{plan} {name}");
         println!("{} {name}", if proved { "formed" } else { "refused" });
-    });
+    };
+    match plan {
+        "lengths" => damages::lengths(judge),
+        _ => damages::each(&state(&named(plan)?), judge),
+    }
     Some(())
 }
 

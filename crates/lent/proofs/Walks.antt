@@ -85,16 +85,8 @@ module _ (p : ℕ → Bool) where
   not-some zero = refl
   not-some (suc n) = not-or (some p n) (p n) ∙ rw (not-some n)
 
-  pub some-none : (n i : ℕ) → some p n ≡ false → i < n → p i ≡ false
-  some-none n i e h = not-true (p i) (every-all (λ i. not (p i)) n i (sym (not-some n) ∙ ap not e) h)
-
   pub none-some : (n : ℕ) → ((i : ℕ) → i < n → p i ≡ false) → some p n ≡ false
   none-some n f = not-true (some p n) (not-some n ∙ all-every (λ i. not (p i)) n (λ i h. ap not (f i h)))
-
-  -- a turn of a loop that has found none
-  pub some-more : (i : ℕ) → some p i ≡ false → p i ≡ false → some p (i + 1) ≡ false
-  unfolding some
-  some-more i h e = rw (add-one, h, e)
 
 pub some-cong : (p q : ℕ → Bool) (n : ℕ) → ((i : ℕ) → i < n → p i ≡ q i) → some p n ≡ some q n
 some-cong p q n f =
