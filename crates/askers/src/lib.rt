@@ -1,5 +1,7 @@
 // The session that asks for a quarantine or stages in one: QUAR, STAGE and DELTA are refused with 5 where it is not live and with 6 where it
 // is sealed.
+#![tactic(auto)]
+
 ghost use Rattle.std.specs.Prelude.{◌≡◌, length};
 ghost use Rattle.machine.specs.Sizes.{state_size};
 ghost use Rattle.machine.specs.State.{State};

@@ -1,4 +1,6 @@
 // Blocks of bytes of a lent buffer, cleared, copied and compared.
+#![tactic(auto)]
+
 ghost use Rattle.std.specs.Prelude.{◌≡◌, ◌+◌, ◌≤◌, length};
 ghost use Rattle.lent.specs.Bytes.{splice, win, zeros};
 ghost use Rattle.lent.specs.Tables.{all_zero, same};

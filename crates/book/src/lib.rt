@@ -1,4 +1,6 @@
 // The book: what the rehearsal remembers beside the cache. Its values, the notes, are read and written by the crate `notes`.
+#![tactic(auto)]
+
 ghost use Rattle.std.specs.Prelude.{◌≡◌, ◌<◌, length};
 ghost use Rattle.machine.specs.Sizes.{session_count};
 ghost use Rattle.book.specs.Book.{book_size, started, with_started, lines_in, broken_in, mark, with_mark, counted};

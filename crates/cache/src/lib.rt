@@ -1,4 +1,6 @@
 // The cache: every command on the lent state.
+#![tactic(auto)]
+
 ghost use Rattle.std.specs.Prelude.{◌≡◌, ◌≤◌, length};
 ghost use Rattle.machine.specs.Sizes.{state_size, time_max};
 ghost use Rattle.machine.specs.Step.{step};

@@ -1,4 +1,6 @@
 // Counts in decimal bytes: read, written, raised and lowered.
+#![tactic(auto)]
+
 ghost use Rattle.std.specs.Prelude.{◌≡◌, ◌≤◌, length};
 ghost use Rattle.counts.specs.Count.{read_count, extended, decimal_length, written, raised, lowered};
 

@@ -1,4 +1,6 @@
 // Whether a session or an I lease of the lent state expires: its deadline is at or before the time.
+#![tactic(auto)]
+
 ghost use Rattle.std.specs.Prelude.{◌≡◌, ◌<◌, length};
 ghost use Rattle.machine.specs.Sizes.{state_size, key_count, session_count};
 ghost use Rattle.machine.specs.State.{State, key_of, session_at};

@@ -1,4 +1,6 @@
 // The decision table, and which numbers are kinds and operations.
+#![tactic(auto)]
+
 ghost use Rattle.std.specs.Prelude.{◌≡◌, ◌<◌};
 ghost use Rattle.machine.specs.Words.{is_kind, is_operation};
 ghost use Rattle.machine.specs.Decision.{held_count, asked_count, decision};

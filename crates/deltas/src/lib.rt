@@ -1,5 +1,7 @@
 // DELTA: a value appended to, prepended to, or counted up or down, and staged. Whoever calls has checked the state and the clock, and
 // nothing lapses.
+#![tactic(auto)]
+
 ghost use Rattle.std.specs.Prelude.{◌≡◌, false, ◌++◌, ◌+◌, ◌≤◌, ◌<◌, eqb, length};
 ghost use Rattle.lent.specs.Bytes.{win};
 ghost use Rattle.lent.specs.Tables.{if◌then◌else◌};

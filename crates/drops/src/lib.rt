@@ -1,4 +1,6 @@
 // What is dropped of the lent state: a row, an I lease, a cached value; and a staged value that is cached in place of the old one.
+#![tactic(auto)]
+
 ghost use Rattle.std.specs.Prelude.{◌≡◌, ◌<◌, length, set};
 ghost use Rattle.std.proofs.Math.Option.{none};
 ghost use Rattle.machine.specs.Sizes.{state_size, key_count, row_count};

@@ -1,4 +1,6 @@
 // How sessions end on the lent state. Whoever calls has checked the state: it is sound, and of 65,536 bytes.
+#![tactic(auto)]
+
 ghost use Rattle.std.specs.Prelude.{◌≡◌, true, [], ◌∷◌, ◌<◌, length, set};
 ghost use Rattle.machine.specs.Sizes.{state_size, key_count, session_count, row_count};
 ghost use Rattle.machine.specs.Tables.{mem};

@@ -1,4 +1,6 @@
 // The library that firmware links: the proved functions under plain names, with numbers for answers. Its header is include/basalekko.h.
+#![tactic(auto)]
+
 ghost use Rattle.std.specs.Prelude.{◌≡◌};
 ghost use Rattle.layout.specs.WellFormed.{well_formed};
 ghost use Rattle.numbered.specs.Commands.{command_of, ran_by};

@@ -1,4 +1,6 @@
 // Bytes into lines: what came since the last newline is held in a buffer, at most one byte more than a line may have.
+#![tactic(auto)]
+
 ghost use Rattle.std.specs.Prelude.{◌≡◌};
 ghost use Rattle.feed.specs.Held.{taken, line_after};
 

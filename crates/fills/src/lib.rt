@@ -1,5 +1,7 @@
 // FILL and EVICT on the lent state: a key's value cached by the holder of its I lease, and a key's value dropped. Whoever calls has checked
 // the state and the clock, and nothing lapses.
+#![tactic(auto)]
+
 ghost use Rattle.std.specs.Prelude.{◌≡◌, [], length};
 ghost use Rattle.machine.specs.Sizes.{state_size};
 ghost use Rattle.machine.specs.declared.Command.{Command};

@@ -1,4 +1,6 @@
 // GET on the lent state. Each contract speaks of the state that the bytes hold.
+#![tactic(auto)]
+
 ghost use Rattle.std.specs.Prelude.{◌≡◌, [], ◌≤◌, ◌<◌, length};
 ghost use Rattle.machine.specs.Sizes.{state_size, key_count, time_max, number_max};
 ghost use Rattle.machine.specs.State.{State};

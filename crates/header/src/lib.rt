@@ -1,4 +1,6 @@
 // The header of the lent state: clock, lifetimes, and the next numbers to give. Each contract speaks of the state that the bytes hold.
+#![tactic(auto)]
+
 ghost use Rattle.std.specs.Prelude.{◌≡◌, ◌<◌, length};
 ghost use Rattle.machine.specs.Sizes.{state_size};
 ghost use Rattle.machine.specs.State.{State};

@@ -1,4 +1,6 @@
 // Values in lower-case hex, two digits a byte, with `-` for the empty value.
+#![tactic(auto)]
+
 ghost use Rattle.std.specs.Prelude.{◌≡◌, true, ◌*◌, ◌/◌, ◌≤◌, ◌<◌, length};
 ghost use Rattle.lent.specs.Bytes.{splice};
 ghost use Rattle.hex_text.specs.Hex.{digit_of, digits_of, hex_of, digit_value, all_digits, is_dash, is_hex, bytes_of, read_hex, length_read, value_read};

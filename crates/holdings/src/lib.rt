@@ -1,4 +1,6 @@
 // What is held on a key of the lent state, and what the decision table grants beside it.
+#![tactic(auto)]
+
 ghost use Rattle.std.specs.Prelude.{◌≡◌, true, suc, ◌≤◌, ◌<◌, length};
 ghost use Rattle.machine.specs.Sizes.{state_size, key_count};
 ghost use Rattle.machine.specs.Words.{INVALIDATE, INCREMENTAL};

@@ -1,4 +1,6 @@
 // The key records of the lent state: what is read of a key, and its value and its I lease written in place.
+#![tactic(auto)]
+
 ghost use Rattle.std.specs.Prelude.{◌≡◌, not, ◌≤◌, ◌<◌, length, set};
 ghost use Rattle.std.proofs.Math.Option.{none, some};
 ghost use Rattle.machine.specs.Sizes.{state_size, key_count, value_max};

@@ -1,5 +1,7 @@
 // The layout of the lent state's 65,536 bytes (docs/LAYOUT.md): where each table stands and how wide its records are; the search of a table
 // by the number that its records start with, and the writing of a value.
+#![tactic(auto)]
+
 ghost use Rattle.std.specs.Prelude.{◌≡◌, [], ◌∷◌, ◌+◌, ◌*◌, ◌≤◌, length};
 ghost use Rattle.lent.specs.Bytes.{splice};
 ghost use Rattle.lent.specs.Tables.{first};

@@ -4,7 +4,6 @@ use mathlib.Core.Logic.{◌⊎◌, inl, inr}
 use mathlib.Core.Bool.{Bool, true, false, not, ◌&&◌, ◌||◌, and-false}
 use Prim.Native.Nat.{ℕ}
 use native.Mathlib.Omega.{arith}
-use borrow.Author.Tests.{not-true, not-false}
 use Rattle.lent.specs.Tables.{if◌then◌else◌}
 
 pub case_of : (t : Bool) → (t ≡ true) ⊎ (t ≡ false)
@@ -20,11 +19,11 @@ clash t p q = zero_one cc
 
 -- ---- what a call says of its definition's test, by the branch on its result
 
-pub test_failed : {r t : Bool} → r ≡ t → not r ≡ true → t ≡ false
-test_failed {r} e n = sym e ∙ not-true r n
+pub test_failed : {r t : Bool} → r ≡ t → r ≡ false → t ≡ false
+test_failed e n = sym e ∙ n
 
-pub test_passed : {r t : Bool} → r ≡ t → not r ≡ false → t ≡ true
-test_passed {r} e n = sym e ∙ not-false r n
+pub test_passed : {r t : Bool} → r ≡ t → r ≡ true → t ≡ true
+test_passed e n = sym e ∙ n
 
 -- ---- both, and one of two
 

@@ -1,4 +1,6 @@
 // Bytes of a lent buffer: numbers at a place. Stretches are cleared, copied and compared by the crate `blocks`.
+#![tactic(auto)]
+
 ghost use Rattle.std.specs.Prelude.{◌≡◌, [], ◌∷◌, ◌+◌, ◌≤◌, ◌<◌, length};
 ghost use Rattle.lent.specs.Bytes.{le16, bytes16, le32, bytes32, le64, bytes64, splice};
 

@@ -1,4 +1,6 @@
 // Lines of the rehearsal: what an input line says.
+#![tactic(auto)]
+
 ghost use Rattle.std.specs.Prelude.{◌≡◌, ◌≤◌, length};
 ghost use Rattle.lent.specs.Bytes.{splice};
 ghost use Rattle.hex_text.specs.Hex.{length_read, value_read};

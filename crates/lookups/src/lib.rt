@@ -1,5 +1,7 @@
 // The search for a Q row in the lent state. A row is found by its session's number and its key. Each contract speaks of the state that the
 // bytes hold.
+#![tactic(auto)]
+
 ghost use Rattle.std.specs.Prelude.{◌≡◌, ◌<◌, length};
 ghost use Rattle.lent.specs.Tables.{first};
 ghost use Rattle.machine.specs.Sizes.{state_size, row_count};

@@ -41,6 +41,7 @@ any-mem v (x ∷ l) e = go (case_of (same v x)) (any-mem v l)
     go (inr q) f = Memᴰ.tail (f (rw q at e))
 
 mem-any : (v : Value) (l : List Value) → Memᴰ v l → any (same v) l ≡ true
+mem-any v [] x' = elim x' [ ]
 mem-any v (x ∷ l) (Memᴰ.head e) = rw (eq_same v x e)
 mem-any v (x ∷ l) (Memᴰ.tail m) = rw (mem-any v l m) (or-true (same v x))
 

@@ -1,4 +1,6 @@
 // The words of the machine: commands, answers, the session record with its methods, and the decision table.
+#![tactic(auto)]
+
 ghost use Rattle.std.specs.Prelude.{◌≡◌, ◌<◌};
 ghost use Rattle.machine.specs.Session.{opened, step_of, sealed, is_sealed, is_due, validation_of};
 ghost use Rattle.machine.specs.Sizes.{step_max};

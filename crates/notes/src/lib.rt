@@ -1,4 +1,6 @@
 // The notes of the book: what the register holds for each key, and what it held at the key's last grant.
+#![tactic(auto)]
+
 ghost use Rattle.std.specs.Prelude.{◌≡◌, ◌+◌, ◌≤◌, ◌<◌, min, length, get_or};
 ghost use Rattle.lent.specs.Tables.{same};
 ghost use Rattle.machine.specs.Sizes.{key_count, value_max};

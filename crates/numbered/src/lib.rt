@@ -1,4 +1,6 @@
 // Commands by number, for callers that have no enum.
+#![tactic(auto)]
+
 ghost use Rattle.std.specs.Prelude.{◌≡◌};
 ghost use Rattle.numbered.specs.Commands.{command_of, unknown, ran_by};
 

@@ -1,4 +1,6 @@
 // BEGIN: how a session opens, on a state on which nothing lapses.
+#![tactic(auto)]
+
 ghost use Rattle.std.specs.Prelude.{◌≡◌, true, [], ◌≤◌, ◌<◌, length};
 ghost use Rattle.machine.specs.Sizes.{state_size, session_count, time_max};
 ghost use Rattle.machine.specs.Tables.{place};

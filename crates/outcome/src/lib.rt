@@ -1,4 +1,6 @@
 // Answers, as the functions of the commands look at them.
+#![tactic(auto)]
+
 ghost use Rattle.std.specs.Prelude.{◌≡◌};
 ghost use Rattle.outcome.specs.Outcome.{is_refused};
 

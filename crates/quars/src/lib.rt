@@ -1,4 +1,6 @@
 // QUAR: a session asks for a quarantine of a key, and the decision table answers.
+#![tactic(auto)]
+
 ghost use Rattle.std.specs.Prelude.{◌≡◌, true, [], ◌≤◌, ◌<◌, eqb, length};
 ghost use Rattle.machine.specs.Sizes.{state_size, session_count};
 ghost use Rattle.machine.specs.Words.{INVALIDATE};

@@ -1,4 +1,6 @@
 // The refusal that a command meets after expiry, decided by reading alone. Whoever is refused so has changed nothing.
+#![tactic(auto)]
+
 ghost use Rattle.std.specs.Prelude.{◌≡◌, true, not, ◌&&◌, [], ℕ, ◌<◌, eqb, length};
 ghost use Rattle.machine.specs.Sizes.{state_size, step_max};
 ghost use Rattle.machine.specs.Tables.{first};

@@ -1,4 +1,6 @@
 // The rehearsal: one line of input on the cache's bytes and the book, and the line that is printed of it.
+#![tactic(auto)]
+
 ghost use Rattle.std.specs.Prelude.{◌≡◌, [], ℕ, ◌≤◌, length};
 ghost use Rattle.machine.specs.Sizes.{value_max};
 ghost use Rattle.words.specs.Numbers.{place_of};

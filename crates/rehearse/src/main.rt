@@ -6,6 +6,8 @@
 // that what is read is the input, and that what a write is handed is written once and in order, which is what the C library's two calls are for.
 //
 // Each answer is written before more is read. A read or a write that fails ends the program with what was written so far, and with no end line.
+#![tactic(auto)]
+
 ghost use Rattle.std.specs.Prelude.{◌≡◌, ◌+◌, ◌≤◌, length};
 ghost use Rattle.feed.specs.Lines.{held_max};
 ghost use Rattle.book.specs.Memory.{memory_of};

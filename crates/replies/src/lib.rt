@@ -1,4 +1,6 @@
 // The rehearsal's output lines.
+#![tactic(auto)]
+
 ghost use Rattle.std.specs.Prelude.{◌≡◌, [], ◌∷◌, ◌+◌, ◌≤◌, ◌<◌, length, take};
 ghost use Rattle.lent.specs.Bytes.{splice};
 ghost use Rattle.lent.specs.Text.{space};

@@ -1,4 +1,6 @@
 // The fields of a Q row in the lent state. Each contract speaks of the state that the bytes hold.
+#![tactic(auto)]
+
 ghost use Rattle.std.specs.Prelude.{◌≡◌, ◌<◌, length};
 ghost use Rattle.machine.specs.Sizes.{state_size, key_count, row_count};
 ghost use Rattle.machine.specs.State.{State, kind_of, staged_in, row_at};

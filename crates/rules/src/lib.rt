@@ -1,4 +1,6 @@
 // What is said of a line: START, and an answer with the rule that it breaks.
+#![tactic(auto)]
+
 ghost use Rattle.std.specs.Prelude.{◌≡◌, eqb, length};
 ghost use Rattle.lent.specs.Tables.{if◌then◌else◌};
 ghost use Rattle.machine.specs.Words.{word_of};

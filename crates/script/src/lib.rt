@@ -1,4 +1,6 @@
 // The input of a rehearsal as it comes: its bytes are answered into an output buffer.
+#![tactic(auto)]
+
 ghost use Rattle.std.specs.Prelude.{◌≡◌, ◌+◌, ◌-◌, ◌≤◌, length, take};
 ghost use Rattle.lent.specs.Bytes.{win};
 ghost use Rattle.feed.specs.Held.{buffer, pushed, pushed_all};

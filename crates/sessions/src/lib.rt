@@ -1,5 +1,7 @@
 // The table of sessions in the lent state: a place is read, stored and freed, and a session is found by its number, never by a place that
 // its number would give. Each contract speaks of the state that the bytes hold.
+#![tactic(auto)]
+
 ghost use Rattle.std.specs.Prelude.{◌≡◌, ◌+◌, ◌≤◌, ◌<◌, ◌^◌, length, set};
 ghost use Rattle.lent.specs.Bytes.{win};
 ghost use Rattle.machine.specs.Sizes.{state_size, session_count, session_width};

@@ -1,4 +1,6 @@
 // SHOW, in two calls on the same state: one answers, the other gives the stretch alone.
+#![tactic(auto)]
+
 ghost use Rattle.std.specs.Prelude.{◌≡◌};
 ghost use Rattle.stretches.specs.Stretch.{span_of, Stretch};
 ghost use Rattle.show.specs.Show.{show_of};

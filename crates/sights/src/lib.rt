@@ -1,4 +1,6 @@
 // What one sees on a key of the lent state, and who may look. Each contract speaks of the state that the bytes hold.
+#![tactic(auto)]
+
 ghost use Rattle.std.specs.Prelude.{◌≡◌, not, ◌&&◌, ◌<◌, eqb, length};
 ghost use Rattle.machine.specs.Sizes.{state_size, key_count, row_count};
 ghost use Rattle.machine.specs.State.{State, cached, row_at};

@@ -1,4 +1,6 @@
 // STAGE, and what it has in common with DELTA: the session, its row on the key, and the step.
+#![tactic(auto)]
+
 ghost use Rattle.std.specs.Prelude.{◌≡◌, ◌<◌, length};
 ghost use Rattle.machine.specs.Sizes.{state_size, session_count, step_max};
 ghost use Rattle.machine.specs.State.{State};

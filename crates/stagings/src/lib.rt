@@ -1,5 +1,7 @@
 // What is staged in a Q row of the lent state: nothing as it is taken, then a value or DROP. Each contract speaks of the state that the
 // bytes hold.
+#![tactic(auto)]
+
 ghost use Rattle.std.specs.Prelude.{◌≡◌, false, ◌≤◌, ◌<◌, length, set};
 ghost use Rattle.machine.specs.Sizes.{state_size, row_count, value_max};
 ghost use Rattle.machine.specs.State.{State, row, nothing, staged, DROP, free_row, row_at};

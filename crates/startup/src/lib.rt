@@ -1,4 +1,6 @@
 // START: the fresh state in a lent buffer, whatever it held.
+#![tactic(auto)]
+
 ghost use Rattle.std.specs.Prelude.{◌≡◌, ◌<◌, length};
 ghost use Rattle.machine.specs.Sizes.{state_size};
 ghost use Rattle.machine.specs.Sound.{lifetime};

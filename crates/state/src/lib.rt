@@ -1,4 +1,6 @@
 // Whether a lent buffer holds a well-formed state: the header, each record by itself, then what joins records.
+#![tactic(auto)]
+
 ghost use Rattle.std.specs.Prelude.{◌≡◌, true, ◌+◌, ◌-◌, ◌≤◌, length, replicate, eqb};
 ghost use Rattle.lent.specs.Bytes.{le64, le32, win};
 ghost use Rattle.lent.specs.Tables.{if◌then◌else◌, all_zero};

@@ -1,4 +1,6 @@
 // SHOW on the lent state: its answer, and the stretch that holds the value. Each contract speaks of the state that the bytes hold.
+#![tactic(auto)]
+
 ghost use Rattle.std.specs.Prelude.{◌≡◌, ◌≤◌, ◌<◌, ◌+◌, length};
 ghost use Rattle.machine.specs.Sizes.{state_size, key_count};
 ghost use Rattle.machine.specs.State.{State};

@@ -1,4 +1,6 @@
 // Expiry on the lent state. Whoever calls has checked the state: it is sound, and of 65,536 bytes.
+#![tactic(auto)]
+
 ghost use Rattle.std.specs.Prelude.{◌≡◌, true, ◌++◌, map, ◌+◌, ◌≤◌, ◌<◌, length, take};
 ghost use Rattle.machine.specs.Sizes.{state_size, key_count, session_count};
 ghost use Rattle.machine.specs.Tables.{any};

@@ -1,4 +1,6 @@
 // VALIDATE, DONE and UNDO: how a session is sealed and ends, on a state on which nothing lapses.
+#![tactic(auto)]
+
 ghost use Rattle.std.specs.Prelude.{◌≡◌, [], ◌<◌, length};
 ghost use Rattle.machine.specs.Sizes.{state_size};
 ghost use Rattle.machine.specs.declared.Command.TheVariants.{Validate, Done, Undo};

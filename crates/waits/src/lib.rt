@@ -1,4 +1,6 @@
 // The wait that a BACKOFF says.
+#![tactic(auto)]
+
 ghost use Rattle.std.specs.Prelude.{◌≡◌, ◌-◌, ◌<◌, length};
 ghost use Rattle.machine.specs.Sizes.{state_size, key_count, row_count};
 ghost use Rattle.machine.specs.State.{State, row_at};

@@ -1,4 +1,6 @@
 // An answer as numbers: its word, what goes with it, and where a HIT's value stands.
+#![tactic(auto)]
+
 ghost use Rattle.std.specs.Prelude.{◌≡◌, [], ◌∷◌};
 ghost use Rattle.machine.specs.Words.{word_of, detail_of};
 ghost use Rattle.words.specs.Numbers.{place_of, numbers_of};

@@ -1,4 +1,6 @@
 // A C line: the register's write, tested by rule 2 and marked for rule 3.
+#![tactic(auto)]
+
 ghost use Rattle.std.specs.Prelude.{◌≡◌, true, ℕ, ◌≤◌, ◌<◌, length};
 ghost use Rattle.lent.specs.Tables.{if◌then◌else◌};
 ghost use Rattle.machine.specs.Sizes.{state_size, session_count, value_max};
