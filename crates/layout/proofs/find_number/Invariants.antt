@@ -1,0 +1,18 @@
+use borrow.Author.Rules.{rules}
+use native.Mathlib.Nat.{sub-zero}
+use Prim.Native.Nat.{◌-◌, ◌≤◌}
+use mathlib.Core.Path.{◌≡◌, sym, ◌∙◌}
+use native.Mathlib.Omega.{arith}
+use borrow.Author.Tests.{eq-eqb, ne_eqb}
+use Rattle.lent.specs.Tables.{first}
+use Rattle.lent.proofs.Tables.{place-fits}
+use Rattle.lent.proofs.Walks.{first-hit, first_miss, first_end}
+use Rattle.layout.specs.Search.{starts_with}
+use Rattle.layout.specs.declared.Found.{Found}
+use Rattle.layout.proofs.find_number.Given as goal
+
+abbrev pub invariant-loop-i : goal.invariant-loop-i
+invariant-loop-i l = (l.i ≤ l.count) × (first (starts_with l.s l.from l.width l.n) Found.At Found.Nothing 0 l.count ≡ first (starts_with l.s l.from l.width l.n) Found.At Found.Nothing l.i (l.count - l.i))
+
+abbrev pub decreases-loop-i : goal.decreases-loop-i
+decreases-loop-i l = l.count - l.i
