@@ -1,6 +1,5 @@
 -- The session that asks, as the refusals NO SESSION and SEALED leave it.
-use Rattle.std.specs.Prelude.{ℕ, ◌<◌}
-use Rattle.lent.specs.Tables.{if◌then◌else◌}
+use Rattle.std.specs.Prelude.{ℕ, ◌<◌, if◌then◌else◌}
 use Rattle.machine.specs.Words.{NO-SESSION, SEALED}
 use Rattle.machine.specs.Sizes.{session_count}
 use Rattle.machine.specs.Session.{is_sealed}

@@ -12,7 +12,7 @@ use layout::Found;
 use machine::Session;
 
 // An open session's place and record, or the refusal.
-#[derive(Drop)]
+#[derive(Clone, Copy)]
 pub enum Asker {
     Refused(u8),
     Open { place: usize, session: Session },

@@ -1,10 +1,10 @@
 -- What is read of a book after it was written. Each reader looks at one stretch of it and each writer is a splice of one stretch, so what lies apart
 -- from the splice is read as before, and what was written is read back. Readers stand first, then each writer.
+use Rattle.std.specs.Prelude.{if◌then◌else◌}
 use Rattle.std.proofs.Common.{◌≡◌, ℕ, suc, ◌+◌, ◌*◌, ◌%◌, ◌^◌, ◌<◌, ◌≤◌, min, Bool, true, false, eqb, ltb, ◌⊎◌, List, [], ◌∷◌, length, get_or, drop, sym, refl, ap, ◌∙◌, inl, inr, add-zero, arith, length-take, ltb-false, ltb-true, lt-ltb}
 use native.Mathlib.Nat.{min-le_left, min-le_right, min-eq_left}
 use lib.Seq.{take-length}
 use Rattle.lent.specs.Bytes.{le32, bytes32, bytes64, win, splice, zeros}
-use Rattle.lent.specs.Tables.{if◌then◌else◌}
 use Rattle.lent.proofs.Choices.{if_ind}
 use Rattle.lent.proofs.Numbers.{width32, le_bytes, le_front}
 use Rattle.lent.proofs.Splice.{get_or-splice-after, get_or-splice-before, get_or-splice_in, length-splice, win-splice, win-splice-after, win-splice-before, win-splice_in}

@@ -1,9 +1,8 @@
 -- The book: what the rehearsal remembers beside the cache, in a lent buffer. Whether START has answered READY; the lines read, and those with a rule
 -- broken; for each key what the register holds, and what it held when an I lease was last granted on it (rule 1); for each place of the sessions'
 -- table the last session there for which the register has written while it was live (rule 3). A book of zeros is a new one.
-use Rattle.std.specs.Prelude.{ℕ, ◌+◌, ◌*◌, ◌%◌, ◌^◌, min, Bool, not, List, [], ◌∷◌, length, ◌==◌, nat_lt, slice_index}
+use Rattle.std.specs.Prelude.{ℕ, ◌+◌, ◌*◌, ◌%◌, ◌^◌, min, Bool, not, List, [], ◌∷◌, length, ◌==◌, nat_lt, slice_index, if◌then◌else◌}
 use Rattle.lent.specs.Bytes.{le32, bytes32, le64, bytes64, win, splice}
-use Rattle.lent.specs.Tables.{if◌then◌else◌}
 use Rattle.machine.specs.Sizes.{key_count, value_max}
 use Rattle.machine.specs.State.{Value}
 

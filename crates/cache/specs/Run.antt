@@ -1,6 +1,5 @@
 -- The cache on a lent buffer: refused with STATE where it is not well formed, else the machine's answer and the encoding of its next state.
-use Rattle.std.specs.Prelude.{ℕ, List}
-use Rattle.lent.specs.Tables.{if◌then◌else◌}
+use Rattle.std.specs.Prelude.{ℕ, List, if◌then◌else◌}
 use Rattle.machine.specs.Words.{STATE}
 use Rattle.machine.specs.State.{Value}
 use Rattle.machine.specs.Effects.{Outcome}

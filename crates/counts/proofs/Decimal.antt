@@ -1,9 +1,9 @@
 -- The digits of n are its w lowest digits, where w is how many it has: a division by ten for each. Each law goes down those divisions, over
 -- any bound on the digits, and is then said of `decimal`.
+use Rattle.std.specs.Prelude.{if◌then◌else◌}
 use Rattle.std.proofs.Common.{◌≡◌, ℕ, zero, suc, ◌+◌, ◌-◌, ◌*◌, ◌/◌, ◌%◌, ◌^◌, ◌<◌, ◌≤◌, Bool, true, false, ◌&&◌, ltb, leb, ◌⊎◌, List, [], ◌∷◌, ◌++◌, length, get_or, refl, ap, ◌∙◌, inl, inr, ⊎_elim, append_assoc, append-nil, mod-eq_of_lt, arith, length-append, ltb-false, ltb-true, le-ltb, lt-ltb, le-leb, leb-true}
 use mathlib.Core.Bool.{and-true, and_assoc, and-eq-true_iff}
 use lib.ListN.{get_or-eq_default}
-use Rattle.lent.specs.Tables.{if◌then◌else◌}
 use Rattle.counts.specs.Count.{count_max, digits_max, digit, all_digits, numeral, digits, decimal, decimal_length}
 
 -- the number of digits of n, at most f

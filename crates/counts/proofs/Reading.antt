@@ -1,9 +1,9 @@
 -- A count is read digit by digit. A numeral never falls when a digit is put behind it, so that a numeral past the largest count stays past it,
 -- and the reader may stop there.
+use Rattle.std.specs.Prelude.{if◌then◌else◌}
 use Rattle.std.proofs.Common.{◌≡◌, ℕ, suc, ◌+◌, ◌-◌, ◌*◌, ◌<◌, ◌≤◌, Bool, true, false, ◌&&◌, leb, List, [], ◌∷◌, length, get_or, drop, refl, ◌∙◌, le_refl, add-one, arith, drop_of_length-le, drop-cons, le-leb, leb-false}
 use mathlib.Core.Bool.{and-false}
 use borrow.Author.Tests.{lt-leb}
-use Rattle.lent.specs.Tables.{if◌then◌else◌}
 use Rattle.counts.specs.Count.{count_max, digits_max, digit, all_digits, numeral, extended, read_count}
 use Rattle.counts.specs.declared.Count.{Count}
 use Rattle.counts.specs.declared.Count.TheVariants.{Is, Not}

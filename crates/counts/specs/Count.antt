@@ -1,8 +1,7 @@
 -- Counts: what bytes say a number, and the bytes that say it. 01, DELTA: "A count is 1 to 20 ASCII digits, at most 2^64 - 1, digits only ..
 -- results have no leading zero."
-use Rattle.std.specs.Prelude.{ℕ, zero, suc, ◌+◌, ◌-◌, ◌*◌, ◌/◌, ◌%◌, ◌^◌, Bool, true, ◌&&◌, List, [], ◌∷◌, length, nat_le, nat_lt}
+use Rattle.std.specs.Prelude.{ℕ, zero, suc, ◌+◌, ◌-◌, ◌*◌, ◌/◌, ◌%◌, ◌^◌, Bool, true, ◌&&◌, List, [], ◌∷◌, length, nat_le, nat_lt, if◌then◌else◌}
 use Rattle.lent.specs.Bytes.{splice}
-use Rattle.lent.specs.Tables.{if◌then◌else◌}
 use Rattle.counts.specs.declared.Count.{Count}
 use Rattle.counts.specs.declared.Count.TheVariants.{Is, Not}
 

@@ -5,7 +5,7 @@ ghost use Rattle.std.specs.Prelude.{◌≡◌, ◌≤◌, length};
 ghost use Rattle.counts.specs.Count.{read_count, extended, decimal_length, written, raised, lowered};
 
 // What bytes say as a count.
-#[derive(Drop)]
+#[derive(Clone, Copy)]
 pub enum Count {
     Is(u64),
     Not,

@@ -1,5 +1,6 @@
 -- What DELTA makes of a value: two values copied one behind the other are the longer value, if they fit, and a count that is written stands
 -- at the front of its buffer. Where there is no result nothing is said of the buffer.
+use Rattle.std.specs.Prelude.{if◌then◌else◌}
 use mathlib.Core.Path.{◌≡◌, refl, sym, ap}
 use mathlib.Core.List.{List, ◌++◌}
 use mathlib.Core.Option.{Option, none, some}
@@ -11,7 +12,6 @@ use lib.ListN.{length, length-append}
 use lib.Seq.{take-append_seam}
 use borrow.Author.Tests.{ne_eqb, le-leb, lt-leb}
 use Rattle.lent.specs.Bytes.{splice}
-use Rattle.lent.specs.Tables.{if◌then◌else◌}
 use Rattle.lent.proofs.Splice.{splice-next}
 use Rattle.counts.specs.Count.{read_count, written, raised, lowered}
 use Rattle.counts.specs.declared.Count.{Count}

@@ -2,9 +2,8 @@
 // nothing lapses.
 #![tactic(auto)]
 
-ghost use Rattle.std.specs.Prelude.{◌≡◌, false, ◌++◌, ◌+◌, ◌≤◌, ◌<◌, eqb, length};
+ghost use Rattle.std.specs.Prelude.{◌≡◌, false, ◌++◌, ◌+◌, ◌≤◌, ◌<◌, eqb, length, if◌then◌else◌};
 ghost use Rattle.lent.specs.Bytes.{win};
-ghost use Rattle.lent.specs.Tables.{if◌then◌else◌};
 ghost use Rattle.counts.specs.Count.{read_count, raised, lowered};
 ghost use Rattle.machine.specs.Sizes.{state_size, key_count, row_count, value_max};
 ghost use Rattle.machine.specs.State.{State, free_row, row_at};
@@ -26,7 +25,7 @@ const PREPEND: u64 = 2;
 const INCREMENT: u64 = 3;
 
 // What a value becomes: so many bytes at the front of the lent buffer, or DROP.
-#[derive(Drop)]
+#[derive(Clone, Copy)]
 pub enum Changed {
     To(usize),
     Drop,

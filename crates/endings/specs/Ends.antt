@@ -1,6 +1,5 @@
 -- How the rows of sessions that end are freed, and what becomes of the values of their keys: the whole table, and one row of it.
-use Rattle.std.specs.Prelude.{ℕ, List, map, set}
-use Rattle.lent.specs.Tables.{if◌then◌else◌}
+use Rattle.std.specs.Prelude.{ℕ, List, map, set, if◌then◌else◌}
 use Rattle.machine.specs.Tables.{mem}
 use Rattle.machine.specs.State.{Key, Staged, Row, no_row, row, State, row_at}
 use Rattle.machine.specs.Expiry.{with_keys, with_rows, set_value, free_if_of, settle, lapsed_value}

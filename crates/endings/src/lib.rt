@@ -12,7 +12,7 @@ ghost use Rattle.layout.specs.Holds.{Holds};
 ghost use Rattle.endings.specs.Ends.{settles, end_row, end_rows};
 
 // What becomes of the value of a row's key when the row's session ends: it stays, it is dropped, or what is staged is cached.
-#[derive(Drop)]
+#[derive(Clone, Copy)]
 pub enum Ending {
     Leaves,
     Lapses,

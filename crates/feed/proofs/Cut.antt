@@ -1,12 +1,12 @@
 -- The bytes of an input, one after the other, are answered as its lines are, one after the other. By induction on the bytes; what is
 -- held stands for all the bytes since the last newline, of which only the first are kept.
+use Rattle.std.specs.Prelude.{if◌then◌else◌}
 use mathlib.Core.Path.{◌≡◌, refl, ap, ◌∙◌}
 use mathlib.Core.Bool.{Bool, true, false}
 use mathlib.Core.List.{List, [], ◌∷◌, ◌++◌, map, append_assoc, append-nil}
 use Prim.Native.Nat.{ℕ}
 use lib.ListN.{length, take}
 use lib.Dec.{eqb}
-use Rattle.lent.specs.Tables.{if◌then◌else◌}
 use Rattle.lent.specs.Text.{newline, onto}
 use Rattle.feed.specs.Lines.{held_max, lines_of, cut_lines}
 use Rattle.feed.specs.Answers.{Answered, Open, behind, answers, byte, fed, last}

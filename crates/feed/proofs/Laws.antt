@@ -1,5 +1,6 @@
 -- The held bytes as a list: a byte that is pushed makes the list that the definition makes, and it never grows past its most. Bytes in a
 -- row are the earlier ones and then the last.
+use Rattle.std.specs.Prelude.{if◌then◌else◌}
 use mathlib.Core.Path.{◌≡◌, refl, sym, ap, ◌∙◌}
 use mathlib.Core.List.{List, [], ◌∷◌, ◌++◌}
 use Prim.Native.Nat.{ℕ, zero, suc, ◌+◌, ◌≤◌, ◌<◌}
@@ -10,7 +11,6 @@ use lib.Seq.{length-take-le, take_all, take-suc-set, take-append-le}
 use mathlib.Core.Bool.{Bool, true, false, ◌||◌}
 use lib.Dec.{eqb, leb}
 use borrow.Author.Tests.{leb-true, leb-false}
-use Rattle.lent.specs.Tables.{if◌then◌else◌}
 use Rattle.lent.proofs.Choices.{zero_one}
 use Rattle.lent.specs.Text.{newline}
 use Rattle.feed.specs.Lines.{held_max}

@@ -1,6 +1,5 @@
 -- An input answered line by line: as a whole, and as its bytes come.
-use Rattle.std.specs.Prelude.{ℕ, List, [], ◌∷◌, ◌++◌, take, eqb}
-use Rattle.lent.specs.Tables.{if◌then◌else◌}
+use Rattle.std.specs.Prelude.{ℕ, List, [], ◌∷◌, ◌++◌, take, eqb, if◌then◌else◌}
 use Rattle.lent.specs.Text.{newline}
 use Rattle.feed.specs.Lines.{held_max}
 

@@ -1,6 +1,5 @@
 -- The buffer of the line that is not yet whole: its first bytes are those that came since the last newline.
-use Rattle.std.specs.Prelude.{ℕ, ◌+◌, Bool, ◌||◌, List, [], ◌∷◌, length, set, eqb, leb}
-use Rattle.lent.specs.Tables.{if◌then◌else◌}
+use Rattle.std.specs.Prelude.{ℕ, ◌+◌, Bool, ◌||◌, List, [], ◌∷◌, length, set, eqb, leb, if◌then◌else◌}
 use Rattle.lent.specs.Text.{newline}
 use Rattle.feed.specs.Lines.{held_max}
 use Rattle.feed.specs.declared.Taken.{Taken}

@@ -1,6 +1,5 @@
 -- The lines of an input (01, "The rehearsal").
-use Rattle.std.specs.Prelude.{ℕ, List, [], ◌∷◌, map, take, eqb}
-use Rattle.lent.specs.Tables.{if◌then◌else◌}
+use Rattle.std.specs.Prelude.{ℕ, List, [], ◌∷◌, map, take, eqb, if◌then◌else◌}
 use Rattle.lent.specs.Text.{newline, onto}
 
 -- the most bytes of a line that are handed on: one more than a line may have, so that a longer one stays too long

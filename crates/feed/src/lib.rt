@@ -11,7 +11,7 @@ const NEWLINE: u8 = 10;
 pub const HELD_MAX: usize = 201;
 
 // What a byte came to: so many bytes are held, or a line is whole, whose bytes are the ones held.
-#[derive(Drop)]
+#[derive(Clone, Copy)]
 pub enum Taken {
     Held(usize),
     Line(usize),

@@ -1,7 +1,6 @@
 -- GET by parts: what it answers to a holder of a row on the key, and to anyone else.
-use Rattle.std.specs.Prelude.{ℕ, leb, length}
+use Rattle.std.specs.Prelude.{ℕ, leb, length, if◌then◌else◌}
 use Rattle.std.proofs.Math.Option.{Option, none, some}
-use Rattle.lent.specs.Tables.{if◌then◌else◌}
 use Rattle.machine.specs.Words.{NUMBERS}
 use Rattle.machine.specs.Sizes.{number_max}
 use Rattle.machine.specs.State.{State, cached}

@@ -1,7 +1,6 @@
 -- Values as the rehearsal prints and reads them. 01, "The rehearsal": "values are lower-case hex, `-` for empty."
-use Rattle.std.specs.Prelude.{ℕ, ◌+◌, ◌-◌, ◌*◌, ◌/◌, ◌%◌, Bool, true, false, ◌&&◌, List, [], ◌∷◌, length, eqb, leb, ltb}
+use Rattle.std.specs.Prelude.{ℕ, ◌+◌, ◌-◌, ◌*◌, ◌/◌, ◌%◌, Bool, true, false, ◌&&◌, List, [], ◌∷◌, length, eqb, leb, ltb, if◌then◌else◌}
 use Rattle.std.proofs.Math.Option.{Option, none, some}
-use Rattle.lent.specs.Tables.{if◌then◌else◌}
 use Rattle.hex_text.specs.declared.Hex.{Hex}
 use Rattle.hex_text.specs.declared.Hex.TheVariants.{Is, Not}
 

@@ -6,7 +6,7 @@ ghost use Rattle.lent.specs.Bytes.{splice};
 ghost use Rattle.hex_text.specs.Hex.{digit_of, digits_of, hex_of, digit_value, all_digits, is_dash, is_hex, bytes_of, read_hex, length_read, value_read};
 
 // How many bytes a text says, or that it says none.
-#[derive(Drop)]
+#[derive(Clone, Copy)]
 pub enum Hex {
     Is(usize),
     Not,

@@ -1,4 +1,5 @@
 -- What is held on a key, told by what the search of the rows found: the first row on the key decides by its kind, else the I lease does.
+use Rattle.std.specs.Prelude.{if◌then◌else◌}
 use mathlib.Core.Path.{◌≡◌, refl}
 use mathlib.Core.Bool.{Bool, true}
 use mathlib.Core.Option.{Option, none, some}
@@ -7,7 +8,6 @@ use native.Mathlib.Omega.{arith}
 use lib.Dec.{eqb}
 use lib.ListN.{length}
 use borrow.Author.Tests.{ne_eqb}
-use Rattle.lent.specs.Tables.{if◌then◌else◌}
 use Rattle.machine.specs.Sizes.{row_count}
 use Rattle.machine.specs.Tables.{place, is_none}
 use Rattle.machine.specs.State.{Lease, no_row, State, on, kind_of, row_at, lease_on}

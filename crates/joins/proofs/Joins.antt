@@ -1,5 +1,6 @@
 -- One pass over the rows: the bits of a row's key tell of it what comparing it with each row before it tells. A row of kind INVALIDATE has the bit of
 -- its session, and the bit at a session's place is that session's, since a place has one number; a row of another kind has all bits of its key.
+use Rattle.std.specs.Prelude.{if◌then◌else◌}
 use mathlib.Core.Path.{◌≡◌, refl, sym, ap, ◌∙◌}
 use mathlib.Core.Bool.{Bool, true, false, not, ◌&&◌, and-false}
 use mathlib.Core.Logic.{◌⊎◌, ⊎_elim, inl, inr}
@@ -10,7 +11,7 @@ use lib.ListN.{length-replicate, replicate}
 use lib.Dec.{eqb}
 use borrow.Author.Tests.{eq-eqb, ne_eqb}
 use Rattle.lent.specs.Bytes.{le32}
-use Rattle.lent.specs.Tables.{if◌then◌else◌, every}
+use Rattle.lent.specs.Tables.{every}
 use Rattle.lent.proofs.Choices.{if_same, clash}
 use Rattle.lent.proofs.Walks.{all-every, every_fails}
 use Rattle.machine.specs.Words.{INVALIDATE}

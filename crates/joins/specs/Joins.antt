@@ -1,8 +1,8 @@
 -- The conditions that join records, as tests of the bytes where they lie.
-use Rattle.std.specs.Prelude.{ℕ, ◌+◌, ◌*◌, ◌-◌, ◌/◌, ◌%◌, ◌^◌, ◌≤◌, ◌<◌, ◌≡◌, Bool, true, false, not, ◌&&◌, List, length, get_or, set, eqb}
+use Rattle.std.specs.Prelude.{ℕ, ◌+◌, ◌*◌, ◌-◌, ◌/◌, ◌%◌, ◌^◌, ◌≤◌, ◌<◌, ◌≡◌, Bool, true, false, not, ◌&&◌, List, length, get_or, set, eqb, if◌then◌else◌}
 use Rattle.joins.specs.Bits.{word_bits, has_bit, with_bit}
 use Rattle.lent.specs.Bytes.{le32}
-use Rattle.lent.specs.Tables.{if◌then◌else◌, every, some, first}
+use Rattle.lent.specs.Tables.{every, some, first}
 use Rattle.order.specs.Order.{side, item}
 use Rattle.machine.specs.Sound.{new_at, distinct}
 use Rattle.machine.specs.Words.{INVALIDATE}

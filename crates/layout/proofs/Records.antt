@@ -1,5 +1,6 @@
 -- Each record is read from its bytes as it was written: field by field, where the bytes of a number say it and a value is as long as its
 -- length byte says; so the whole record.
+use Rattle.std.specs.Prelude.{if◌then◌else◌}
 use mathlib.Core.Path.{◌≡◌, refl, ap}
 use mathlib.Core.Bool.{false, not}
 use mathlib.Core.List.{List, ◌++◌}
@@ -11,7 +12,6 @@ use lib.ListN.{length, get_or}
 use lib.Seq.{take_at}
 use borrow.Author.Tests.{ne_eqb}
 use Rattle.lent.specs.Bytes.{le32, le64, win}
-use Rattle.lent.specs.Tables.{if◌then◌else◌}
 use Rattle.lent.proofs.Numbers.{width16, width32, width64, le_bytes}
 use Rattle.lent.proofs.Choices.{zero_one}
 use Rattle.machine.specs.Tables.{is_none}

@@ -1,5 +1,6 @@
 -- What a search of a table tells of the table: the first place at which a test holds is the table's `place`, and where there is none, every
 -- entry fails the test. So the lowest free place also tells whether a table is full.
+use Rattle.std.specs.Prelude.{if◌then◌else◌}
 use mathlib.Core.Path.{◌≡◌, refl, sym, ◌∙◌}
 use mathlib.Core.Bool.{Bool, true, false, not}
 use mathlib.Core.List.{List, [], ◌∷◌}
@@ -8,7 +9,7 @@ use native.Mathlib.Omega.{arith}
 use lib.Dec.{leb, ltb, leb-suc-suc}
 use lib.ListN.{length, get_or, get_or-eq_default}
 use borrow.Author.Tests.{le-leb, le-ltb, lt-leb, lt-ltb, ltb-false, ltb-true}
-use Rattle.lent.specs.Tables.{if◌then◌else◌, first}
+use Rattle.lent.specs.Tables.{first}
 use Rattle.lent.proofs.Walks.{Search, found, nowhere, first_search, first_cong}
 use Rattle.lent.proofs.Choices.{if_ind, zero_one}
 use Rattle.machine.specs.Tables.{place, find, count}

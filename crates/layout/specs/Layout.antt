@@ -1,8 +1,8 @@
 -- The layout (docs/LAYOUT.md): a state to its 65,536 bytes, and what bytes are read as, any bytes.
-use Rattle.std.specs.Prelude.{ℕ, ◌-◌, List, [], ◌∷◌, ◌++◌, length, get_or, drop, eqb}
+use Rattle.std.specs.Prelude.{ℕ, ◌-◌, List, [], ◌∷◌, ◌++◌, length, get_or, drop, eqb, if◌then◌else◌}
 use Rattle.std.proofs.Math.Option.{Option, none, some}
 use Rattle.lent.specs.Bytes.{le16, bytes16, le32, bytes32, le64, bytes64, win, zeros}
-use Rattle.lent.specs.Tables.{if◌then◌else◌, tab_of, read_tab}
+use Rattle.lent.specs.Tables.{tab_of, read_tab}
 use Rattle.machine.specs.Sizes.{key_count, session_count, row_count, value_max, keys_from, key_width, rows_from, row_width, sessions_from, session_width, rest_size, lease_width}
 use Rattle.machine.specs.Sizes.{read_life_field, write_life_field, next_session_field, next_token_field, key_length_field, key_token_field, key_until_field, key_value_field}
 use Rattle.machine.specs.Sizes.{row_key_field, row_kind_field, row_staged_field, row_length_field, row_value_field, session_life_field, session_steps_field, session_until_field}

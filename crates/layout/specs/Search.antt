@@ -1,7 +1,6 @@
 -- What a search of a table tells: the first place that passes, or nothing.
-use Rattle.std.specs.Prelude.{ℕ, ◌+◌, ◌*◌, ◌<◌, Bool, List, eqb, ltb}
+use Rattle.std.specs.Prelude.{ℕ, ◌+◌, ◌*◌, ◌<◌, Bool, List, eqb, ltb, if◌then◌else◌}
 use Rattle.lent.specs.Bytes.{le32}
-use Rattle.lent.specs.Tables.{if◌then◌else◌}
 use Rattle.layout.specs.declared.Found.{Found}
 
 -- the place i, if it lies within a table of n

@@ -89,7 +89,7 @@ pub const SESSION_UNTIL: usize = 8;
 pub const VALUE_MAX: usize = 64;
 
 // The place of the first record that a search is for.
-#[derive(Drop)]
+#[derive(Clone, Copy)]
 pub enum Found {
     At(usize),
     Nothing,

@@ -1,10 +1,10 @@
 -- Choices and tests by the value of a Boolean: each law is its two cases.
+use Rattle.std.specs.Prelude.{if◌then◌else◌}
 use mathlib.Core.Path.{◌≡◌, refl, sym, ap, ◌∙◌}
 use mathlib.Core.Logic.{◌⊎◌, inl, inr}
 use mathlib.Core.Bool.{Bool, true, false, not, ◌&&◌, ◌||◌, and-false}
 use Prim.Native.Nat.{ℕ}
 use native.Mathlib.Omega.{arith}
-use Rattle.lent.specs.Tables.{if◌then◌else◌}
 
 pub case_of : (t : Bool) → (t ≡ true) ⊎ (t ≡ false)
 case_of true = inl refl
@@ -63,7 +63,7 @@ and_ahead a false c = and-false a
 
 -- ---- a choice
 
-pub if_ind {ℓ κ} : {A : Type ℓ} (P : A → Type κ) (t : Bool) {x y : A} → (t ≡ true → P x) → (t ≡ false → P y) → P (if t then x else y)
+pub if_ind {κ} : {A : Type 0} (P : A → Type κ) (t : Bool) {x y : A} → (t ≡ true → P x) → (t ≡ false → P y) → P (if t then x else y)
 if_ind P true f g = f refl
 if_ind P false f g = g refl
 

@@ -1,5 +1,6 @@
 -- Tests of each index, of some index, the search for the first, and a step for each index: what a loop over the indices needs at a
 -- turn, and what its result says of the indices. All by induction on the number of indices.
+use Rattle.std.specs.Prelude.{if◌then◌else◌}
 use mathlib.Core.Path.{◌≡◌, refl, sym, ap, ◌∙◌}
 use mathlib.Core.Logic.{⊎_elim}
 use mathlib.Core.Bool.{Bool, not-not, true, false, not, ◌&&◌, ◌||◌, and-true, and_assoc, or-true}
@@ -8,7 +9,7 @@ use native.Mathlib.Nat.{eq-or-lt_of_le, le_of_suc-le-suc, not-suc-le-zero}
 use native.Mathlib.Omega.{arith}
 use native.Mathlib.Numerals.{add-one}
 use borrow.Author.Tests.{not-true}
-use Rattle.lent.specs.Tables.{if◌then◌else◌, every, some, first}
+use Rattle.lent.specs.Tables.{every, some, first}
 use Rattle.lent.proofs.Choices.{and_swap, and_yes, not_or, clash}
 
 -- ---- each index

@@ -1,10 +1,5 @@
--- Choices, walks over the indices of a table, and tables of records that lie in a list of bytes.
-use Rattle.std.specs.Prelude.{ℕ, zero, suc, Bool, true, false, ◌&&◌, ◌||◌, List, [], ◌∷◌, ◌++◌, take, drop, eqb}
-
-infixr 10 if◌then◌else◌
-abbrev pub if◌then◌else◌ {ℓ} : {A : Type ℓ} → Bool → A → A → A
-if true then a else b = a
-if false then a else b = b
+-- Walks over the indices of a table, and tables of records that lie in a list of bytes.
+use Rattle.std.specs.Prelude.{if◌then◌else◌, ℕ, zero, suc, Bool, true, false, ◌&&◌, ◌||◌, List, [], ◌∷◌, ◌++◌, take, drop, eqb}
 
 -- p holds at each index below n
 unfoldable pub every : (ℕ → Bool) → ℕ → Bool

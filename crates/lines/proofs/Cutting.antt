@@ -1,4 +1,5 @@
 -- A line is cut at its spaces. As long as no byte passed is a space, the fields from a place on are those of the bytes left, with the bytes passed before the first of them.
+use Rattle.std.specs.Prelude.{if◌then◌else◌}
 use mathlib.Core.Path.{◌≡◌, refl, sym, ◌∙◌}
 use mathlib.Core.Bool.{Bool, true, false}
 use mathlib.Core.List.{List, [], ◌∷◌, ◌++◌, append_assoc, append-nil}
@@ -10,7 +11,6 @@ use lib.ListN.{length, get_or, drop, drop_of_length-le}
 use lib.Seq.{drop-cons}
 use borrow.Author.Tests.{le-leb, lt-leb, eq-eqb, ne_eqb}
 use Rattle.lent.specs.Bytes.{win}
-use Rattle.lent.specs.Tables.{if◌then◌else◌}
 use Rattle.lent.specs.Text.{space, onto}
 use Rattle.lent.proofs.Splice.{win_to_none, win_to_more}
 use Rattle.lines.specs.Fields.{Field, fields, fields_at, Ends}

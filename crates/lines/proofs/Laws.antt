@@ -1,4 +1,5 @@
 -- What callers cite of a line that is read, whatever it says: its length is that of its value, which are bytes that fit the buffer; a register write is in range. Each way to read a line ends in one of three forms, and each form has all of this.
+use Rattle.std.specs.Prelude.{if◌then◌else◌}
 use mathlib.Core.Path.{◌≡◌, refl}
 use mathlib.Core.Bool.{Bool, true, false}
 use mathlib.Core.List.{List, [], ◌∷◌}
@@ -9,7 +10,6 @@ use lib.Dec.{eqb, ltb}
 use lib.ListN.{length}
 use borrow.Author.Tests.{ltb-false}
 use Rattle.lent.specs.Bytes.{Bytes}
-use Rattle.lent.specs.Tables.{if◌then◌else◌}
 use Rattle.lent.proofs.Choices.{if_ind}
 use Rattle.hex_text.specs.Hex.{read_hex}
 use Rattle.hex_text.proofs.Laws.{read_bytes}

@@ -1,8 +1,7 @@
 -- A line as fields, and what fields say. 01, "The rehearsal": "time, letter, fields, single spaces between .. Numbers are decimal without leading zeros; values are lower-case hex, `-` for empty."
-use Rattle.std.specs.Prelude.{ℕ, ◌+◌, ◌-◌, ◌≤◌, ◌≡◌, Bool, true, false, ◌&&◌, List, [], ◌∷◌, length, drop, get_or, eqb, leb, ltb}
+use Rattle.std.specs.Prelude.{ℕ, ◌+◌, ◌-◌, ◌≤◌, ◌≡◌, Bool, true, false, ◌&&◌, List, [], ◌∷◌, length, drop, get_or, eqb, leb, ltb, if◌then◌else◌}
 use Rattle.std.proofs.Math.Option.{Option, none, some}
 use Rattle.lent.specs.Bytes.{win}
-use Rattle.lent.specs.Tables.{if◌then◌else◌}
 use Rattle.lent.specs.Text.{space, onto}
 use Rattle.counts.specs.Count.{read_count}
 use Rattle.counts.specs.declared.Count.{Count}

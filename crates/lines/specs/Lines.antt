@@ -1,9 +1,8 @@
 -- What a line of the rehearsal says. 01, "The rehearsal": "Letters in the order above, without SHOW: B, G, F, Q, S, D, V, X (DONE), U, E, T; `C s k v` is a register write; `A r w` (no time) starts."
 -- Whether an A line comes first and once is not decided here.
-use Rattle.std.specs.Prelude.{ℕ, ◌-◌, true, false, ◌≡◌, List, [], length, eqb, ltb}
+use Rattle.std.specs.Prelude.{ℕ, ◌-◌, true, false, ◌≡◌, List, [], length, eqb, ltb, if◌then◌else◌}
 use Rattle.std.proofs.Math.Option.{Option, none, some}
 use Rattle.lent.specs.Bytes.{splice}
-use Rattle.lent.specs.Tables.{if◌then◌else◌}
 use Rattle.machine.specs.Sizes.{key_count}
 pub use Rattle.machine.specs.Sizes.{value_max}
 use Rattle.lines.specs.Fields.{line_max, Field, fields, ◌>>=◌, number, numbers, Lettered, letter, at_end, last_value, ending}

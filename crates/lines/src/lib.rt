@@ -12,7 +12,7 @@ use hex_text::Hex;
 
 // What a line says. The number of a command is its place in the document's list and a to d are its own numbers, 0 where it has fewer;
 // length is that of the value that stands at the front of the caller's buffer.
-#[derive(Drop)]
+#[derive(Clone, Copy)]
 pub enum Line {
     Unreadable,
     Start {
@@ -36,28 +36,28 @@ pub enum Line {
 }
 
 // A number, and the place of the next field.
-#[derive(Drop)]
+#[derive(Clone, Copy)]
 enum One {
     Is(u64, usize),
     Not,
 }
 
 // Four numbers, and the place of the next field.
-#[derive(Drop)]
+#[derive(Clone, Copy)]
 enum Four {
     Are(u64, u64, u64, u64, usize),
     Not,
 }
 
 // A letter, and the place of the next field.
-#[derive(Drop)]
+#[derive(Clone, Copy)]
 enum Letter {
     Is(u8, usize),
     Not,
 }
 
 // A letter's command, how many numbers follow it, and whether a value does.
-#[derive(Drop)]
+#[derive(Clone, Copy)]
 enum Shape {
     Is(u64, u64, bool),
     Unknown,

@@ -1,5 +1,6 @@
 -- A row in the bytes: no row has the session 0, which tells a free row, so a test of the bytes is a test of the row that they hold, and a
 -- search of the bytes is a search of the table.
+use Rattle.std.specs.Prelude.{if◌then◌else◌}
 use mathlib.Core.Path.{◌≡◌, refl}
 use mathlib.Core.Bool.{Bool, true, false, ◌&&◌}
 use mathlib.Core.List.{List}
@@ -7,7 +8,7 @@ use Prim.Native.Nat.{ℕ}
 use native.Mathlib.Omega.{arith}
 use lib.Dec.{eqb}
 use borrow.Author.Tests.{ne_eqb}
-use Rattle.lent.specs.Tables.{if◌then◌else◌, first}
+use Rattle.lent.specs.Tables.{first}
 use Rattle.machine.specs.Sizes.{row_count, rows_from, row_width}
 use Rattle.machine.specs.Tables.{place}
 use Rattle.machine.specs.State.{Row, no_row, row, State, free_row, on, of_on, row_at, row_place}

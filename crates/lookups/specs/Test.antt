@@ -1,7 +1,6 @@
 -- The test of a row in the bytes.
-use Rattle.std.specs.Prelude.{ℕ, ◌+◌, ◌*◌, Bool, false, List, eqb, get_or}
+use Rattle.std.specs.Prelude.{ℕ, ◌+◌, ◌*◌, Bool, false, List, eqb, get_or, if◌then◌else◌}
 use Rattle.lent.specs.Bytes.{le32}
-use Rattle.lent.specs.Tables.{if◌then◌else◌}
 use Rattle.machine.specs.Sizes.{rows_from, row_width}
 
 -- taken, of session n or of any where n is 0, and on key k

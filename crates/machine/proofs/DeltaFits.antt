@@ -1,5 +1,6 @@
 -- What DELTA stages fits an incremental row: an appended or prepended value was measured, a count has at most 20 digits, and where there is
 -- no result DROP is staged.
+use Rattle.std.specs.Prelude.{if◌then◌else◌}
 use mathlib.Core.Path.{refl, subst}
 use mathlib.Core.List.{[], ◌∷◌, ◌++◌}
 use mathlib.Core.Option.{Option, none, some}
@@ -8,7 +9,6 @@ use native.Mathlib.Omega.{arith}
 use lib.Dec.{eqb, leb}
 use lib.ListN.{length}
 use borrow.Author.Tests.{leb-true}
-use Rattle.lent.specs.Tables.{if◌then◌else◌}
 use Rattle.lent.specs.Bytes.{Bytes}
 use Rattle.lent.proofs.Choices.{if_ind}
 use Rattle.counts.specs.Count.{decimal, read_count, raised, lowered}

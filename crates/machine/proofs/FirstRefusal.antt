@@ -1,5 +1,6 @@
 -- The first refusal of each command, on any state: each test of the command's list is decided in the list's order, by what the code asks at that
 -- place. The functions of the commands ask it of the state as it is, and the search for a refusal of the state after expiry.
+use Rattle.std.specs.Prelude.{if◌then◌else◌}
 use mathlib.Core.Path.{◌≡◌}
 use mathlib.Core.Bool.{true, false, not, ◌&&◌, ◌||◌, and-false, and-true, or-true}
 use mathlib.Core.Option.{none, some}
@@ -7,7 +8,6 @@ use Prim.Native.Nat.{ℕ, ◌≤◌, ◌<◌}
 use lib.Dec.{eqb, ltb}
 use lib.ListN.{length}
 use borrow.Author.Tests.{le-leb, lt-leb, le-ltb, lt-ltb}
-use Rattle.lent.specs.Tables.{if◌then◌else◌}
 use Rattle.machine.specs.Sizes.{key_count, value_max, step_max, time_max, number_max}
 use Rattle.machine.specs.Tables.{first}
 use Rattle.machine.specs.Words.{CLOCK, ARG, LONG, NO-SESSION, SEALED, NOT-SEALED, FULL, ROOM, NUMBERS, REFRESH, INCREMENTAL, is_kind, is_operation}

@@ -2,6 +2,7 @@
 -- a quarantined key it is what the register held when the quarantine began; and what a token may fill is the register's
 -- value, since a leased key has no row and so is not written.
 -- Here: the invariant, the frame that a command's effect has to prove, that the frame gives the invariant, START, and a register write.
+use Rattle.std.specs.Prelude.{if◌then◌else◌}
 use mathlib.Core.Path.{◌≡◌, refl, ap, ◌∙◌}
 use mathlib.Core.Bool.{Bool, true, false, not, ◌&&◌, ◌||◌, or-true}
 use mathlib.Core.Logic.{◌⊎◌, inl, inr}
@@ -12,7 +13,6 @@ use native.Mathlib.Omega.{arith}
 use borrow.Author.Tests.{eqb-true, eq-eqb}
 use lib.Dec.{eqb}
 use lib.ListN.{get_or}
-use Rattle.lent.specs.Tables.{if◌then◌else◌}
 use Rattle.lent.proofs.Choices.{case_of, clash}
 use Rattle.machine.specs.Tables.{any}
 use Rattle.machine.specs.State.{Value, Lease, session, Row, no_row, State, fresh, on, cached, lease_on, session_at}

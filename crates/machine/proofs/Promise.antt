@@ -1,12 +1,12 @@
 -- Each event keeps the invariant, and so does a run. A command is expiry, an effect and the clock: the effect's frame is over the
 -- expired world, and a value on a newly quarantined key was the register's, since before it no writer had a row there.
+use Rattle.std.specs.Prelude.{if◌then◌else◌}
 use mathlib.Core.Path.{◌≡◌, refl}
 use mathlib.Core.Bool.{Bool, true, false, not, ◌&&◌}
 use mathlib.Core.Logic.{inl, inr}
 use mathlib.Core.List.{List}
 use mathlib.Core.Option.{Option, none, some}
 use Prim.Native.Nat.{ℕ}
-use Rattle.lent.specs.Tables.{if◌then◌else◌}
 use Rattle.lent.proofs.Choices.{clash}
 use Rattle.lent.proofs.Runs.{run_keeps}
 use Rattle.machine.specs.State.{Value, State, cached}

@@ -1,5 +1,6 @@
 -- The test of the rules is right: an event breaks no rule by the test exactly if it keeps the rules, in a world whose tables have
 -- their shape. Each direction reads one rule: equal values are `same`, what is found by number is there, a word belongs to one answer.
+use Rattle.std.specs.Prelude.{if◌then◌else◌}
 use mathlib.Core.Path.{◌≡◌, refl, ap}
 use mathlib.Core.Bool.{Bool, true, false, not, ◌&&◌, or-true}
 use mathlib.Core.Logic.{◌⊎◌, inl, inr}
@@ -10,7 +11,7 @@ use native.Mathlib.Omega.{arith}
 use borrow.Author.Tests.{eqb-true, eq-eqb, not-false, not-true}
 use lib.Dec.{eqb}
 use lib.ListN.{get_or}
-use Rattle.lent.specs.Tables.{if◌then◌else◌, same, all_zero}
+use Rattle.lent.specs.Tables.{same, all_zero}
 use Rattle.lent.proofs.Equal.{same_eq, eq_same, zero_and_rest}
 use Rattle.lent.proofs.Choices.{and_yes, case_of, clash, if_ind}
 use Rattle.machine.specs.Tables.{any}

@@ -1,5 +1,6 @@
 -- Views of the tables after a change: each law says what stands at a place of a table, in terms of what stood there before.
 -- A fact about a table is always an equation on the entry at a place, so that constructors tell entries apart by themselves.
+use Rattle.std.specs.Prelude.{if◌then◌else◌}
 use mathlib.Core.Path.{◌≡◌, refl, sym, ap, ap₂, ◌∙◌, subst}
 use mathlib.Core.Bool.{Bool, true, false, ◌||◌, or-true}
 use mathlib.Core.Logic.{◌⊎◌, inl, inr}
@@ -10,7 +11,6 @@ use native.Mathlib.Omega.{arith}
 use lib.Dec.{eqb, leb}
 use borrow.Author.Tests.{eqb-true, eqb-false, eq-eqb, leb-false}
 use lib.ListN.{length, get_or, set, replicate}
-use Rattle.lent.specs.Tables.{if◌then◌else◌}
 use Rattle.lent.proofs.Choices.{and_yes, case_of, clash, zero_one, if_ind, if_left}
 use Rattle.machine.specs.Sizes.{key_count, session_count, row_count}
 use Rattle.machine.specs.Words.{word_of}

@@ -1,5 +1,6 @@
 -- Each change of a state keeps it well formed: an entry of a changed table stood at its place before, or is the new one, which fits;
 -- and a row's session is still live, since a session ends only together with its rows.
+use Rattle.std.specs.Prelude.{if◌then◌else◌}
 use mathlib.Core.Path.{◌≡◌, refl, sym, ap, ◌∙◌, subst}
 use mathlib.Core.Bool.{Bool, true, false}
 use mathlib.Core.Logic.{◌⊎◌, inl, inr}
@@ -8,7 +9,6 @@ use mathlib.Core.Option.{Option, none, some}
 use Prim.Native.Nat.{ℕ, ◌+◌, ◌≤◌, ◌<◌}
 use native.Mathlib.Omega.{arith}
 use lib.ListN.{length, get_or, set, length-set, length-map, get_or-map}
-use Rattle.lent.specs.Tables.{if◌then◌else◌}
 use Rattle.lent.proofs.Choices.{zero_one}
 use Rattle.machine.specs.Sizes.{key_count, step_max, time_max, number_max}
 use Rattle.machine.specs.Tables.{place, mem, put_at}

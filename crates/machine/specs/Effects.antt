@@ -1,7 +1,6 @@
 -- 01, "The commands": what each accepted command answers and does, on the state after expiry.
-use Rattle.std.specs.Prelude.{Bool, false, List, [], ◌∷◌, ◌++◌, ℕ, suc, ◌+◌, ◌-◌, max, eqb, leb, ltb, length, set}
+use Rattle.std.specs.Prelude.{Bool, false, List, [], ◌∷◌, ◌++◌, ℕ, suc, ◌+◌, ◌-◌, max, eqb, leb, ltb, length, set, if◌then◌else◌}
 use Rattle.std.proofs.Math.Option.{Option, none, some}
-use Rattle.lent.specs.Tables.{if◌then◌else◌}
 use Rattle.counts.specs.Count.{read_count, decimal, raised, lowered}
 use Rattle.counts.specs.declared.Count.{Count}
 use Rattle.machine.specs.Sizes.{value_max}

@@ -1,7 +1,6 @@
 -- How a state changes: its parts replaced, sessions ended; and 01, "Expiry comes first".
-use Rattle.std.specs.Prelude.{Bool, List, [], ◌∷◌, map, ℕ, leb, get_or, set}
+use Rattle.std.specs.Prelude.{Bool, List, [], ◌∷◌, map, ℕ, leb, get_or, set, if◌then◌else◌}
 use Rattle.std.proofs.Math.Option.{Option, none, some}
-use Rattle.lent.specs.Tables.{if◌then◌else◌}
 use Rattle.machine.specs.Tables.{mem}
 use Rattle.machine.specs.Session.{is_due}
 use Rattle.machine.specs.State.{Value, Head, Lease, Key, blank, Slot, no_session, session, Staged, Row, no_row, row, State}

@@ -1,7 +1,6 @@
 -- 01, "Refusal numbers": the tests of each command, in the order of the table; the first that holds is given.
-use Rattle.std.specs.Prelude.{Bool, false, not, ◌&&◌, ◌||◌, List, [], ◌∷◌, ℕ, suc, eqb, leb, ltb, length}
+use Rattle.std.specs.Prelude.{Bool, false, not, ◌&&◌, ◌||◌, List, [], ◌∷◌, ℕ, suc, eqb, leb, ltb, length, if◌then◌else◌}
 use Rattle.std.proofs.Math.Option.{Option, none, some}
-use Rattle.lent.specs.Tables.{if◌then◌else◌}
 use Rattle.machine.specs.Sizes.{key_count, session_count, row_count, value_max, step_max, time_max, number_max, value_at, staged_at}
 use Rattle.machine.specs.Tables.{find, count, first, is_none}
 use Rattle.machine.specs.Words.{CLOCK, ARG, LONG, NO-SESSION, SEALED, NOT-SEALED, NO-LEASE, KIND, AHEAD, FULL, ROOM, NUMBERS, INVALIDATE, REFRESH, INCREMENTAL, is_kind, is_operation}

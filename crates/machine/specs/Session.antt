@@ -1,6 +1,5 @@
 -- A session's record: open until a deadline, or sealed with none, and its count of staging steps.
-use Rattle.std.specs.Prelude.{Bool, true, false, ℕ, ◌+◌, eqb, leb, ltb}
-use Rattle.lent.specs.Tables.{if◌then◌else◌}
+use Rattle.std.specs.Prelude.{Bool, true, false, ℕ, ◌+◌, eqb, leb, ltb, if◌then◌else◌}
 use Rattle.machine.specs.declared.Life.{Life}
 use Rattle.machine.specs.declared.Session.{Session}
 use Rattle.machine.specs.declared.Step.{Step}

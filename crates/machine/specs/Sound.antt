@@ -1,7 +1,7 @@
 -- 01, "A state is well formed if all this holds": each condition with its name.
-use Rattle.std.specs.Prelude.{ℕ, ◌+◌, Bool, true, not, ◌&&◌, length, get_or, eqb, leb, ltb}
+use Rattle.std.specs.Prelude.{ℕ, ◌+◌, Bool, true, not, ◌&&◌, length, get_or, eqb, leb, ltb, if◌then◌else◌}
 use Rattle.std.proofs.Math.Option.{Option, none, some}
-use Rattle.lent.specs.Tables.{if◌then◌else◌, every, some as at_some}
+use Rattle.lent.specs.Tables.{every, some as at_some}
 use Rattle.machine.specs.Sizes.{key_count, session_count, row_count, value_max, step_max, life_max, time_max, number_max}
 use Rattle.machine.specs.Words.{INVALIDATE, INCREMENTAL, within, is_kind, REFRESH}
 use Rattle.machine.specs.State.{Value, Head, Lease, Key, Slot, no_session, session, Staged, nothing, staged, DROP, Row, no_row, row, State, key_of, session_at, row_at}

@@ -1,7 +1,6 @@
 -- Words of the theorems' own: what a theorem of `proofs/` says beyond the definitions of the machine.
-use Rattle.std.specs.Prelude.{◌≡◌, Bool, true, false, ◌&&◌, List, [], ◌∷◌, ℕ, ◌+◌, ◌≤◌, ◌<◌, eqb, ltb, get_or}
+use Rattle.std.specs.Prelude.{◌≡◌, Bool, true, false, ◌&&◌, List, [], ◌∷◌, ℕ, ◌+◌, ◌≤◌, ◌<◌, eqb, ltb, get_or, if◌then◌else◌}
 use Rattle.std.proofs.Math.Option.{some}
-use Rattle.lent.specs.Tables.{if◌then◌else◌}
 use Rattle.machine.specs.State.{Value, Lease, session, State, session_at, lease_on}
 use Rattle.machine.specs.WellFormed.{Within}
 use Rattle.machine.specs.Expiry.{expire}

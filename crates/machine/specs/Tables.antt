@@ -1,7 +1,6 @@
 -- Tables as lists: the first entry that passes a test, how many pass, a member of a list of numbers, and "the first that applies".
-use Rattle.std.specs.Prelude.{Bool, true, false, ◌||◌, List, [], ◌∷◌, ℕ, suc, ◌+◌, eqb, get_or, set}
+use Rattle.std.specs.Prelude.{Bool, true, false, ◌||◌, List, [], ◌∷◌, ℕ, suc, ◌+◌, eqb, get_or, set, if◌then◌else◌}
 use Rattle.std.proofs.Math.Option.{Option, none, some}
-use Rattle.lent.specs.Tables.{if◌then◌else◌}
 
 module _ {A : Type 0} where
   -- the place of the first entry that passes the test; the table's length if none does

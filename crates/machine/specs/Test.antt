@@ -1,6 +1,6 @@
 -- The clients' four rules as a test that computes: the number of the rule that an event breaks, 0 for none.
-use Rattle.std.specs.Prelude.{Bool, false, not, ◌&&◌, List, [], ◌∷◌, ℕ, eqb}
-use Rattle.lent.specs.Tables.{if◌then◌else◌, same}
+use Rattle.std.specs.Prelude.{Bool, false, not, ◌&&◌, List, [], ◌∷◌, ℕ, eqb, if◌then◌else◌}
+use Rattle.lent.specs.Tables.{same}
 use Rattle.machine.specs.Tables.{any}
 use Rattle.machine.specs.Words.{word_of, STORED, DONE, UNDONE}
 use Rattle.machine.specs.State.{Value, nothing, staged, DROP, Row, no_row, row, free_row, row_of}

@@ -1,9 +1,8 @@
 -- Demand 3: a run beside a register, the four rules of the clients, and what they keep.
-use Rattle.std.specs.Prelude.{◌≡◌, Bool, true, false, not, ◌&&◌, ◌||◌, ◌⊎◌, ℕ, eqb, get_or}
+use Rattle.std.specs.Prelude.{◌≡◌, Bool, true, false, not, ◌&&◌, ◌||◌, ◌⊎◌, ℕ, eqb, get_or, if◌then◌else◌}
 use mathlib.Core.List.{List, [], ◌∷◌, Memᴰ}
 use Rattle.std.proofs.Math.Option.{none, some}
 use Rattle.lent.specs.Bytes.{Bytes}
-use Rattle.lent.specs.Tables.{if◌then◌else◌}
 use Rattle.machine.specs.Tables.{any}
 use Rattle.machine.specs.Words.{word_of, detail_of, LEASE}
 use Rattle.machine.specs.State.{Value, session, Staged, staged, Row, no_row, row, State, fresh, on, row_of, cached, session_at, row_at}

@@ -51,7 +51,7 @@ pub const REFRESH: u8 = 2;
 pub const INCREMENTAL: u8 = 3;
 
 // A command with its numbers, each of 64 bits; the value of FILL, STAGE and DELTA stands beside it.
-#[derive(Drop)]
+#[derive(Clone, Copy)]
 pub enum Command {
     Begin,
     Get {
@@ -95,7 +95,7 @@ pub enum Command {
 }
 
 // An answer with its numbers. HIT says where the value stands in the lent state and its length; VALUE and NONE are SHOW's.
-#[derive(Drop)]
+#[derive(Clone, Copy)]
 pub enum Answer {
     Ready,
     Session(u32),
@@ -124,13 +124,13 @@ pub enum Answer {
 }
 
 // Open until a deadline, or sealed with none.
-#[derive(Drop)]
+#[derive(Clone, Copy)]
 pub enum Life {
     Open(u64),
     Sealed,
 }
 
-#[derive(Drop)]
+#[derive(Clone, Copy)]
 pub struct Session {
     pub number: u32,
     pub life: Life,
@@ -138,7 +138,7 @@ pub struct Session {
 }
 
 // What a step number asks of a session.
-#[derive(Drop)]
+#[derive(Clone, Copy)]
 pub enum Step {
     Repeats,
     Acts(Session),
@@ -146,7 +146,7 @@ pub enum Step {
 }
 
 // What VALIDATE finds: the sealed record, a count that differs, or a sealed session with another count.
-#[derive(Drop)]
+#[derive(Clone, Copy)]
 pub enum Validation {
     Seals(Session),
     Loses,
@@ -230,7 +230,7 @@ impl Session {
 }
 
 // What the decision table says.
-#[derive(Drop)]
+#[derive(Clone, Copy)]
 pub enum Verdict {
     Grant,
     Void,

@@ -1,7 +1,6 @@
 -- Commands by number, for callers that have no enum: a command's number is its place in the document's list, and its own numbers stand in their
 -- order.
-use Rattle.std.specs.Prelude.{ℕ, List, eqb, ltb}
-use Rattle.lent.specs.Tables.{if◌then◌else◌}
+use Rattle.std.specs.Prelude.{ℕ, List, eqb, ltb, if◌then◌else◌}
 use Rattle.machine.specs.Sizes.{time_max}
 use Rattle.machine.specs.Words.{STATE, CLOCK, ARG}
 use Rattle.machine.specs.State.{Value}

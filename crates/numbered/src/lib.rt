@@ -7,7 +7,7 @@ ghost use Rattle.numbered.specs.Commands.{command_of, unknown, ran_by};
 use machine::{Answer, Command};
 
 // A command by its number, or none.
-#[derive(Drop)]
+#[derive(Clone, Copy)]
 pub enum Numbered {
     Is(Command),
     Unknown,

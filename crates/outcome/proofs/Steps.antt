@@ -1,10 +1,10 @@
 -- A step in the parts in which the code takes it: the clock's test, the command on a state on which nothing lapses, the clock.
 -- Where nothing lapses that is the whole step.
+use Rattle.std.specs.Prelude.{if◌then◌else◌}
 use Prim.Native.Nat.{ℕ}
 use mathlib.Core.Path.{◌≡◌, refl}
 use mathlib.Core.Bool.{Bool, true, false}
 use mathlib.Core.Option.{Option, none, some}
-use Rattle.lent.specs.Tables.{if◌then◌else◌}
 use Rattle.machine.specs.Tables.{first}
 use Rattle.machine.specs.Words.{CLOCK}
 use Rattle.machine.specs.State.{Value, State}

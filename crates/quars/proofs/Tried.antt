@@ -1,5 +1,6 @@
 -- What QUAR answers and leaves, case by case in the code's order: its arguments, its session, a row that it has, the decision table, a free row.
 -- Each test of the definition's list is decided where the code decides it; ROOM, the last, only where a row would be taken.
+use Rattle.std.specs.Prelude.{if◌then◌else◌}
 use mathlib.Core.Path.{◌≡◌, refl}
 use mathlib.Core.Bool.{Bool, true, false, not, ◌&&◌}
 use mathlib.Core.List.{[], ◌∷◌}
@@ -8,7 +9,6 @@ use Prim.Native.Nat.{ℕ, ◌≤◌, ◌<◌}
 use lib.Dec.{eqb}
 use lib.ListN.{length, set}
 use borrow.Author.Tests.{lt-leb}
-use Rattle.lent.specs.Tables.{if◌then◌else◌}
 use Rattle.machine.specs.Sizes.{key_count, row_count}
 use Rattle.machine.specs.Tables.{place, first}
 use Rattle.machine.specs.Words.{is_kind, ARG, ROOM}

@@ -1,8 +1,7 @@
 -- QUAR in the parts in which the code takes it, once its arguments are right and its session is open: a row that it has, the decision table,
 -- and the two outcomes of that, with ROOM where a row would be taken and none is free.
-use Rattle.std.specs.Prelude.{ℕ, [], ◌∷◌, eqb}
+use Rattle.std.specs.Prelude.{ℕ, [], ◌∷◌, eqb, if◌then◌else◌}
 use Rattle.std.proofs.Math.Option.{none}
-use Rattle.lent.specs.Tables.{if◌then◌else◌}
 use Rattle.machine.specs.Words.{ROOM}
 use Rattle.machine.specs.Tables.{put_at}
 use Rattle.machine.specs.Decision.{grants}

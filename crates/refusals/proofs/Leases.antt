@@ -1,6 +1,7 @@
 -- LEASE is answered, whoever asks, where no row and no I lease is on the key and it has no value. After expiry that is: no row on the key
 -- stays, its I lease has lapsed or it has none, and it has no value or a row on it goes, since with the row the value is dropped.
 -- At the end, what the code reads of a lease and of a row.
+use Rattle.std.specs.Prelude.{if◌then◌else◌}
 use mathlib.Core.Path.{◌≡◌, refl, sym, ap, ap₂, ◌∙◌}
 use mathlib.Core.Bool.{Bool, true, false, not, ◌&&◌, ◌||◌, and-false, and-true}
 use mathlib.Core.List.{List, [], ◌∷◌, map}
@@ -10,7 +11,6 @@ use native.Mathlib.Omega.{arith}
 use lib.Dec.{eqb, leb}
 use lib.ListN.{get_or, get_or-map}
 use borrow.Author.Tests.{eq-eqb, ne_eqb}
-use Rattle.lent.specs.Tables.{if◌then◌else◌}
 use Rattle.lent.proofs.Choices.{and_yes}
 use Rattle.machine.specs.Tables.{find, any, mem, is_none}
 use Rattle.machine.specs.Decision.{decision, grants}

@@ -1,13 +1,13 @@
 -- Who is left of a number after expiry, told by what the search for the number finds before it; and what that one finds who stages:
 -- whoever is left has the record and the rows that he had, so his refusals are those on the state as it is,
 -- those of VALIDATE too.
+use Rattle.std.specs.Prelude.{if◌then◌else◌}
 use mathlib.Core.Path.{◌≡◌, refl, sym, ap, ◌∙◌}
 use mathlib.Core.Bool.{Bool, true, false, not, ◌&&◌}
 use mathlib.Core.List.{[]}
 use mathlib.Core.Option.{Option, none, some}
 use Prim.Native.Nat.{ℕ, ◌≤◌}
 use lib.Dec.{eqb, ltb}
-use Rattle.lent.specs.Tables.{if◌then◌else◌}
 use Rattle.lent.proofs.Choices.{zero_one}
 use Rattle.machine.specs.Sizes.{session_count, step_max}
 use Rattle.machine.specs.Tables.{first}

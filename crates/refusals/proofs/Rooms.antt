@@ -1,5 +1,6 @@
 -- A table is full after expiry exactly if it is full and nothing of it goes. Where the rows are, they are as they were, and what QUAR would be
 -- granted is as it was: of the rest only an I lease may have lapsed, and a quarantine is granted over one as over nothing.
+use Rattle.std.specs.Prelude.{if◌then◌else◌}
 use mathlib.Core.Path.{◌≡◌, refl, sym, ap, ◌∙◌}
 use mathlib.Core.Bool.{Bool, true, false, not, ◌&&◌, ◌||◌}
 use mathlib.Core.List.{[]}
@@ -8,7 +9,6 @@ use Prim.Native.Nat.{ℕ, ◌<◌}
 use native.Mathlib.Omega.{arith}
 use lib.Dec.{eqb}
 use borrow.Author.Tests.{not-true}
-use Rattle.lent.specs.Tables.{if◌then◌else◌}
 use Rattle.lent.proofs.Choices.{or_no}
 use Rattle.machine.specs.Sizes.{key_count, session_count, row_count}
 use Rattle.machine.specs.Tables.{place, find, any, first}

@@ -1,5 +1,6 @@
 -- Whether a table has an entry that passes a test: told by the search for its place and by the count of the others, and of two tests. By
 -- induction on the table.
+use Rattle.std.specs.Prelude.{if◌then◌else◌}
 use mathlib.Core.Path.{◌≡◌, refl, sym, ap, ap₂, ◌∙◌}
 use mathlib.Core.Bool.{Bool, true, false, not, ◌&&◌, ◌||◌}
 use mathlib.Core.List.{List, [], ◌∷◌, map}
@@ -9,7 +10,6 @@ use lib.Dec.{leb, leb-suc-suc}
 use lib.ListN.{length, length-map}
 use borrow.Author.Tests.{lt-leb, not-true}
 use mathlib.Core.Logic.{inl, inr}
-use Rattle.lent.specs.Tables.{if◌then◌else◌}
 use Rattle.lent.proofs.Choices.{clash, or_no, or_swap}
 use Rattle.machine.specs.Tables.{place, any, count, find}
 use Rattle.machine.proofs.Views.{find_test, any_at, any_mapped}

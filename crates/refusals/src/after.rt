@@ -13,7 +13,7 @@ use layout::Found;
 use machine::Session;
 
 // The session of a number, or that there is none.
-#[derive(Drop)]
+#[derive(Clone, Copy)]
 pub enum Left {
     Is(Session),
     Nobody,

@@ -19,7 +19,7 @@ use stages::Staging;
 mod after;
 
 // The number of a refusal, or none.
-#[derive(Drop)]
+#[derive(Clone, Copy)]
 pub enum Refusal {
     Is(u8),
     Nothing,

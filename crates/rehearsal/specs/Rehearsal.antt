@@ -1,7 +1,6 @@
 -- The rehearsal: the cache beside a model of the register, one line at a time. What is printed of a line, and the cache's bytes and the book after it.
-use Rattle.std.specs.Prelude.{ℕ, Bool, ◌&&◌, List, [], ◌≡◌, eqb, leb, length}
+use Rattle.std.specs.Prelude.{ℕ, Bool, ◌&&◌, List, [], ◌≡◌, eqb, leb, length, if◌then◌else◌}
 use Rattle.lent.specs.Bytes.{splice}
-use Rattle.lent.specs.Tables.{if◌then◌else◌}
 use Rattle.machine.specs.State.{Value}
 use Rattle.numbered.specs.Commands.{command_of}
 use Rattle.numbered.specs.declared.Numbered.{Numbered}

@@ -1,7 +1,6 @@
 -- What is said of a line as its numbers, and its printing.
-use Rattle.std.specs.Prelude.{ℕ, ◌+◌, ◌≤◌, List, [], ◌≡◌, eqb, length}
+use Rattle.std.specs.Prelude.{ℕ, ◌+◌, ◌≤◌, List, [], ◌≡◌, eqb, length, if◌then◌else◌}
 use Rattle.lent.specs.Bytes.{win, splice}
-use Rattle.lent.specs.Tables.{if◌then◌else◌}
 use Rattle.machine.specs.Sizes.{value_max}
 use Rattle.machine.specs.Words.{HIT}
 use Rattle.machine.specs.State.{Value}

@@ -22,7 +22,7 @@ const CHUNK: usize = 32768;
 const OUT: usize = 32768;
 
 // After a read: so many bytes of a line are held, the input has ended, or a read or a write has failed.
-#[derive(Drop)]
+#[derive(Clone, Copy)]
 enum Went {
     On(usize),
     Ended,

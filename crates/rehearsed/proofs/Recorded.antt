@@ -1,6 +1,7 @@
 -- What the book records of a world: each key's registered value is the register's; a leased key's noted value is what the register held at the grant;
 -- and a live session is marked exactly if the register has written for it. A mark is of a number that was given, so a session that begins at a marked
 -- place is unmarked. Each line keeps this: a command notes at most the grant that it is answered with, a write marks the session where it is live.
+use Rattle.std.specs.Prelude.{if◌then◌else◌}
 use mathlib.Core.Path.{◌≡◌, refl, sym, ap, ◌∙◌}
 use mathlib.Core.Bool.{Bool, true, false, not, ◌&&◌, ◌||◌, and-false}
 use mathlib.Core.Logic.{◌⊎◌, inl, inr}
@@ -11,7 +12,6 @@ use native.Mathlib.Omega.{arith}
 use borrow.Author.Tests.{eqb-true, eqb-false, eq-eqb, ne_eqb, lt-ltb, ltb-true}
 use lib.Dec.{eqb, ltb}
 use lib.ListN.{length}
-use Rattle.lent.specs.Tables.{if◌then◌else◌}
 use Rattle.lent.proofs.Choices.{case_of, clash, if_ind}
 use Rattle.machine.specs.Sizes.{key_count, session_count, value_max}
 use Rattle.machine.specs.Words.{word_of, LEASE}

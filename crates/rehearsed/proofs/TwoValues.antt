@@ -1,6 +1,7 @@
 -- Rule 1 in its two-value form. Its test is right, since it is the test of the rules in a world that remembers only two values. Where rule 2 was kept
 -- by every write so far, all that the register has held since a live lease's grant is what it holds now: a leased key has no row, and rule 2 writes
 -- only a key with one. So both forms then say the same of every event.
+use Rattle.std.specs.Prelude.{if◌then◌else◌}
 use mathlib.Core.Path.{◌≡◌, refl, sym, ap, ◌∙◌}
 use mathlib.Core.Bool.{Bool, true, false, not, ◌&&◌, or-false, or_self}
 use mathlib.Core.Logic.{inl, inr}
@@ -12,7 +13,7 @@ use native.Mathlib.Omega.{arith}
 use borrow.Author.Tests.{eq-eqb, ne_eqb}
 use lib.Dec.{eqb}
 use lib.ListN.{length}
-use Rattle.lent.specs.Tables.{if◌then◌else◌, same, all_zero}
+use Rattle.lent.specs.Tables.{same, all_zero}
 use Rattle.lent.proofs.Choices.{clash, if_ind}
 use Rattle.lent.proofs.Runs.{run_gives, run_keeps}
 use Rattle.machine.specs.Tables.{any}

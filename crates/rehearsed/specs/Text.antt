@@ -1,7 +1,6 @@
 -- The rehearsal's run over lines of text: both buffers and the column of the rules through them, and the run of the machine beside the register that the lines tell.
-use Rattle.std.specs.Prelude.{◌≡◌, Bool, false, List, [], ◌∷◌, ◌++◌, ℕ, eqb}
+use Rattle.std.specs.Prelude.{◌≡◌, Bool, false, List, [], ◌∷◌, ◌++◌, ℕ, eqb, if◌then◌else◌}
 use Rattle.std.proofs.Math.Option.{Option, none, some}
-use Rattle.lent.specs.Tables.{if◌then◌else◌}
 use Rattle.machine.specs.Words.{word_of, READY}
 use Rattle.machine.specs.State.{Value}
 use Rattle.machine.specs.World.{Event, command, write, World, fresh_world, run, AllKept}

@@ -1,8 +1,7 @@
 -- The lines that the rehearsal prints. 01, "The rehearsal": "Each output line is line number, word, detail (`-` if none), number of the rule
 -- broken or 0. A refusal prints REFUSED and its number .. The end line has lines read, and lines with a rule broken."
-use Rattle.std.specs.Prelude.{ℕ, ◌+◌, ◌≡◌, Bool, ◌||◌, List, [], ◌∷◌, ◌++◌, eqb, length, get_or}
+use Rattle.std.specs.Prelude.{ℕ, ◌+◌, ◌≡◌, Bool, ◌||◌, List, [], ◌∷◌, ◌++◌, eqb, length, get_or, if◌then◌else◌}
 use Rattle.lent.specs.Bytes.{splice}
-use Rattle.lent.specs.Tables.{if◌then◌else◌}
 use Rattle.lent.specs.Text.{space, newline}
 use Rattle.counts.specs.Count.{decimal}
 use Rattle.hex_text.specs.Hex.{hex_of}

@@ -1,6 +1,6 @@
 -- What a command would break if it were answered with the word at which its rule counts, as the code takes it.
-use Rattle.std.specs.Prelude.{ℕ, ◌||◌, List}
-use Rattle.lent.specs.Tables.{if◌then◌else◌, same}
+use Rattle.std.specs.Prelude.{ℕ, ◌||◌, List, if◌then◌else◌}
+use Rattle.lent.specs.Tables.{same}
 use Rattle.machine.specs.State.{Value}
 use Rattle.machine.specs.declared.Command.{Command}
 use Rattle.machine.specs.declared.Command.TheVariants.{Begin, Get, Fill, Quar, Stage, Delta, Validate, Done, Undo, Evict, Tick}

@@ -1,8 +1,7 @@
 // Rules 1, 3 and 4, tested on a command before it runs: the rule that it would break if it were answered with its word.
 #![tactic(auto)]
 
-ghost use Rattle.std.specs.Prelude.{◌≡◌, true, ◌<◌, length};
-ghost use Rattle.lent.specs.Tables.{if◌then◌else◌};
+ghost use Rattle.std.specs.Prelude.{◌≡◌, true, ◌<◌, length, if◌then◌else◌};
 ghost use Rattle.machine.specs.Sizes.{state_size, row_count};
 ghost use Rattle.machine.specs.State.{State, row_at};
 ghost use Rattle.machine.specs.Test.{differs};

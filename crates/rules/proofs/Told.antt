@@ -1,11 +1,12 @@
 -- What the acts hand back is what is said of the line: a rule by the word at which it counts, a grant by its key, and an answer by its numbers.
+use Rattle.std.specs.Prelude.{if◌then◌else◌}
 use Prim.Native.Nat.{ℕ}
 use mathlib.Core.Path.{◌≡◌, refl, sym, ◌∙◌}
 use mathlib.Core.Bool.{Bool, true, false, ◌||◌}
 use mathlib.Core.List.{List}
 use lib.Dec.{eqb}
 use borrow.Author.Tests.{eq-eqb, ne_eqb}
-use Rattle.lent.specs.Tables.{if◌then◌else◌, same}
+use Rattle.lent.specs.Tables.{same}
 use Rattle.lent.proofs.Choices.{if_same, if_and, if_and_not}
 use Rattle.machine.specs.Sizes.{key_count}
 use Rattle.machine.specs.State.{Value}

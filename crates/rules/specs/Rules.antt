@@ -1,8 +1,8 @@
 -- A line of the rehearsal on the cache's bytes and the book: what is said of it, the number of the rule that it breaks, and both buffers after it.
 -- 01: "Rule 1 is tested here against the register's value at the grant and at the FILL".
-use Rattle.std.specs.Prelude.{ℕ, not, ◌&&◌, ◌||◌, List, [], eqb}
+use Rattle.std.specs.Prelude.{ℕ, not, ◌&&◌, ◌||◌, List, [], eqb, if◌then◌else◌}
 use Rattle.lent.specs.Bytes.{win}
-use Rattle.lent.specs.Tables.{if◌then◌else◌, same}
+use Rattle.lent.specs.Tables.{same}
 use Rattle.machine.specs.Words.{word_of, detail_of, READY, HIT, LEASE, STORED, DONE, UNDONE}
 use Rattle.machine.specs.State.{Value}
 use Rattle.machine.specs.declared.Command.{Command}

@@ -1,8 +1,7 @@
 // What is said of a line: START, and an answer with the rule that it breaks.
 #![tactic(auto)]
 
-ghost use Rattle.std.specs.Prelude.{◌≡◌, eqb, length};
-ghost use Rattle.lent.specs.Tables.{if◌then◌else◌};
+ghost use Rattle.std.specs.Prelude.{◌≡◌, eqb, length, if◌then◌else◌};
 ghost use Rattle.machine.specs.Words.{word_of};
 ghost use Rattle.startup.specs.Start.{start_of};
 ghost use Rattle.words.specs.Numbers.{place_of};
@@ -20,7 +19,7 @@ const NO_KEY: u64 = layout::KEY_COUNT as u64;
 const NO_WORD: u64 = replies::UNREADABLE;
 
 // What is said of a line: its word, what goes with it, where a HIT's value stands in the cache, and the rule broken or 0.
-#[derive(Drop)]
+#[derive(Clone, Copy)]
 pub struct Said {
     pub word: u64,
     pub detail: u64,

@@ -1,4 +1,5 @@
 -- What the library leaves in the part of the output buffer that is lent for a text. The part keeps its length, so the text fits it.
+use Rattle.std.specs.Prelude.{if◌then◌else◌}
 use mathlib.Core.Path.{◌≡◌, sym, ap, ◌∙◌}
 use mathlib.Core.Bool.{Bool, true, false, ◌&&◌}
 use mathlib.Core.List.{List, [], ◌++◌}
@@ -8,7 +9,6 @@ use lib.ListN.{length, take, drop, length-append}
 use lib.Dec.{eqb, leb}
 use borrow.Author.Tests.{le-leb}
 use Rattle.lent.specs.Bytes.{splice}
-use Rattle.lent.specs.Tables.{if◌then◌else◌}
 use Rattle.lent.proofs.Splice.{splice-none}
 use Rattle.book.specs.Book.{book_size, lines_in, broken_in}
 use Rattle.replies.specs.Replies.{line_room, ended}

@@ -1,6 +1,5 @@
 -- A rehearsal of an input, by the library's definitions of a line and of the end.
-use Rattle.std.specs.Prelude.{ℕ, List, [], ◌∷◌, ◌++◌, eqb, length}
-use Rattle.lent.specs.Tables.{if◌then◌else◌}
+use Rattle.std.specs.Prelude.{ℕ, List, [], ◌∷◌, ◌++◌, eqb, length, if◌then◌else◌}
 use Rattle.feed.specs.Lines.{cut_lines}
 use Rattle.feed.specs.Answers.{Answered, Open, behind, answers, last, fed}
 use Rattle.book.specs.Memory.{Memory, memory_of}

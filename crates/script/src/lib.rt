@@ -13,14 +13,14 @@ ghost use Rattle.script.specs.Buffers.{opened, HeldFits, Printed, Delivered, Str
 use feed::Taken;
 
 // How many bytes of a line are held, and how many of the output are put.
-#[derive(Drop)]
+#[derive(Clone, Copy)]
 struct Place {
     held: usize,
     put: usize,
 }
 
 // The same, with the place of the chunk's next byte.
-#[derive(Drop)]
+#[derive(Clone, Copy)]
 pub struct Reached {
     pub from: usize,
     pub held: usize,

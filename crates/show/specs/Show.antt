@@ -1,6 +1,5 @@
 -- SHOW on any lent bytes: STATE unless they are well formed, with nothing handed back.
-use Rattle.std.specs.Prelude.{ℕ, List, []}
-use Rattle.lent.specs.Tables.{if◌then◌else◌}
+use Rattle.std.specs.Prelude.{ℕ, List, [], if◌then◌else◌}
 use Rattle.machine.specs.Words.{STATE}
 use Rattle.machine.specs.Step.{Shown, show}
 use Rattle.machine.specs.declared.Answer.{Answer}

@@ -11,7 +11,7 @@ ghost use Rattle.sights.specs.Sights.{placed, Inside};
 use layout::Found;
 
 // Where the value stands with which a GET would be answered HIT, and its length.
-#[derive(Drop)]
+#[derive(Clone, Copy)]
 pub enum Sight {
     At { at: usize, length: usize },
     Nothing,

@@ -1,5 +1,6 @@
 -- What a session finds that stages, case by case in the order of the refusals: the asker, its row on the key, the row's kind, the step.
 -- Each test of the definition's list is decided by what the searches found.
+use Rattle.std.specs.Prelude.{if◌then◌else◌}
 use mathlib.Core.Path.{◌≡◌, refl}
 use mathlib.Core.Bool.{Bool, true, false, not}
 use mathlib.Core.List.{List, [], ◌∷◌}
@@ -9,7 +10,6 @@ use native.Mathlib.Omega.{arith}
 use lib.Dec.{eqb, ltb}
 use lib.ListN.{length}
 use borrow.Author.Tests.{eq-eqb, ne_eqb, ltb-true}
-use Rattle.lent.specs.Tables.{if◌then◌else◌}
 use Rattle.machine.specs.Sizes.{row_count}
 use Rattle.machine.specs.Session.{advanced, step_of}
 use Rattle.machine.specs.State.{no_row, State, free_row, of_on, kind_of, row_place, row_of, row_at}

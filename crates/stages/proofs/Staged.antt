@@ -1,5 +1,6 @@
 -- What a command that stages answers and leaves, told by what its session found: a refusal and REPEATED keep the state; otherwise the
 -- session's next record and what is staged are set at the places that were found. And what is known there of the session and its row.
+use Rattle.std.specs.Prelude.{if◌then◌else◌}
 use mathlib.Core.Path.{◌≡◌, refl, ap}
 use mathlib.Core.Bool.{Bool, true, false}
 use mathlib.Core.List.{List}
@@ -8,7 +9,6 @@ use Prim.Native.Nat.{ℕ, ◌≤◌, ◌<◌, ◌^◌}
 use native.Mathlib.Omega.{arith}
 use lib.Dec.{ltb}
 use lib.ListN.{set}
-use Rattle.lent.specs.Tables.{if◌then◌else◌}
 use Rattle.lent.proofs.Choices.{zero_one}
 use Rattle.machine.specs.Sizes.{step_max}
 use Rattle.machine.specs.Tables.{first}

@@ -1,8 +1,7 @@
 -- What STAGE and DELTA find before they stage anything: the refusals NO SESSION to AHEAD, REPEATED, or the places at which the session and its
 -- row stand and the session's next record.
-use Rattle.std.specs.Prelude.{ℕ, ◌<◌, ltb}
+use Rattle.std.specs.Prelude.{ℕ, ◌<◌, ltb, if◌then◌else◌}
 use Rattle.std.proofs.Math.Option.{Option, none, some}
-use Rattle.lent.specs.Tables.{if◌then◌else◌}
 use Rattle.machine.specs.Sizes.{session_count, row_count}
 use Rattle.machine.specs.Tables.{first}
 use Rattle.machine.specs.Session.{advanced}

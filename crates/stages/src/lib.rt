@@ -16,7 +16,7 @@ use layout::Found;
 use machine::{Answer, Session, Step};
 
 // A refusal, a step that was taken before, or where the session and its row stand and the session's next record.
-#[derive(Drop)]
+#[derive(Clone, Copy)]
 pub enum Staging {
     Refused(u8),
     Repeated,

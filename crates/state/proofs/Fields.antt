@@ -1,5 +1,6 @@
 -- The records of the state that bytes decode to, by place, and those of their fields that the conditions across records read: they are what
 -- stands in the bytes, whatever the bytes are, since a number that is read as 0 is 0.
+use Rattle.std.specs.Prelude.{if◌then◌else◌}
 use Prim.Native.Nat.{ℕ, ◌+◌, ◌*◌, ◌<◌}
 use mathlib.Core.Path.{◌≡◌, refl, sym, ap, ◌∙◌}
 use mathlib.Core.Bool.{Bool}
@@ -8,7 +9,6 @@ use native.Mathlib.Omega.{arith}
 use lib.Dec.{eqb}
 use borrow.Author.Tests.{eqb-true}
 use Rattle.lent.specs.Bytes.{le32, win}
-use Rattle.lent.specs.Tables.{if◌then◌else◌}
 use Rattle.lent.proofs.Choices.{if_ind}
 use Rattle.lent.proofs.Numbers.{width32, le_front, le-win}
 use Rattle.lent.proofs.Splice.{get_or-win}

@@ -1,5 +1,6 @@
 -- What joins records, on the bytes: the numbers and tokens that the conditions compare are those of the bytes, and the four conditions on rows
 -- are one test of each row beside the sessions, its key and the rows before it.
+use Rattle.std.specs.Prelude.{if◌then◌else◌}
 use Prim.Native.Nat.{ℕ, ◌+◌, ◌*◌, ◌<◌}
 use mathlib.Core.Path.{◌≡◌, refl, sym, ap, ◌∙◌}
 use mathlib.Core.Bool.{Bool, true, false, not, ◌&&◌, and-true, and-false}
@@ -7,7 +8,7 @@ use mathlib.Core.List.{List}
 use native.Mathlib.Omega.{arith}
 use lib.Dec.{eqb}
 use Rattle.lent.specs.Bytes.{Bytes, le32}
-use Rattle.lent.specs.Tables.{if◌then◌else◌, every, some}
+use Rattle.lent.specs.Tables.{every, some}
 use Rattle.lent.proofs.Walks.{all-every, every_both, every_cong, some_cong}
 use Rattle.machine.specs.Sizes.{key_count, keys_from, key_width, row_count, rows_from, row_width, session_count}
 use Rattle.machine.specs.Words.{INVALIDATE}

@@ -1,5 +1,6 @@
 -- A record is formed exactly where its bytes are the encoding of what they decode to and that is sound. Each law goes field by field: the bytes
 -- of a number are those of the number that they say, so that only marks, lengths and zeros are left to be the same.
+use Rattle.std.specs.Prelude.{if◌then◌else◌}
 use Prim.Native.Nat.{ℕ, ◌+◌, ◌-◌, ◌≤◌, ◌<◌}
 use mathlib.Core.Path.{◌≡◌, refl, sym, ap, ◌∙◌}
 use mathlib.Core.Bool.{Bool, true, false, ◌&&◌, and-true, and-false, and_assoc, and_comm}
@@ -10,7 +11,7 @@ use lib.ListN.{length, get_or, length-take, length-drop}
 use lib.Dec.{eqb, leb, ltb}
 use borrow.Author.Tests.{eq-eqb, ne_eqb, eqb-true, eqb-false, lt-ltb, le-leb, leb-true, leb-false}
 use Rattle.lent.specs.Bytes.{Bytes, le16, bytes16, le32, bytes32, le64, bytes64, win, zeros}
-use Rattle.lent.specs.Tables.{if◌then◌else◌, every, all_zero, same}
+use Rattle.lent.specs.Tables.{every, all_zero, same}
 use Rattle.lent.proofs.Choices.{and_yes, and_ahead}
 use Rattle.lent.proofs.Equal.{same_refl, same-zeros, same-win, same-one, same-padded}
 use Rattle.lent.proofs.Numbers.{width16, width32, width64, bytes_le, zero-le}

@@ -1,4 +1,5 @@
 -- A record that is read from w bytes is written in w bytes: a value that is read has no more bytes than are left of the record behind its place.
+use Rattle.std.specs.Prelude.{if◌then◌else◌}
 use Prim.Native.Nat.{ℕ, ◌-◌, ◌≤◌}
 use mathlib.Core.Path.{◌≡◌, refl}
 use mathlib.Core.Bool.{Bool, true, false}
@@ -8,7 +9,6 @@ use native.Mathlib.Omega.{arith}
 use lib.ListN.{length, get_or, length-append, length-take, length-drop, length-replicate}
 use lib.Dec.{eqb}
 use Rattle.lent.specs.Bytes.{le32, le64, win}
-use Rattle.lent.specs.Tables.{if◌then◌else◌}
 use Rattle.machine.specs.Sizes.{key_width, row_width, session_width}
 use Rattle.machine.specs.State.{no_session, session, nothing, staged, DROP, no_row, row}
 use Rattle.layout.specs.Layout.{value_mark, value_bytes, lease_bytes, enc_key, dec_key, enc_row, dec_row, session_from, enc_session, dec_session}

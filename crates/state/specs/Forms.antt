@@ -1,9 +1,9 @@
 -- What the check tests of the bytes, part by part in its order. A part is formed if it is the encoding of what it decodes to and that is sound;
 -- a table fits if its records are formed and agree with those before them and with the tables before.
 -- x is a record's bytes, s the whole state's; `limit` is the clock plus a lifetime, and `next` the next number to give.
-use Rattle.std.specs.Prelude.{ℕ, ◌+◌, ◌-◌, ◌*◌, ◌≤◌, ◌<◌, ◌≡◌, Bool, ◌&&◌, List, get_or, eqb, leb, ltb}
+use Rattle.std.specs.Prelude.{ℕ, ◌+◌, ◌-◌, ◌*◌, ◌≤◌, ◌<◌, ◌≡◌, Bool, ◌&&◌, List, get_or, eqb, leb, ltb, if◌then◌else◌}
 use Rattle.lent.specs.Bytes.{le16, le32, le64, win}
-use Rattle.lent.specs.Tables.{if◌then◌else◌, every, all_zero}
+use Rattle.lent.specs.Tables.{every, all_zero}
 use Rattle.machine.specs.Sizes.{key_count, session_count, row_count, value_max, step_max, keys_from, key_width, rows_from, row_width, sessions_from, session_width, rest_from, rest_size}
 use Rattle.machine.specs.State.{Head}
 use Rattle.machine.specs.Words.{REFRESH, INCREMENTAL, is_kind}

@@ -1,9 +1,9 @@
 // Whether a lent buffer holds a well-formed state: the header, each record by itself, then what joins records.
 #![tactic(auto)]
 
-ghost use Rattle.std.specs.Prelude.{◌≡◌, true, ◌+◌, ◌-◌, ◌≤◌, length, replicate, eqb};
+ghost use Rattle.std.specs.Prelude.{◌≡◌, true, ◌+◌, ◌-◌, ◌≤◌, length, replicate, eqb, if◌then◌else◌};
 ghost use Rattle.lent.specs.Bytes.{le64, le32, win};
-ghost use Rattle.lent.specs.Tables.{if◌then◌else◌, all_zero};
+ghost use Rattle.lent.specs.Tables.{all_zero};
 ghost use Rattle.machine.specs.Sizes.{state_size, key_width, row_width, session_count, session_width, value_max, time_max};
 ghost use Rattle.machine.specs.Words.{INCREMENTAL};
 ghost use Rattle.machine.specs.Sound.{lifetime};

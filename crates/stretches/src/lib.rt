@@ -15,7 +15,7 @@ use machine::Answer;
 use sights::Sight;
 
 // A stretch of the lent state, by its place and its length.
-#[derive(Drop)]
+#[derive(Clone, Copy)]
 pub struct Span {
     pub at: usize,
     pub length: usize,

@@ -1,5 +1,6 @@
 -- The loops over the keys and over the sessions: each is a pass over one table, and a session that the loop has not come to stands as before,
 -- so the numbers noted are those of the sessions that were due.
+use Rattle.std.specs.Prelude.{if◌then◌else◌}
 use mathlib.Core.Path.{◌≡◌, refl, sym, ap, ◌∙◌}
 use mathlib.Core.Bool.{Bool, true, false}
 use mathlib.Core.List.{List, [], ◌∷◌, ◌++◌, map}
@@ -8,7 +9,6 @@ use native.Mathlib.Numerals.{add-one}
 use native.Mathlib.Omega.{arith}
 use lib.ListN.{length, get_or, set, take, drop}
 use lib.Seq.{take-suc}
-use Rattle.lent.specs.Tables.{if◌then◌else◌}
 use Rattle.lent.proofs.Walks.{iter}
 use Rattle.machine.specs.Session.{is_due}
 use Rattle.machine.specs.State.{Slot, no_session, session, State, session_at}

@@ -1,6 +1,5 @@
 -- 01, "Expiry comes first": whether anything expires, and what expiry does to one key and to one session.
-use Rattle.std.specs.Prelude.{ℕ, Bool, ◌||◌, List, [], ◌∷◌, set}
-use Rattle.lent.specs.Tables.{if◌then◌else◌}
+use Rattle.std.specs.Prelude.{ℕ, Bool, ◌||◌, List, [], ◌∷◌, set, if◌then◌else◌}
 use Rattle.machine.specs.Tables.{any}
 use Rattle.machine.specs.Session.{is_due}
 use Rattle.machine.specs.State.{Slot, no_session, session, State, key_of, session_at}

@@ -1,5 +1,6 @@
 -- What VALIDATE, DONE and UNDO come to, case by case: the session that the search found is the one that the definitions look up, and
 -- its life and count decide each test.
+use Rattle.std.specs.Prelude.{if◌then◌else◌}
 use mathlib.Core.Path.{◌≡◌, refl, sym, ap, ◌∙◌}
 use mathlib.Core.Bool.{Bool, true, false, not, ◌&&◌}
 use mathlib.Core.Option.{none, some}
@@ -23,7 +24,6 @@ use Rattle.machine.specs.declared.Answer.{Answer}
 use Rattle.machine.specs.declared.Command.TheVariants.{Validate, Done, Undo}
 use Rattle.machine.proofs.FirstRefusal
 use Rattle.machine.proofs.SoundFacts as facts
-use Rattle.lent.specs.Tables.{if◌then◌else◌}
 use Rattle.lent.proofs.Choices.{clash, zero_one}
 use Rattle.machine.proofs.SoundMeans.{sessions_length}
 use Rattle.layout.specs.Fields.{session_in}

@@ -1,5 +1,6 @@
 -- For how long a key is blocked, read from its lease and its rows. A row that is not on the key adds a deadline of 0, which changes no
 -- latest deadline, so each row adds something, and a walk from the last row to the first makes the latest one.
+use Rattle.std.specs.Prelude.{if◌then◌else◌}
 use mathlib.Core.Path.{◌≡◌, refl, sym, ◌∙◌}
 use mathlib.Core.Bool.{Bool, true, false}
 use mathlib.Core.List.{List, ◌∷◌}
@@ -10,7 +11,6 @@ use lib.Dec.{eqb}
 use lib.ListN.{length, get_or, drop, drop_of_length-le}
 use lib.Seq.{drop-cons}
 use borrow.Author.Tests.{eq-eqb, ne_eqb}
-use Rattle.lent.specs.Tables.{if◌then◌else◌}
 use Rattle.machine.specs.State.{Lease, Row, no_row, row, State, session_of, lease_on}
 use Rattle.machine.specs.Sound.{token_in}
 use Rattle.machine.specs.Effects.{slot_end, later, latest, lease_end, less_now, wait}

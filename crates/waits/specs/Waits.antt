@@ -1,7 +1,6 @@
 -- What one row adds to the wait on a key.
-use Rattle.std.specs.Prelude.{ℕ, eqb}
+use Rattle.std.specs.Prelude.{ℕ, eqb, if◌then◌else◌}
 use Rattle.std.proofs.Math.Option.{Option, some}
-use Rattle.lent.specs.Tables.{if◌then◌else◌}
 use Rattle.machine.specs.State.{Row, no_row, row, State, session_of}
 use Rattle.machine.specs.Effects.{slot_end}
 

@@ -57,7 +57,7 @@ pub const VALUE: u64 = 22;
 pub const NONE: u64 = 23;
 
 // An answer's word, the session, token, wait, length or refusal number that goes with it or 0, and the place of a HIT's value or 0.
-#[derive(Drop)]
+#[derive(Clone, Copy)]
 pub struct Numbers {
     pub word: u64,
     pub detail: u64,

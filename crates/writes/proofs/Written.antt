@@ -1,5 +1,6 @@
 -- Rule 2: the session that a search found is the one that the definitions look up; its life and its row on the key decide, and its
 -- place is where it is marked. What is said of the line is that, and the register's note.
+use Rattle.std.specs.Prelude.{if◌then◌else◌}
 use Prim.Native.Nat.{ℕ}
 use mathlib.Core.Path.{◌≡◌, refl, sym, ap, ◌∙◌}
 use mathlib.Core.Bool.{true, false, not}
@@ -8,7 +9,6 @@ use native.Mathlib.Omega.{arith}
 use lib.Dec.{ltb}
 use lib.ListN.{length}
 use borrow.Author.Tests.{le-ltb, lt-ltb}
-use Rattle.lent.specs.Tables.{if◌then◌else◌}
 use Rattle.machine.specs.Sizes.{session_count, row_count}
 use Rattle.machine.specs.Session.{is_sealed}
 use Rattle.machine.specs.State.{Value, State, free_row, session_place, row_place, row_of}

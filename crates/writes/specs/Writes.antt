@@ -1,6 +1,5 @@
 -- A C line, a write of the register: rule 2, "The register writes a key only for a live sealed session with a row on that key", and the mark that rule 3 reads.
-use Rattle.std.specs.Prelude.{ℕ, ◌≡◌, Bool, not, ◌&&◌, List, [], ltb}
-use Rattle.lent.specs.Tables.{if◌then◌else◌}
+use Rattle.std.specs.Prelude.{ℕ, ◌≡◌, Bool, not, ◌&&◌, List, [], ltb, if◌then◌else◌}
 use Rattle.machine.specs.Sizes.{session_count}
 use Rattle.machine.specs.State.{Value, State, free_row, session_place, row_of}
 use Rattle.machine.specs.Refusals.{sealed_in}

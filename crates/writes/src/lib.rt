@@ -1,8 +1,7 @@
 // A C line: the register's write, tested by rule 2 and marked for rule 3.
 #![tactic(auto)]
 
-ghost use Rattle.std.specs.Prelude.{◌≡◌, true, ℕ, ◌≤◌, ◌<◌, length};
-ghost use Rattle.lent.specs.Tables.{if◌then◌else◌};
+ghost use Rattle.std.specs.Prelude.{◌≡◌, true, ℕ, ◌≤◌, ◌<◌, length, if◌then◌else◌};
 ghost use Rattle.machine.specs.Sizes.{state_size, session_count, value_max};
 ghost use Rattle.machine.specs.State.{State, session_place};
 ghost use Rattle.machine.specs.Sound.{sound};

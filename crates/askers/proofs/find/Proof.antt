@@ -1,7 +1,7 @@
 -- What the search for the number finds decides: no session, a sealed one, or an open one at its place.
+use Rattle.std.specs.Prelude.{if◌then◌else◌}
 use mathlib.Core.Path.{◌≡◌, sym, ◌∙◌}
 use mathlib.Core.Bool.{Bool}
-use Rattle.lent.specs.Tables.{if◌then◌else◌}
 use Rattle.machine.specs.Words.{SEALED}
 use Rattle.machine.specs.State.{State}
 use Rattle.layout.specs.Holds.{Holds}

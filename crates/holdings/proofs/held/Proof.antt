@@ -1,11 +1,11 @@
 -- A row decides, by its kind, which a sound state keeps to 1 to 3; without one, the I lease.
+use Rattle.std.specs.Prelude.{if◌then◌else◌}
 use mathlib.Core.Path.{◌≡◌, sym, ◌∙◌}
 use mathlib.Core.Bool.{Bool}
 use native.Mathlib.Omega.{arith}
 use Prim.Native.Nat.{◌<◌}
 use lib.Dec.{eqb}
 use borrow.Author.Tests.{eq-eqb, ne_eqb}
-use Rattle.lent.specs.Tables.{if◌then◌else◌}
 use Rattle.machine.specs.Sizes.{row_count}
 use Rattle.machine.specs.State.{State}
 use Rattle.machine.specs.Refusals.{held_on}

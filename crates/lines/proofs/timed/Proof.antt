@@ -1,9 +1,9 @@
 -- `timed` meets its contract: the time, the letter and what follows it, in the order of `timed_line`.
+use Rattle.std.specs.Prelude.{if◌then◌else◌}
 use mathlib.Core.Path.{◌≡◌}
 use mathlib.Core.Bool.{Bool}
 use lib.Dec.{eqb}
 use borrow.Author.Tests.{eq-eqb, ne_eqb}
-use Rattle.lent.specs.Tables.{if◌then◌else◌}
 use Rattle.lines.specs.Fields.{fields_at}
 use Rattle.lines.specs.Lines.{shape_of, command_line, write_line, timed_line, write_letter}
 use Rattle.lines.proofs.Saying.{gives_none}

@@ -1,9 +1,9 @@
 -- STATE, CLOCK twice, then ARG, on the state that well-formed bytes hold.
+use Rattle.std.specs.Prelude.{if◌then◌else◌}
 use mathlib.Core.Path.{◌≡◌, refl}
 use mathlib.Core.Bool.{Bool}
 use lib.Dec.{ltb}
 use borrow.Author.Tests.{lt-ltb, le-ltb}
-use Rattle.lent.specs.Tables.{if◌then◌else◌}
 use Rattle.lent.proofs.Choices.{test_failed, test_passed}
 use Rattle.machine.specs.Sizes.{time_max}
 use Rattle.machine.specs.Words.{CLOCK, ARG}

@@ -1,11 +1,11 @@
 -- Key and kind, then whoever is left; the last test is of two parts, and where the rows are full the other is as it was.
+use Rattle.std.specs.Prelude.{if◌then◌else◌}
 use mathlib.Core.Path.{◌≡◌, sym, ◌∙◌}
 use mathlib.Core.Bool.{Bool, true}
 use mathlib.Core.List.{[]}
 use mathlib.Core.Option.{none, some}
 use Prim.Native.Nat.{◌<◌}
 use native.Mathlib.Omega.{arith}
-use Rattle.lent.specs.Tables.{if◌then◌else◌}
 use Rattle.lent.proofs.Choices.{test_failed, test_passed}
 use Rattle.machine.specs.Tables.{first}
 use Rattle.machine.specs.Sizes.{key_count}

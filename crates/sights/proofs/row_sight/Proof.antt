@@ -1,11 +1,11 @@
 -- A row's mark and kind say which of the three is seen.
+use Rattle.std.specs.Prelude.{if◌then◌else◌}
 use mathlib.Core.Path.{◌≡◌, sym, ap, ◌∙◌}
 use mathlib.Core.Bool.{Bool}
 use mathlib.Core.Option.{none}
 use native.Mathlib.Omega.{arith}
 use lib.Dec.{eqb}
 use borrow.Author.Tests.{eq-eqb, ne_eqb}
-use Rattle.lent.specs.Tables.{if◌then◌else◌}
 use Rattle.machine.specs.State.{State, row_at, cached}
 use Rattle.machine.specs.Refusals.{cached_sight, row_sight}
 use Rattle.machine.specs.Words.{INVALIDATE}

@@ -1,7 +1,7 @@
 -- The search for the number and the deadline of the one found decide who is left.
+use Rattle.std.specs.Prelude.{if◌then◌else◌}
 use mathlib.Core.Bool.{Bool, true}
 use mathlib.Core.Path.{◌≡◌, sym, ap, ◌∙◌}
-use Rattle.lent.specs.Tables.{if◌then◌else◌}
 use Rattle.machine.specs.State.{no_session, session, State, session_of}
 use Rattle.machine.specs.Expiry.{expire}
 use Rattle.machine.specs.Sound.{sound}
