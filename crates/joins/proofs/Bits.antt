@@ -19,8 +19,8 @@ max_bit (suc zero) (suc zero) h k = refl
 max_bit (suc zero) (suc (suc v)) h k = absurd (omega arith)
 max_bit (suc (suc u)) v h k = absurd (omega arith)
 
-bit_or : (m x c : ℕ) → has_bit (bit_or m x) c ≡ has_bit m c || has_bit x c
-bit_or m x c =
+bit_or_lem : (m x c : ℕ) → has_bit (bit_or m x) c ≡ has_bit m c || has_bit x c
+bit_or_lem m x c =
     rw (or_shr m x c, or_low (m / 2 ^ c) (x / 2 ^ c)) (max_bit (m / 2 ^ c % 2) (x / 2 ^ c % 2) (omega arith) (omega arith))
 
 bit_power : (b c : ℕ) → has_bit (2 ^ b) c ≡ eqb c b
@@ -33,7 +33,7 @@ pub bit_none : (c : ℕ) → has_bit 0 c ≡ false
 bit_none c = rw zero-div
 
 pub bit_with : (m b c : ℕ) → has_bit (with_bit m b) c ≡ has_bit m c || eqb c b
-bit_with m b c = bit_or m (2 ^ b) c ∙ rw (bit_power b c)
+bit_with m b c = bit_or_lem m (2 ^ b) c ∙ rw (bit_power b c)
 
 -- the shift of `bit_with` loses nothing
 pub one_shifted : (b : ℕ) → b < word_bits → 1 * 2 ^ b % 2 ^ word_bits ≡ 2 ^ b

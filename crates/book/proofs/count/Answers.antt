@@ -4,7 +4,7 @@ use Rattle.std.proofs.Common.{rules}
 use Rattle.book.proofs.count.Goals as goal
 
 pub returns-then-rule-eq-KEPT : goal.returns-then-rule-eq-KEPT
-returns-then-rule-eq-KEPT c = counted_kept _ _ _ _ _ c.lines.ensures c.wrapping_add_u64-n.ensures c.store_u64.ensures c.if-rule-eq-KEPT.true
+returns-then-rule-eq-KEPT c = counted_kept _ _ _ _ _ c.lines.ensures c.wrapping_add_u64-n.ensures.value c.store_u64.ensures c.if-rule-eq-KEPT.true
 
 pub returns : goal.returns
 returns c =
@@ -14,5 +14,5 @@ returns c =
     let store-u64 = c.store_u64 in
     let wrapping-add-u64 = c.wrapping_add_u64-n in
     let lines = c.lines in
-    counted-broken _ _ _ _ _ lines.ensures wrapping-add-u64.ensures store-u64.ensures _ _ _ broken.ensures wrapping-add-u642.ensures
+    counted-broken _ _ _ _ _ lines.ensures wrapping-add-u64.ensures.value store-u64.ensures _ _ _ broken.ensures wrapping-add-u642.ensures.value
     c.store_u64-2.ensures if1.false

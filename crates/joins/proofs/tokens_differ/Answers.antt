@@ -1,0 +1,36 @@
+-- After k turns the first k tokens stand side by side; distinct there, by chains or by an order, is distinct in the table.
+use Prim.Native.Nat.{◌-◌, ◌≤◌}
+use mathlib.Core.Path.{◌≡◌, sym, ◌∙◌}
+use native.Mathlib.Omega.{arith}
+use Rattle.lent.proofs.Choices.{test_failed}
+use Rattle.machine.specs.Sizes.{key_count}
+use Rattle.order.proofs.Numbers.{distinct_fails}
+use Rattle.joins.specs.Joins.{tokens, Gathered}
+use Rattle.joins.proofs.Gathered.{gathered_none, gathered_more, distinct_gathered}
+use borrow.Author.Rules.{rules}
+use Rattle.joins.proofs.tokens_differ.Goals as goal
+
+pub loop-k-init : goal.loop-k-init
+loop-k-init c = (search rules, gathered_none _)
+
+pub loop-k-preserved : goal.loop-k-preserved
+loop-k-preserved c = (search rules, gathered_more _ _ _ _ (omega arith) c.loop-k.invariant.1 c.load_u32.ensures)
+
+pub returns-then-told-eq-KEY_COUNT : goal.returns-then-told-eq-KEY_COUNT
+returns-then-told-eq-KEY_COUNT c =
+    let l = c.loop-k in
+    let e : l.k ≡ key_count = omega arith in
+    sym (sym (distinct_gathered _ _ _ (rw e at l.invariant.1)) ∙ c.told_apart-told.ensures.1 c.if-told-eq-KEY_COUNT.true)
+
+-- a number that is not new is there before
+pub returns-then-not-is_new : goal.returns-then-not-is_new
+returns-then-not-is_new c =
+    let l = c.loop-k in
+    let e : l.k ≡ key_count = omega arith in
+    sym (sym (distinct_gathered _ _ _ (rw e at l.invariant.1)) ∙ distinct_fails _ key_count _ (omega (arith, c.told_apart-told.ensures.0)) (test_failed c.is_new.ensures c.if-not-is_new.true))
+
+pub returns : goal.returns
+returns c =
+    let l = c.loop-k in
+    let e : l.k ≡ key_count = omega arith in
+    c.differ.ensures ∙ distinct_gathered _ _ _ (rw e at l.invariant.1)

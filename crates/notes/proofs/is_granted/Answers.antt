@@ -1,0 +1,16 @@
+-- What is no key has the empty value; a key has its note.
+use Rattle.book.specs.Book.{granted}
+use mathlib.Core.Path.{sym}
+use borrow.Author.Tests.{le-ltb, lt-ltb}
+use Rattle.machine.specs.Sizes.{key_count}
+use Rattle.notes.proofs.Notes.{same_empty}
+use borrow.Author.Rules.{rules}
+use Rattle.notes.proofs.is_granted.Goals as goal
+
+pub returns-then-key-ge-KEYS_END : goal.returns-then-key-ge-KEYS_END
+unfolding granted
+returns-then-key-ge-KEYS_END c = rw (le-ltb _ key_count c.if-key-ge-KEYS_END.true) (sym (same_empty _))
+
+pub returns : goal.returns
+unfolding granted
+returns c = rw (lt-ltb _ key_count c.if-key-ge-KEYS_END.false) c.note_is.ensures
