@@ -21,7 +21,7 @@ module _ {n : ℕ} {formed : ℕ → Bool} {number : ℕ → ℕ} {N : ℕ → T
   walked_none e = record { inside = omega arith; each = every-none formed; noted = e; apart = λ a. distinct_none number }
 
   -- r is what the test of record k came to
-  pub walked_more : {k : ℕ} {r : Bool} {M : ℕ → Type 0} {B : Type 0} → Walked n formed number N A k → k < n → r ≡ formed k → not r ≡ false → M (k + 1) → ((A → distinct number k ≡ true) → B → distinct number (k + 1) ≡ true) → Walked n formed number M B (k + 1)
+  pub walked_more : {k : ℕ} {r : Bool} {M : ℕ → Type 0} {B : Type 0} → Walked n formed number N A k → k < n → r ≡ formed k → r ≡ true → M (k + 1) → ((A → distinct number k ≡ true) → B → distinct number (k + 1) ≡ true) → Walked n formed number M B (k + 1)
   walked_more {k} w l e t m d = record { inside = omega arith; each = every_more formed k w.each (test_passed e t); noted = m; apart = d w.apart }
 
   pub walked_all : {k : ℕ} → Walked n formed number N A k → n ≤ k → Walked n formed number N A n

@@ -8,7 +8,7 @@ pub overflow_add-result : goal.overflow_add-result
 overflow_add-result c =
     let write = c.write-w in
     let args = c.args in
-    let p = number_put args.out.now write.new.1.0 args.at args.n write.result (search rules) write.ensures.0 write.ensures.1 in
+    let p = number_put args.out.now write.new.out args.at args.n write.result (search rules) write.ensures.0 write.ensures.1 in
     omega (arith, printed_most args.n)
 
 pub returns : goal.returns

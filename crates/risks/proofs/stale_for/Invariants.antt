@@ -1,0 +1,15 @@
+use Prim.Native.Nat.{◌≤◌, ◌-◌}
+use native.Mathlib.Omega.{arith}
+use Rattle.machine.specs.Sizes.{row_count}
+use Rattle.machine.specs.State.{no_row}
+use Rattle.machine.specs.Test.{differs}
+use Rattle.layout.proofs.Scans.{Scanned, scanned_none, scanned_more, scanned_hit, scanned_all}
+use Rattle.book.specs.Book.{registered}
+use borrow.Author.Rules.{rules}
+use Rattle.risks.proofs.stale_for.Given as goal
+
+abbrev pub invariant-loop-i : goal.invariant-loop-i
+invariant-loop-i l = (l.i ≤ row_count) × Scanned (λ σ. differs (registered l.book) l.session) no_row (λ σ. σ.rows) l.cache l.i
+
+abbrev pub decreases-loop-i : goal.decreases-loop-i
+decreases-loop-i l = row_count - l.i
