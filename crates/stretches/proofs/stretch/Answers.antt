@@ -6,32 +6,12 @@ use Rattle.machine.specs.Step.{show}
 use Rattle.stretches.specs.declared.Span.{Span}
 use Rattle.stretches.proofs.Shown.{shown_stands}
 use borrow.Author.Rules.{rules}
-use Rattle.stretches.proofs.stretch.Statement.{statement}
-use Rattle.stretches.proofs.stretch.Tie as tie
+use Rattle.stretches.proofs.stretch.Goals as goal
 
-part-requires : tie.Need-part-requires
-part-requires c κs = search rules
-
-add-end : tie.Need-overflow-add-end
-add-end c = search rules
-
-sub-result : tie.Need-overflow-sub-result
-sub-result c = search rules
-
-part-result-start : tie.Need-slice-bounds-result-start
-part-result-start c = search rules
-
-part-result-end : tie.Need-slice-bounds-result-end
-part-result-end c = search rules
-
-returns : tie.Need-returns
-returns c = let part = c.before.before.part in
-    let args = c.before.before.before.before.args in
+pub returns : goal.returns
+returns c = let part = c.part-span in
+    let args = c.args in
     λ σ h. let x = show σ args.session args.key in
     let p : part.result.at ≡ x.at = ap Span.at (part.ensures.0 σ h) in
     let q : part.result.length ≡ length x.value = ap Span.length (part.ensures.0 σ h) in
     record { place = rw (← p); bytes = rw (← p, ← q) (part_win _ _ _); value = part_win args.s.now part.result.at part.result.length ∙ rw (p, q) (shown_stands σ args.session args.key h) }
-
-pub stretch-spec : {M : Type 1} → statement M
-stretch-spec =
-    tie.close (tie.spec part-requires add-end sub-result part-result-start part-result-end returns)

@@ -1,0 +1,50 @@
+-- STAGE's own tests, then what its session found; where that is its places, the record is stored and the value staged there.
+use Rattle.outcome.proofs.Told.{gives}
+use mathlib.Core.Path.{◌≡◌, sym, ◌∙◌}
+use Rattle.machine.specs.State.{staged, State}
+use Rattle.machine.specs.declared.Command.TheVariants.{Stage}
+use Rattle.layout.specs.Holds.{Holds}
+use Rattle.outcome.specs.Outcome.{tried}
+use Rattle.stages.specs.declared.Staging.{Staging}
+use Rattle.stages.proofs.Staged.{staged_by, staging_stored}
+use Rattle.stages.proofs.Tried.{stage_key, stage_step, stage_long, stage_found}
+use borrow.Author.Rules.{rules}
+use Rattle.stages.proofs.stage.Goals as goal
+use Rattle.stages.proofs.stage.Goals.{After-find}
+
+pub returns-then-key : goal.returns-then-key
+returns-then-key c = λ σ h ok. gives (stage_key _ _ _ _ _ c.if-key.true) h
+
+pub returns-then-step-ge-STEP_MAX : goal.returns-then-step-ge-STEP_MAX
+returns-then-step-ge-STEP_MAX c = λ σ h ok. gives (stage_step _ _ _ _ _ c.if-step-ge-STEP_MAX.true) h
+
+pub returns-then-value-gt-VALUE_MAX : goal.returns-then-value-gt-VALUE_MAX
+returns-then-value-gt-VALUE_MAX c = λ σ h ok. gives (stage_long _ _ _ _ _ c.if-key.false c.if-step-ge-STEP_MAX.false c.if-value-gt-VALUE_MAX.true) h
+
+pub store-requires : goal.store-requires
+store-requires c = let place = c.in-At in
+    let find = c.find in
+    (c.requires, (rw place.is at find.ensures.1).0)
+
+pub stage-requires : goal.stage-requires
+stage-requires c = let place = c.in-At in
+    let find = c.find in
+    (search rules, ((rw place.is at find.ensures.1).1, search rules))
+
+-- the tests before the search are passed, and it found d
+tried-by : (c : After-find) {d : Staging} → c.find.result ≡ d → (σ : State)
+    → let a = c.args in Holds a.s.now σ → tried σ 0 (Stage a.session a.step a.key) a.value.now ≡ staged_by σ (staged a.value.now) d
+tried-by c e σ h = stage_found _ _ _ _ _ c.if-key.false c.if-step-ge-STEP_MAX.false c.if-value-gt-VALUE_MAX.false (sym (c.find.ensures.0 σ h) ∙ e)
+
+pub returns-in-Refused : goal.returns-in-Refused
+returns-in-Refused c = λ σ h ok. gives (tried-by (goal.at.returns-in-Refused c).After-find c.in-Refused.is σ h) h
+
+pub returns-in-Repeated : goal.returns-in-Repeated
+returns-in-Repeated c = λ σ h ok. gives (tried-by (goal.at.returns-in-Repeated c).After-find c.in-Repeated.is σ h) h
+
+pub returns-in-At : goal.returns-in-At
+returns-in-At c = let stage = c.stage in
+    let store = c.store in
+    let place = c.in-At in
+    λ σ h ok. gives (tried-by (goal.at.returns-in-At c).After-find place.is σ h)
+    (staging_stored σ _ _ _ _ ok (sym (c.find.ensures.0 σ h) ∙ place.is) (store.ensures σ h) (stage.ensures _))
