@@ -1,6 +1,6 @@
 -- SHOW by the check of the state: bytes that are not well formed are refused, and well-formed ones hold the state that they decode to.
 use mathlib.Core.Path.{◌≡◌}
-use mathlib.Core.Bool.{Bool, true, false, not}
+use mathlib.Core.Bool.{Bool, true, false}
 use mathlib.Core.List.{List, []}
 use Prim.Native.Nat.{ℕ}
 use lib.ListN.{length}
@@ -16,11 +16,11 @@ use Rattle.layout.proofs.Formed.{formed, holds_decoded}
 use Rattle.show.specs.Show.{show_of}
 
 module _ (b : List ℕ) {r : Bool} (e : r ≡ well_formed b) where
-  pub unformed_shows : not r ≡ true → (n k : ℕ) → show_of b n k ≡ record { answer = Answer.Refused STATE; at = 0; value = [] }
+  pub unformed_shows : r ≡ false → (n k : ℕ) → show_of b n k ≡ record { answer = Answer.Refused STATE; at = 0; value = [] }
   unfolding show_of
   unformed_shows f n k = rw (test_failed e f)
 
-  module _ (p : not r ≡ false) where
+  module _ (p : r ≡ true) where
     pub formed_size : length b ≡ state_size
     formed_size = (formed b (test_passed e p)).size
 

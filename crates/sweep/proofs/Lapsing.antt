@@ -36,10 +36,18 @@ none-those now (session x ∷ l) h = let b = or_no (is_due now x) (any (due_slot
 
 -- of no sessions
 free-none : (l : List Slot) → map (free_session []) l ≡ l
-free-none l = map_same (free_session []) (λ e. elim e [ no_session ↦ refl | session x ↦ refl ]) l
+free-none l = map_same (free_session []) go l
+  where
+    go : (e : Slot) → free_session [] e ≡ e
+    go no_session = refl
+    go (session x) = refl
 
 rows_none : (rs : List Row) → map (free_if_of []) rs ≡ rs
-rows_none rs = map_same (free_if_of []) (λ r. elim r [ no_row ↦ refl | row n k d u ↦ refl ]) rs
+rows_none rs = map_same (free_if_of []) go rs
+  where
+    go : (r : Row) → free_if_of [] r ≡ r
+    go no_row = refl
+    go (row n k d u) = refl
 
 settle-none : (f : Staged → Option Value) (rs : List Row) (ks : List Key) → settle [] f rs ks ≡ ks
 settle-none f [] ks = refl

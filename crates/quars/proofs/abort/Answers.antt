@@ -1,0 +1,8 @@
+-- The session leaves.
+use mathlib.Core.Path.{refl}
+use Rattle.outcome.proofs.Told.{gives}
+use borrow.Author.Rules.{rules}
+use Rattle.quars.proofs.abort.Goals as goal
+
+pub returns : goal.returns
+returns c = λ σ h ok here. gives refl (c.leave.ensures σ h ok here)
