@@ -1,0 +1,51 @@
+-- Each arm is the command of that name; what the command does not look at computes away.
+use mathlib.Core.Path.{refl}
+use Rattle.machine.specs.Refusals.{refusals}
+use Rattle.machine.specs.Effects.{effect}
+use Rattle.outcome.specs.Outcome.{tried}
+use borrow.Author.Rules.{rules}
+use Rattle.cache.proofs.act.Goals as goal
+
+pub returns-in-Begin : goal.returns-in-Begin
+unfolding tried refusals effect
+returns-in-Begin c = rw c.in-Begin.is c.begin.ensures
+
+pub returns-in-Get : goal.returns-in-Get
+unfolding tried refusals effect
+returns-in-Get c = rw c.in-Get.is c.get.ensures
+
+pub returns-in-Fill : goal.returns-in-Fill
+unfolding tried refusals effect
+returns-in-Fill c = rw c.in-Fill.is c.fill.ensures
+
+pub returns-in-Quar : goal.returns-in-Quar
+unfolding tried refusals effect
+returns-in-Quar c = rw c.in-Quar.is c.quar.ensures
+
+pub returns-in-Stage : goal.returns-in-Stage
+unfolding tried refusals effect
+returns-in-Stage c = rw c.in-Stage.is c.stage.ensures
+
+pub returns-in-Delta : goal.returns-in-Delta
+unfolding tried refusals effect
+returns-in-Delta c = rw c.in-Delta.is c.delta.ensures
+
+pub returns-in-Validate : goal.returns-in-Validate
+unfolding tried refusals effect
+returns-in-Validate c = rw c.in-Validate.is c.validate.ensures
+
+pub returns-in-Done : goal.returns-in-Done
+unfolding tried refusals effect
+returns-in-Done c = rw c.in-Done.is c.done.ensures
+
+pub returns-in-Undo : goal.returns-in-Undo
+unfolding tried refusals effect
+returns-in-Undo c = rw c.in-Undo.is c.undo.ensures
+
+pub returns-in-Evict : goal.returns-in-Evict
+unfolding tried refusals effect
+returns-in-Evict c = rw c.in-Evict.is c.evict.ensures
+
+pub returns-in-Tick : goal.returns-in-Tick
+unfolding tried refusals effect
+returns-in-Tick c = λ σ h ok. rw c.in-Tick.is (record { answer = refl; holds = h })
