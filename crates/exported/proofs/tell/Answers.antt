@@ -1,0 +1,7 @@
+-- The three numbers are the answer's.
+use mathlib.Core.Path.{refl}
+use borrow.Author.Rules.{rules}
+use Rattle.exported.proofs.tell.Goals as goal
+
+pub returns : goal.returns
+returns c = rw c.as_numbers-n.ensures (record { word = refl; numbers = refl })
