@@ -45,14 +45,14 @@ after_formed = run_keeps (λ b x. (ran b x.at x.command x.value).bytes) after_by
 after_follows : (b : List ℕ) (l : List Line) → valued l ≡ true → well_formed b ≡ true → decode (after_bytes b l) ≡ after (decode b) l
 after_follows b [] h f = refl
 after_follows b (x ∷ l) h f =
-    after_follows _ l (rest_valued x l h) (formed_kept b x.at x.command x.value (head_bytes x l h) f)
+    after_follows (ran b x.at x.command x.value).bytes l (rest_valued x l h) (formed_kept b x.at x.command x.value (head_bytes x l h) f)
     ∙ ap (λ (s : State). after s l) (decode-ran b x.at x.command x.value (head_bytes x l h) f)
 
 -- the commands of the example
 answers_follow : (b : List ℕ) (l : List Line) → valued l ≡ true → well_formed b ≡ true → answers_bytes b l ≡ answers (decode b) l
 answers_follow b [] h f = refl
 answers_follow b (x ∷ l) h f =
-    let r = answers_follow _ l (rest_valued x l h) (formed_kept b x.at x.command x.value (head_bytes x l h) f) in
+    let r = answers_follow (ran b x.at x.command x.value).bytes l (rest_valued x l h) (formed_kept b x.at x.command x.value (head_bytes x l h) f) in
     let q = ap (λ (y : Reply). y.answer) (ran_formed b x.at x.command x.value f) in
     rw (r, q, decode-ran b x.at x.command x.value (head_bytes x l h) f) refl
 

@@ -1,0 +1,25 @@
+-- A command counts only after START has answered READY; then its number decides.
+use Rattle.lent.proofs.Choices.{test_failed, test_passed}
+use Rattle.rehearsal.proofs.Turns.{says_here, not_taken, command_early, command_is, command_unknown}
+use borrow.Author.Rules.{rules}
+use Rattle.rehearsal.proofs.command.Goals as goal
+
+pub returns-then-not-started : goal.returns-then-not-started
+returns-then-not-started c =
+    let a = c.args in
+    not_taken _ _ _ _ c.unreadable.ensures (command_early a.cache.now a.book.now a.time a.numbered a.value.now
+    (test_failed c.started.ensures c.if-not-started.true))
+
+pub returns-in-Is : goal.returns-in-Is
+returns-in-Is c =
+    let a = c.args in
+    rw (command_is a.cache.now a.book.now a.time a.numbered _ a.value.now
+    c.in-Is.is
+    (test_passed c.started.ensures c.if-not-started.false))
+    (says_here c.run.ensures)
+
+pub returns-in-Unknown : goal.returns-in-Unknown
+returns-in-Unknown c =
+    let a = c.args in
+    not_taken _ _ _ _ c.unreadable-in-Unknown.ensures (command_unknown a.cache.now a.book.now a.time a.numbered a.value.now c.in-Unknown.is
+    (test_passed c.started.ensures c.if-not-started.false))
