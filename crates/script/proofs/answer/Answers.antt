@@ -16,4 +16,4 @@ returns c =
     let line = c.line-n in
     let pre = c.requires in
     let p = line_delivered _ _ _ pre _ _ (search rules) _ _ _ _ line.ensures in
-    (p.0, omega (arith, p.1))
+    record { delivered = p.0; upper_bound = omega (arith, p.1) }

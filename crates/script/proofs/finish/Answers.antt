@@ -16,12 +16,12 @@ slice_bounds-answer-end c = sym (length-take-le _ _ (omega (arith, c.requires.1.
 pub end-requires-2 : goal.end-requires-2
 end-requires-2 c =
     let answer = c.answer-put in
-    let l = printed-length answer.ensures.0.printed in
-    omega (arith, answer.ensures.1)
+    let l = printed-length answer.ensures.delivered.printed in
+    omega (arith, answer.ensures.upper_bound)
 
 pub returns : goal.returns
 returns c =
     let answer = c.answer-put in
     let if1 = c.if-held-eq0 in
     let pre = c.requires in
-    finish_line _ _ _ _ _ pre.1 _ _ _ _ _ _ if1.false answer.ensures.0 c.end-2.ensures
+    finish_line _ _ _ _ _ pre.1 _ _ _ _ _ _ if1.false answer.ensures.delivered c.end-2.ensures

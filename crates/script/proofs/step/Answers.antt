@@ -23,7 +23,8 @@ pub returns-in-Held : goal.returns-in-Held
 returns-in-Held c =
     let push = c.push-taken in
     let pre = c.requires in
-    step_held _ _ _ _ _ _ _ _ pre.1 push.ensures.1 _ pre.0 (sym push.ensures.0 ∙ c.in-Held.is)
+    let p = step_held _ _ _ _ _ _ _ _ pre.1 push.ensures.1 _ pre.0 (sym push.ensures.0 ∙ c.in-Held.is) in
+    record { delivered = p.0; held_fits = p.1.0; held_after = p.1.1 }
 
 pub returns-in-Line : goal.returns-in-Line
 returns-in-Line c =
@@ -31,4 +32,5 @@ returns-in-Line c =
     let taken2 = c.in-Line in
     let push = c.push-taken in
     let pre = c.requires in
-    step_line _ _ _ _ _ _ _ _ pre.1 push.ensures.1 _ _ _ _ _ (sym push.ensures.0 ∙ taken2.is) answer.ensures.0
+    let p = step_line _ _ _ _ _ _ _ _ pre.1 push.ensures.1 _ _ _ _ _ (sym push.ensures.0 ∙ taken2.is) answer.ensures.delivered in
+    record { delivered = p.0; held_fits = p.1.0; held_after = p.1.1 }

@@ -22,7 +22,7 @@ overflow_sub-out c = let l = printed-length c.loop-i.invariant.1.1.1.answered.pr
 
 pub returns-then-out-put-lt-LINE_ROOM : goal.returns-then-out-put-lt-LINE_ROOM
 returns-then-out-put-lt-LINE_ROOM c = let l = printed-length c.loop-i.invariant.1.1.1.answered.printed in
-    (record { reaches = c.loop-i.invariant.1.1.1; stops = inr (omega (arith, c.if-out-put-lt-LINE_ROOM.true)) }, c.loop-i.invariant.1.1.0)
+    let h = c.loop-i.invariant.1.1.0 in record { stretched = record { reaches = c.loop-i.invariant.1.1.1; stops = inr (omega (arith, c.if-out-put-lt-LINE_ROOM.true)) }; held_fits = h.0; held_after = h.1 }
 
 pub step-at-requires : goal.step-at-requires
 step-at-requires c =
@@ -37,9 +37,9 @@ loop-i-preserved c =
     let test = c.loop-i-test.true in
     let inv = c.loop-i.invariant in
     let l = printed-length inv.1.1.1.answered.printed in
-    let held = buffer-more _ _ _ _ _ _ inv.1.1.1.within.0 test inv.1.1.0.1 step.1.1 in
-    let reached = reaches_more _ _ _ _ _ _ _ _ _ _ _ inv.1.1.1 test (omega (arith, c.if-out-put-lt-LINE_ROOM.false)) step.0 in
-    (search rules, (search rules, ((step.1.0, held), reached)))
+    let held = buffer-more _ _ _ _ _ _ inv.1.1.1.within.0 test inv.1.1.0.1 step.held_after in
+    let reached = reaches_more _ _ _ _ _ _ _ _ _ _ _ inv.1.1.1 test (omega (arith, c.if-out-put-lt-LINE_ROOM.false)) step.delivered in
+    (search rules, (search rules, ((step.held_fits, held), reached)))
 
 pub returns : goal.returns
-returns c = let w = c.loop-i.invariant.1.1.1.within.1 in (record { reaches = c.loop-i.invariant.1.1.1; stops = inl (omega arith) }, c.loop-i.invariant.1.1.0)
+returns c = let w = c.loop-i.invariant.1.1.1.within.1 in let h = c.loop-i.invariant.1.1.0 in record { stretched = record { reaches = c.loop-i.invariant.1.1.1; stops = inl (omega arith) }; held_fits = h.0; held_after = h.1 }
