@@ -12,7 +12,7 @@ use Rattle.lent.specs.Bytes.{bytes32, bytes64, splice, win, zeros}
 use Rattle.lent.proofs.Choices.{clash}
 use Rattle.lent.proofs.Splice.{length-splice, length-win, splice-append, splice_front, splice-next, splice-whole}
 use Rattle.machine.specs.Sizes.{key_count, row_count, head_size, keys_from, key_width, rows_from, row_width, value_max, next_session_field, next_token_field, key_token_field, key_value_field, lease_width, row_staged_field, value_at}
-use Rattle.machine.specs.State.{Value, Head, Lease, Key, Staged, staged, Row, no_row, row, State, key_of, row_at, free_row}
+use Rattle.machine.specs.State.{Value, Head, Lease, Key, Staged, Row, no_row, row, State, key_of, row_at, free_row}
 use Rattle.machine.specs.Expiry.{with_head, with_keys, with_rows, with_clock, with_numbers, set_value, set_lease}
 use Rattle.machine.specs.Effects.{restaged}
 use Rattle.layout.specs.Layout.{padded, enc_head, value_mark, value_bytes, lease_bytes, enc_key, staged_bytes, enc_row}

@@ -13,7 +13,7 @@ use borrow.Author.Tests.{eq-eqb, ne_eqb}
 use lib.Dec.{eqb, ltb}
 use lib.ListN.{get_or, set, get_or-map}
 use Rattle.lent.proofs.Choices.{case_of, clash, if_ind}
-use Rattle.machine.specs.Tables.{place, mem, put_at, is_none}
+use Rattle.machine.specs.Tables.{mem, put_at, is_none}
 use Rattle.machine.specs.Words.{word_of, LEASE, INVALIDATE}
 use Rattle.machine.specs.Session.{advanced, sealed, is_due}
 use Rattle.machine.specs.Decision.{grants}

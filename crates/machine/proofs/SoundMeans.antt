@@ -16,7 +16,7 @@ use Rattle.lent.proofs.Walks.{all-every, some_at, some_is}
 use Rattle.machine.specs.Sizes.{key_count, session_count, row_count, value_max, step_max, life_max, time_max, number_max}
 use Rattle.machine.specs.Words.{is_kind, INVALIDATE, REFRESH, INCREMENTAL}
 use Rattle.machine.specs.State.{Value, Head, Lease, Key, blank, Slot, no_session, session, Staged, nothing, staged, DROP, Row, no_row, row, State, key_of, session_at, row_at, lease_on}
-use Rattle.machine.specs.Sound.{clock_sound, lifetime, next_sound, head_sound, value_sound, cached_sound, given, lease_sound, key_sound, life_sound, session_sound, staged_sound, row_sound, token_in, number_in, number_at, token_at, distinct, numbers_distinct, tokens_distinct, live_row, rows_live, once, rows_once, shares, rows_alone, leaseless, rows_leaseless, joined, sized, sound}
+use Rattle.machine.specs.Sound.{clock_sound, lifetime, next_sound, head_sound, value_sound, cached_sound, given, lease_sound, key_sound, life_sound, session_sound, staged_sound, row_sound, token_in, number_in, number_at, token_at, numbers_distinct, tokens_distinct, live_row, rows_live, once, rows_once, shares, rows_alone, leaseless, rows_leaseless, joined, sized, sound}
 use Rattle.machine.specs.WellFormed.{Fine, Within, LeaseFits, SessionFits, StagedFits, RowFits, LiveAs, WellFormed}
 use Rattle.machine.specs.declared.Life.{Life}
 use Rattle.machine.specs.declared.Session.{Session}

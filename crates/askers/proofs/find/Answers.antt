@@ -8,7 +8,6 @@ use Rattle.layout.specs.Holds.{Holds}
 use Rattle.askers.specs.Asker.{asker_of}
 use Rattle.askers.specs.declared.Asker.{Asker}
 use Rattle.askers.proofs.Asked.{asker_none, asker_at_lem}
-use borrow.Author.Rules.{rules}
 use Rattle.askers.proofs.find.Goals as goal
 use Rattle.askers.proofs.find.Goals.{After-is_sealed}
 

@@ -1,6 +1,5 @@
 -- The count is eight bytes at its place.
 use Rattle.book.specs.Book.{broken_in}
-use Rattle.std.proofs.Common.{rules}
 use Rattle.book.proofs.broken.Goals as goal
 
 pub returns : goal.returns

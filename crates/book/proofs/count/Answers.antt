@@ -1,6 +1,5 @@
 -- The first count goes up by one, and the second, read after it, where a rule is broken.
 use Rattle.book.proofs.Counts.{counted_kept, counted-broken}
-use Rattle.std.proofs.Common.{rules}
 use Rattle.book.proofs.count.Goals as goal
 
 pub returns-then-rule-eq-KEPT : goal.returns-then-rule-eq-KEPT

@@ -1,6 +1,5 @@
 -- The count is eight bytes at its place.
 use Rattle.book.specs.Book.{lines_in}
-use Rattle.std.proofs.Common.{rules}
 use Rattle.book.proofs.lines.Goals as goal
 
 pub returns : goal.returns

@@ -1,6 +1,5 @@
 -- The mark is four bytes at its place.
 use Rattle.book.specs.Book.{mark}
-use Rattle.std.proofs.Common.{rules}
 use Rattle.book.proofs.mark.Goals as goal
 
 pub returns : goal.returns

@@ -1,6 +1,5 @@
 -- The mark is four bytes at its place.
 use Rattle.book.specs.Book.{with_mark}
-use Rattle.std.proofs.Common.{rules}
 use Rattle.book.proofs.set_mark.Goals as goal
 
 pub returns : goal.returns

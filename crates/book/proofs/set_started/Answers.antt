@@ -1,6 +1,5 @@
 -- The flag is the book's first byte.
 use Rattle.book.specs.Book.{with_started}
-use Rattle.std.proofs.Common.{rules}
 use Rattle.book.proofs.set_started.Goals as goal
 
 pub returns : goal.returns

@@ -1,5 +1,4 @@
 -- The arm says which number stands in the table; `entry_decides` says which verdict that is.
-use borrow.Author.Rules.{rules}
 use borrow.Author.Tests.{ne_eqb}
 use mathlib.Core.Path.{refl}
 use Rattle.decisions.proofs.Decided.{entry_decides}

@@ -1,7 +1,6 @@
 -- Without the mark of a value nothing is cached (`staged_not`); with it, mark, length and bytes are those of a cached value (`staged_copied`).
 use mathlib.Core.Path.{sym, ◌∙◌}
 use native.Mathlib.Omega.{arith}
-use borrow.Author.Rules.{rules}
 use Rattle.drops.proofs.Staged.{staged_not, staged_copied}
 use Rattle.drops.proofs.cache_staged.Goals as goal
 

@@ -1,7 +1,6 @@
 -- Where there is no lease its twelve bytes are zero (`lease_put`).
 use mathlib.Core.Option.{none}
 use native.Mathlib.Omega.{arith}
-use borrow.Author.Rules.{rules}
 use Rattle.layout.proofs.Parts.{lease_put}
 use Rattle.drops.proofs.drop_lease.Goals as goal
 

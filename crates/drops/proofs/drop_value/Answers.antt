@@ -1,7 +1,6 @@
 -- Where there is no value the mark, the length and the 64 bytes are zero (`value_put`).
 use mathlib.Core.Option.{none}
 use native.Mathlib.Omega.{arith}
-use borrow.Author.Rules.{rules}
 use Rattle.layout.proofs.Parts.{value_put}
 use Rattle.drops.proofs.drop_value.Goals as goal
 

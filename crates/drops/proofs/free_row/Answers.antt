@@ -1,6 +1,5 @@
 -- A free row is all zero, so clearing the row writes one.
 use native.Mathlib.Omega.{arith}
-use borrow.Author.Rules.{rules}
 use Rattle.machine.specs.State.{no_row}
 use Rattle.layout.specs.Layout.{enc_row}
 use Rattle.layout.proofs.Held.{row_stands}

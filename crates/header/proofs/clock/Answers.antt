@@ -1,7 +1,6 @@
 -- The number is read where the header keeps it.
 use mathlib.Core.Path.{◌∙◌}
 use Rattle.layout.proofs.Held.{clock_held}
-use borrow.Author.Rules.{rules}
 use Rattle.header.proofs.clock.Goals as goal
 
 pub returns : goal.returns

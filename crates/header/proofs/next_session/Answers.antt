@@ -1,7 +1,6 @@
 -- The number is read where the header keeps it.
 use mathlib.Core.Path.{◌∙◌}
 use Rattle.layout.proofs.Held.{session_next_held}
-use borrow.Author.Rules.{rules}
 use Rattle.header.proofs.next_session.Goals as goal
 
 pub returns : goal.returns

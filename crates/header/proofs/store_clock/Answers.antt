@@ -1,6 +1,5 @@
 -- The clock is a part of the header, so its bytes alone change (`clock_put`).
 use Rattle.layout.proofs.Parts.{clock_put}
-use borrow.Author.Rules.{rules}
 use Rattle.header.proofs.store_clock.Goals as goal
 
 pub returns : goal.returns

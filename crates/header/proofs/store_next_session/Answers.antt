@@ -1,6 +1,5 @@
 -- The next session number is a part of the header, so its bytes alone change (`session_next_put`).
 use Rattle.layout.proofs.Parts.{session_next_put}
-use borrow.Author.Rules.{rules}
 use Rattle.header.proofs.store_next_session.Goals as goal
 
 pub returns : goal.returns

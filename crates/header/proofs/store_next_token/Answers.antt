@@ -1,6 +1,5 @@
 -- The next token is a part of the header, so its bytes alone change (`token-next_put`).
 use Rattle.layout.proofs.Parts.{token-next_put}
-use borrow.Author.Rules.{rules}
 use Rattle.header.proofs.store_next_token.Goals as goal
 
 pub returns : goal.returns

@@ -1,7 +1,5 @@
 -- `all_digits` meets its contract: what is left decides as long as no byte passed is other than a digit (`digits-on` of `Reading`).
-use Prim.Native.Nat.{◌-◌, ◌≤◌}
-use mathlib.Core.Path.{◌≡◌, refl, sym, ◌∙◌}
-use lib.ListN.{drop}
+use mathlib.Core.Path.{refl, sym, ◌∙◌}
 use borrow.Author.Rules.{rules}
 use Rattle.hex_text.specs.Hex.{all_digits}
 use Rattle.hex_text.proofs.Reading.{digits_stop, digits-on, digits_end}

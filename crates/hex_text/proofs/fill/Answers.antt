@@ -1,12 +1,9 @@
 -- `fill` meets its contract: what `out` is to be is always `out` with what the pairs that are left say behind the bytes written (`fill_turn` of `Reading`). Each digit is below 16, so that no byte wraps.
 use Rattle.hex_text.proofs.Reading.{pair_digits, fill_turn, fill_end}
-use Prim.Native.Nat.{◌-◌, ◌*◌, ◌≤◌}
-use mathlib.Core.Path.{◌≡◌, refl}
+use mathlib.Core.Path.{refl}
 use native.Mathlib.Omega.{arith}
-use lib.ListN.{length, drop, length-set}
+use lib.ListN.{length-set}
 use borrow.Author.Rules.{rules}
-use Rattle.lent.specs.Bytes.{splice}
-use Rattle.hex_text.specs.Hex.{bytes_of}
 use Rattle.hex_text.proofs.fill.Goals as goal
 
 pub loop-i-init : goal.loop-i-init

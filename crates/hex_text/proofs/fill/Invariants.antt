@@ -1,9 +1,6 @@
-use Rattle.hex_text.proofs.Reading.{pair_digits, fill_turn, fill_end}
 use Prim.Native.Nat.{◌-◌, ◌*◌, ◌≤◌}
-use mathlib.Core.Path.{◌≡◌, refl}
-use native.Mathlib.Omega.{arith}
-use lib.ListN.{length, drop, length-set}
-use borrow.Author.Rules.{rules}
+use mathlib.Core.Path.{◌≡◌}
+use lib.ListN.{length, drop}
 use Rattle.lent.specs.Bytes.{splice}
 use Rattle.hex_text.specs.Hex.{bytes_of}
 use Rattle.hex_text.proofs.fill.Given as goal

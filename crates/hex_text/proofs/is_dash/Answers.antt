@@ -3,7 +3,6 @@ use mathlib.Core.Path.{◌≡◌, sym}
 use lib.ListN.{length}
 use native.Mathlib.Omega.{arith}
 use Rattle.hex_text.proofs.Reading.{dash_other, dash-one}
-use borrow.Author.Rules.{rules}
 use Rattle.hex_text.proofs.is_dash.Goals as goal
 
 pub returns-then-text-ne1 : goal.returns-then-text-ne1

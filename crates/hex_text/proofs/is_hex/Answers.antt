@@ -4,7 +4,6 @@ use Prim.Native.Nat.{◌%◌}
 use native.Mathlib.Omega.{arith}
 use lib.ListN.{length}
 use Rattle.hex_text.proofs.Reading.{hex_empty, hex_odd, hex_even}
-use borrow.Author.Rules.{rules}
 use Rattle.hex_text.proofs.is_hex.Goals as goal
 
 pub returns-then-text-lt1 : goal.returns-then-text-lt1

@@ -1,7 +1,6 @@
 -- `length` meets its contract: the tests of `read_hex` in its order; pairs say half as many bytes.
 use mathlib.Core.Path.{sym, ◌∙◌}
 use Rattle.hex_text.proofs.Reading.{length_bytes, read_dash, read_pairs, read_none}
-use borrow.Author.Rules.{rules}
 use Rattle.hex_text.proofs.length.Goals as goal
 
 pub returns-then-is_dash : goal.returns-then-is_dash

@@ -1,12 +1,9 @@
 -- `print` meets its contract: after i turns the digits of the first i bytes stand at the front (`print_turn` of `Printing`).
-use Prim.Native.Nat.{◌≤◌, ◌-◌}
-use mathlib.Core.Path.{◌≡◌, refl, sym}
+use mathlib.Core.Path.{refl, sym}
 use native.Mathlib.Omega.{arith}
-use lib.ListN.{length, take, length-set}
+use lib.ListN.{length-set}
 use borrow.Author.Rules.{rules}
-use Rattle.lent.specs.Bytes.{splice}
 use Rattle.lent.proofs.Splice.{splice-none}
-use Rattle.hex_text.specs.Hex.{digits_of}
 use Rattle.hex_text.proofs.Printing.{print_turn, print_end}
 use Rattle.hex_text.proofs.print.Goals as goal
 

@@ -1,12 +1,8 @@
 use Prim.Native.Nat.{◌≤◌, ◌-◌}
-use mathlib.Core.Path.{◌≡◌, refl, sym}
-use native.Mathlib.Omega.{arith}
-use lib.ListN.{length, take, length-set}
-use borrow.Author.Rules.{rules}
+use mathlib.Core.Path.{◌≡◌}
+use lib.ListN.{length, take}
 use Rattle.lent.specs.Bytes.{splice}
-use Rattle.lent.proofs.Splice.{splice-none}
 use Rattle.hex_text.specs.Hex.{digits_of}
-use Rattle.hex_text.proofs.Printing.{print_turn, print_end}
 use Rattle.hex_text.proofs.print.Given as goal
 
 abbrev pub invariant-loop-i : goal.invariant-loop-i

@@ -4,7 +4,6 @@ use native.Mathlib.Omega.{arith}
 use lib.ListN.{length}
 use Rattle.lent.proofs.Splice.{set-splice}
 use Rattle.hex_text.proofs.Printing.{hex_none, hex_some, length_some}
-use borrow.Author.Rules.{rules}
 use Rattle.hex_text.proofs.write.Goals as goal
 
 pub bounds-out-0 : goal.bounds-out-0

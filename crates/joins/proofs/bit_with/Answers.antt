@@ -1,7 +1,6 @@
 -- `bit_with` sets the bit: below 64 the shift of 1 loses nothing.
 use mathlib.Core.Path.{ap}
 use lib.Bits.{bit_or}
-use borrow.Author.Rules.{rules}
 use Rattle.joins.proofs.Bits.{one_shifted}
 use Rattle.joins.proofs.bit_with.Goals as goal
 

@@ -1,7 +1,6 @@
 -- A number that is 0 changes nothing; another that its chain passed is new, and comes to its front.
 use mathlib.Core.Path.{refl}
 use Rattle.joins.proofs.Chains.{chained_zero, new_passed, chained_more}
-use borrow.Author.Rules.{rules}
 use Rattle.joins.proofs.enters.Goals as goal
 
 pub returns-then-n-eq0 : goal.returns-then-n-eq0

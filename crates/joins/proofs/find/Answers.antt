@@ -2,7 +2,6 @@
 use mathlib.Core.Path.{◌∙◌}
 use native.Mathlib.Omega.{arith}
 use Rattle.joins.proofs.Lookup.{first-joined, first_low}
-use borrow.Author.Rules.{rules}
 use Rattle.joins.proofs.find.Goals as goal
 
 pub returns : goal.returns

@@ -2,7 +2,6 @@
 use mathlib.Core.Path.{refl, sym, ◌∙◌}
 use Rattle.joins.proofs.Joins.{join_free, join_leased, join_came}
 use Rattle.joins.proofs.Lookup.{once_alone}
-use borrow.Author.Rules.{rules}
 use Rattle.joins.proofs.join.Goals as goal
 
 pub returns-then-n-eq0 : goal.returns-then-n-eq0

@@ -1,7 +1,6 @@
 -- The word read is the one that is tested and stored with its bit.
 use mathlib.Core.Path.{ap}
 use lib.ListN.{set}
-use borrow.Author.Rules.{rules}
 use Rattle.joins.proofs.note_bit.Goals as goal
 
 pub returns : goal.returns

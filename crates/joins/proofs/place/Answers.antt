@@ -2,7 +2,6 @@
 use Rattle.order.specs.Order.{Stood}
 use Rattle.order.proofs.Standing.{ordered_stood}
 use Rattle.joins.proofs.Lookup.{first_stood}
-use borrow.Author.Rules.{rules}
 use Rattle.joins.proofs.place.Goals as goal
 
 pub returns-then-q-ne0 : goal.returns-then-q-ne0

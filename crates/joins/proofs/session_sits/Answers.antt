@@ -2,7 +2,6 @@
 use mathlib.Core.Path.{refl, sym, ap, ◌∙◌}
 use borrow.Author.Tests.{eq-eqb, ne_eqb}
 use Rattle.order.specs.Order.{item}
-use borrow.Author.Rules.{rules}
 use Rattle.joins.proofs.session_sits.Goals as goal
 
 pub returns-then-n-eq0 : goal.returns-then-n-eq0

@@ -1,7 +1,6 @@
 -- The bit of the place is that of its word.
 use mathlib.Core.Bool.{not}
 use mathlib.Core.Path.{ap}
-use borrow.Author.Rules.{rules}
 use Rattle.joins.proofs.shares.Goals as goal
 
 pub returns : goal.returns

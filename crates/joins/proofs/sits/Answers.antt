@@ -1,6 +1,5 @@
 -- A seat has a place or is free, and what it has is tested.
 use native.Mathlib.Omega.{arith}
-use borrow.Author.Rules.{rules}
 use Rattle.joins.proofs.sits.Goals as goal
 
 pub returns : goal.returns

@@ -1,7 +1,6 @@
 -- A word of the key that is not 0, or both are.
 use mathlib.Core.Path.{refl}
 use native.Mathlib.Omega.{arith}
-use borrow.Author.Rules.{rules}
 use Rattle.joins.proofs.Holders.{taken_held, taken_free}
 use Rattle.joins.proofs.stands_alone.Goals as goal
 

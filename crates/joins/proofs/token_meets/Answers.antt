@@ -1,7 +1,6 @@
 -- A key without a token, or one whose token notes its mark.
 use mathlib.Core.Path.{sym, ◌∙◌}
 use borrow.Author.Tests.{eq-eqb, ne_eqb}
-use borrow.Author.Rules.{rules}
 use Rattle.joins.proofs.token_meets.Goals as goal
 
 pub returns-then-t-eq0 : goal.returns-then-t-eq0

@@ -1,13 +1,8 @@
 -- After k turns the first k tokens are on their chains and distinct, and something is left, or the loop has stopped.
 use mathlib.Core.Path.{◌≡◌}
-use mathlib.Core.Bool.{true}
-use Prim.Native.Nat.{◌-◌, ◌≤◌}
 use native.Mathlib.Omega.{arith}
 use Rattle.machine.specs.Sizes.{key_count}
-use Rattle.machine.specs.Sound.{distinct}
-use Rattle.order.specs.Order.{item}
 use Rattle.order.proofs.Numbers.{distinct_none, distinct_more}
-use Rattle.joins.specs.Joins.{Chained}
 use Rattle.joins.proofs.Chains.{chained_none}
 use borrow.Author.Rules.{rules}
 use Rattle.joins.proofs.told_apart.Goals as goal

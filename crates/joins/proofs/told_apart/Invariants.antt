@@ -1,14 +1,10 @@
 use mathlib.Core.Path.{◌≡◌}
 use mathlib.Core.Bool.{true}
 use Prim.Native.Nat.{◌-◌, ◌≤◌}
-use native.Mathlib.Omega.{arith}
 use Rattle.machine.specs.Sizes.{key_count}
 use Rattle.machine.specs.Sound.{distinct}
 use Rattle.order.specs.Order.{item}
-use Rattle.order.proofs.Numbers.{distinct_none, distinct_more}
 use Rattle.joins.specs.Joins.{Chained}
-use Rattle.joins.proofs.Chains.{chained_none}
-use borrow.Author.Rules.{rules}
 use Rattle.joins.proofs.told_apart.Given as goal
 
 abbrev pub invariant-loop-k : goal.invariant-loop-k

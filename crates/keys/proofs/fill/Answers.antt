@@ -1,7 +1,6 @@
 -- The value is put, and then the bytes of the lease are cleared.
 use native.Mathlib.Omega.{arith}
 use Rattle.keys.proofs.Written.{value_filled}
-use borrow.Author.Rules.{rules}
 use Rattle.keys.proofs.fill.Goals as goal
 
 pub returns : goal.returns

@@ -1,7 +1,6 @@
 -- The record's first byte is 1 exactly where a value is there.
 use native.Mathlib.Omega.{arith}
 use Rattle.layout.proofs.Held.{value_there}
-use borrow.Author.Rules.{rules}
 use Rattle.keys.proofs.has_value.Goals as goal
 
 pub returns : goal.returns

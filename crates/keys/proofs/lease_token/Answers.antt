@@ -2,7 +2,6 @@
 use mathlib.Core.Path.{◌∙◌}
 use native.Mathlib.Omega.{arith}
 use Rattle.layout.proofs.Held.{token_held}
-use borrow.Author.Rules.{rules}
 use Rattle.keys.proofs.lease_token.Goals as goal
 
 pub returns : goal.returns

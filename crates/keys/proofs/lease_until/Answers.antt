@@ -2,7 +2,6 @@
 use mathlib.Core.Path.{◌∙◌}
 use native.Mathlib.Omega.{arith}
 use Rattle.layout.proofs.Held.{until_held}
-use borrow.Author.Rules.{rules}
 use Rattle.keys.proofs.lease_until.Goals as goal
 
 pub returns : goal.returns

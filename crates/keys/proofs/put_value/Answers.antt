@@ -2,7 +2,6 @@
 use native.Mathlib.Omega.{arith}
 use mathlib.Core.Option.{some}
 use Rattle.layout.proofs.Parts.{value_put}
-use borrow.Author.Rules.{rules}
 use Rattle.keys.proofs.put_value.Goals as goal
 
 pub returns : goal.returns

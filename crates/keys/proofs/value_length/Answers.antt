@@ -2,7 +2,6 @@
 use mathlib.Core.Path.{◌∙◌}
 use native.Mathlib.Omega.{arith}
 use Rattle.layout.proofs.Held.{value_long}
-use borrow.Author.Rules.{rules}
 use Rattle.keys.proofs.value_length.Goals as goal
 
 pub returns : goal.returns

@@ -1,12 +1,6 @@
-use borrow.Author.Rules.{rules}
-use native.Mathlib.Nat.{sub-zero}
 use Prim.Native.Nat.{◌-◌, ◌≤◌}
-use mathlib.Core.Path.{◌≡◌, sym, ◌∙◌}
-use native.Mathlib.Omega.{arith}
-use borrow.Author.Tests.{eq-eqb, ne_eqb}
+use mathlib.Core.Path.{◌≡◌}
 use Rattle.lent.specs.Tables.{first}
-use Rattle.lent.proofs.Tables.{place-fits}
-use Rattle.lent.proofs.Walks.{first-hit, first_miss, first_end}
 use Rattle.layout.specs.Search.{starts_with}
 use Rattle.layout.specs.declared.Found.{Found}
 use Rattle.layout.proofs.find_number.Given as goal

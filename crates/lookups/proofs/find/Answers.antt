@@ -1,7 +1,6 @@
 -- Session 0 has no row, and a search for any other is one of the table.
 use Rattle.lookups.proofs.Tests.{of_search, none-zero}
 use mathlib.Core.Path.{sym, ◌∙◌}
-use borrow.Author.Rules.{rules}
 use Rattle.lookups.proofs.find.Goals as goal
 
 pub returns-then-n-eq0 : goal.returns-then-n-eq0

@@ -1,7 +1,6 @@
 -- A search for any session is one for a row on the key.
 use Rattle.lookups.proofs.Tests.{on_search}
 use mathlib.Core.Path.{◌∙◌}
-use borrow.Author.Rules.{rules}
 use Rattle.lookups.proofs.first_on.Goals as goal
 
 pub returns : goal.returns

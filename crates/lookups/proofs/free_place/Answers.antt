@@ -1,7 +1,6 @@
 -- A free row is one whose session is 0.
 use Rattle.lookups.proofs.Tests.{free_search}
 use mathlib.Core.Path.{◌∙◌}
-use borrow.Author.Rules.{rules}
 use Rattle.lookups.proofs.free_place.Goals as goal
 
 pub returns : goal.returns

@@ -1,7 +1,6 @@
 -- A row is on a key exactly if its session is not 0 and its key is that one, which is what the code tests.
 use Rattle.lookups.specs.Test.{row_test}
 use borrow.Author.Tests.{eq-eqb, ne_eqb}
-use borrow.Author.Rules.{rules}
 use Rattle.lookups.proofs.is_on.Goals as goal
 
 pub returns-then-m-eq0 : goal.returns-then-m-eq0

@@ -1,13 +1,9 @@
 -- The search goes on where a row does not pass, and stops at the first that does.
 use borrow.Author.Rules.{rules}
 use native.Mathlib.Nat.{sub-zero}
-use Prim.Native.Nat.{◌-◌, ◌≤◌}
-use mathlib.Core.Path.{◌≡◌, sym, ◌∙◌}
-use Rattle.lent.specs.Tables.{first}
+use mathlib.Core.Path.{sym, ◌∙◌}
 use Rattle.lent.proofs.Walks.{first-hit, first_miss, first_end}
-use Rattle.machine.specs.Sizes.{row_count}
 use Rattle.layout.specs.declared.Found.{Found}
-use Rattle.lookups.specs.Test.{row_test}
 use Rattle.lookups.proofs.search.Goals as goal
 
 pub loop-i-init : goal.loop-i-init

@@ -1,9 +1,6 @@
-use borrow.Author.Rules.{rules}
-use native.Mathlib.Nat.{sub-zero}
 use Prim.Native.Nat.{◌-◌, ◌≤◌}
-use mathlib.Core.Path.{◌≡◌, sym, ◌∙◌}
+use mathlib.Core.Path.{◌≡◌}
 use Rattle.lent.specs.Tables.{first}
-use Rattle.lent.proofs.Walks.{first-hit, first_miss, first_end}
 use Rattle.machine.specs.Sizes.{row_count}
 use Rattle.layout.specs.declared.Found.{Found}
 use Rattle.lookups.specs.Test.{row_test}

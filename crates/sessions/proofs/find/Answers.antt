@@ -1,7 +1,6 @@
 -- A search by a number that is not 0 is a search of the sessions, and 0 is none's.
 use mathlib.Core.Path.{sym, ◌∙◌}
 use Rattle.sessions.proofs.Slots.{session_search, none-zero}
-use borrow.Author.Rules.{rules}
 use Rattle.sessions.proofs.find.Goals as goal
 
 pub returns-then-n-eq0 : goal.returns-then-n-eq0

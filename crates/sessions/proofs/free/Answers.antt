@@ -3,7 +3,6 @@ use native.Mathlib.Omega.{arith}
 use Rattle.machine.specs.State.{no_session}
 use Rattle.layout.specs.Layout.{enc_session}
 use Rattle.layout.proofs.Held.{session_stands}
-use borrow.Author.Rules.{rules}
 use Rattle.sessions.proofs.free.Goals as goal
 
 pub returns : goal.returns

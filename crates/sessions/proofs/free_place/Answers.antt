@@ -1,7 +1,6 @@
 -- A free place is one that starts with the number 0.
 use mathlib.Core.Path.{◌∙◌}
 use Rattle.sessions.proofs.Slots.{free_search}
-use borrow.Author.Rules.{rules}
 use Rattle.sessions.proofs.free_place.Goals as goal
 
 pub returns : goal.returns

@@ -5,7 +5,6 @@ use native.Mathlib.Omega.{arith}
 use Rattle.machine.specs.Sizes.{sessions_from, session_width}
 use Rattle.layout.proofs.Held.{session_is}
 use Rattle.sessions.proofs.Slots.{session_loaded}
-use borrow.Author.Rules.{rules}
 use Rattle.sessions.proofs.load.Goals as goal
 
 pub returns : goal.returns

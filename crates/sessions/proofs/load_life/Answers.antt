@@ -2,7 +2,6 @@
 use mathlib.Core.Path.{sym, ap, ◌∙◌}
 use Rattle.machine.specs.declared.Life.{Life}
 use Rattle.sessions.proofs.Slots.{life_sealed, life_open}
-use borrow.Author.Rules.{rules}
 use Rattle.sessions.proofs.load_life.Goals as goal
 
 pub returns-then-s-at-eq-SEALED : goal.returns-then-s-at-eq-SEALED

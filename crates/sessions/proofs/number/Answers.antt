@@ -2,7 +2,6 @@
 use mathlib.Core.Path.{◌∙◌}
 use native.Mathlib.Omega.{arith}
 use Rattle.layout.proofs.Held.{number_held}
-use borrow.Author.Rules.{rules}
 use Rattle.sessions.proofs.number.Goals as goal
 
 pub returns : goal.returns

@@ -1,7 +1,6 @@
 -- The four stores write the sixteen bytes of the record, which fits.
 use native.Mathlib.Omega.{arith}
 use Rattle.sessions.proofs.Slots.{session_stored}
-use borrow.Author.Rules.{rules}
 use Rattle.sessions.proofs.store.Goals as goal
 
 pub returns : goal.returns

@@ -3,7 +3,6 @@ use native.Mathlib.Omega.{arith}
 use mathlib.Core.Path.{refl}
 use Rattle.lent.proofs.Choices.{test_failed, test_passed}
 use Rattle.startup.proofs.Started.{started_size, started_read, started_write, started-ready, lifetime_small}
-use borrow.Author.Rules.{rules}
 use Rattle.startup.proofs.start.Goals as goal
 
 pub returns-then-s-ne-STATE_SIZE : goal.returns-then-s-ne-STATE_SIZE

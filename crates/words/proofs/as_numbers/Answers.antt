@@ -1,5 +1,4 @@
 -- `listed` has the three numbers in their order; each is taken by its place.
-use borrow.Author.Rules.{rules}
 use Rattle.words.proofs.as_numbers.Goals as goal
 
 pub returns : goal.returns

@@ -1,5 +1,4 @@
 -- Each arm says which answer it is.
-use borrow.Author.Rules.{rules}
 use Rattle.words.proofs.listed.Goals as goal
 
 pub returns-in-Ready : goal.returns-in-Ready

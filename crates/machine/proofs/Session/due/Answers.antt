@@ -1,5 +1,4 @@
 -- The life that the match found is the one the definition looks at.
-use borrow.Author.Rules.{rules}
 use Rattle.machine.proofs.Session.due.Goals as goal
 
 pub returns-in-Open : goal.returns-in-Open

@@ -1,6 +1,5 @@
 -- The tests of the step number pick the case.
 use borrow.Author.Tests.{lt-ltb, le-ltb}
-use borrow.Author.Rules.{rules}
 use Rattle.machine.proofs.Session.step.Goals as goal
 
 pub returns-then-step-count : goal.returns-then-step-count

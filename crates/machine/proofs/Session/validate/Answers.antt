@@ -1,7 +1,6 @@
 -- The tests of n and of the life pick the case.
 use borrow.Author.Tests.{eq-eqb, ne_eqb}
 use mathlib.Core.Path.{sym, ◌∙◌}
-use borrow.Author.Rules.{rules}
 use Rattle.machine.proofs.Session.validate.Goals as goal
 
 pub returns-then-n-count : goal.returns-then-n-count
