@@ -1,6 +1,6 @@
 -- A walk over a table that tests each record and notes its number: what is known after k records, as it starts and after a turn.
 use mathlib.Core.Path.{◌≡◌}
-use mathlib.Core.Bool.{Bool, true, false, not}
+use mathlib.Core.Bool.{Bool, true}
 use Prim.Native.Nat.{ℕ, ◌+◌, ◌≤◌, ◌<◌}
 use native.Mathlib.Omega.{arith}
 use Rattle.lent.specs.Tables.{every}

@@ -3,7 +3,6 @@ use mathlib.Core.Path.{refl}
 use Rattle.machine.specs.Refusals.{refusals}
 use Rattle.machine.specs.Effects.{effect}
 use Rattle.outcome.specs.Outcome.{tried}
-use borrow.Author.Rules.{rules}
 use Rattle.cache.proofs.act.Goals as goal
 
 pub returns-in-Begin : goal.returns-in-Begin

@@ -2,7 +2,6 @@
 use mathlib.Core.Path.{sym, ◌∙◌}
 use Rattle.machine.proofs.KeepsSound.{expire-sound}
 use Rattle.cache.proofs.Taken.{refused-expired, accepted_expired}
-use borrow.Author.Rules.{rules}
 use Rattle.cache.proofs.lapsing.Goals as goal
 
 pub returns-in-Is : goal.returns-in-Is

@@ -2,7 +2,6 @@
 use Rattle.lent.proofs.Choices.{test_failed, test_passed}
 use Rattle.layout.proofs.Formed.{formed}
 use Rattle.cache.proofs.Taken.{ran_refuses, ran_does}
-use borrow.Author.Rules.{rules}
 use Rattle.cache.proofs.run.Goals as goal
 
 pub returns-then-not-well_formed : goal.returns-then-not-well_formed

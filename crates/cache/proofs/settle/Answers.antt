@@ -2,7 +2,6 @@
 use mathlib.Core.Path.{sym, ◌∙◌}
 use Rattle.sweep.proofs.Lapsing.{nothing_lapses}
 use Rattle.cache.proofs.Taken.{step-by-acted}
-use borrow.Author.Rules.{rules}
 use Rattle.cache.proofs.settle.Goals as goal
 
 pub returns : goal.returns

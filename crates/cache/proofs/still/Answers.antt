@@ -1,7 +1,6 @@
 -- The clock is tested first; then the command decides, and an accepted one moves the clock.
 use mathlib.Core.Path.{sym, ◌∙◌}
 use Rattle.cache.proofs.Taken.{acted-before_clock, acted_past_time, refused_still, accepted_still}
-use borrow.Author.Rules.{rules}
 use Rattle.cache.proofs.still.Goals as goal
 
 pub returns-then-time-clock : goal.returns-then-time-clock

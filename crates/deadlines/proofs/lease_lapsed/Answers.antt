@@ -1,7 +1,6 @@
 -- A token of 0 is no lease (`lapsed_not`); any other has a deadline (`lapsed-by`).
 use mathlib.Core.Path.{sym, ◌∙◌}
 use native.Mathlib.Omega.{arith}
-use borrow.Author.Rules.{rules}
 use Rattle.machine.specs.State.{lease_on}
 use Rattle.layout.proofs.Held.{key_stands}
 use Rattle.deadlines.proofs.Deadlines.{lapsed_not, lapsed-by}

@@ -1,7 +1,6 @@
 -- A place with the number 0 is free (`due_not`); any other session says itself whether it is due (`due-by`).
 use mathlib.Core.Path.{◌≡◌, sym, ap, ◌∙◌}
 use native.Mathlib.Omega.{arith}
-use borrow.Author.Rules.{rules}
 use Rattle.machine.specs.State.{session_at}
 use Rattle.machine.specs.declared.Session.{Session}
 use Rattle.layout.specs.Fields.{session_in}

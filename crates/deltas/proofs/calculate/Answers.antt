@@ -1,6 +1,5 @@
 -- The number of the operation picks the sum or the difference.
 use borrow.Author.Tests.{eq-eqb, ne_eqb}
-use borrow.Author.Rules.{rules}
 use Rattle.deltas.proofs.calculate.Goals as goal
 
 pub returns-then-operation-eq-INCREMENT : goal.returns-then-operation-eq-INCREMENT

@@ -1,7 +1,6 @@
 -- What was read decides: where one of the two is no count there is no result, else the count that is written.
 use native.Mathlib.Omega.{arith}
 use mathlib.Core.Path.{sym, ◌∙◌}
-use borrow.Author.Rules.{rules}
 use Rattle.counts.specs.Count.{read_count}
 use Rattle.deltas.proofs.Making.{makes_drop, counted_value, counted_operand, counted}
 use Rattle.deltas.proofs.count.Goals as goal

@@ -1,6 +1,5 @@
 -- The two copies are the values one behind the other; where they would pass 64 bytes there is no result.
 use native.Mathlib.Omega.{arith}
-use borrow.Author.Rules.{rules}
 use Rattle.deltas.proofs.Making.{makes_drop, joined-long, joined}
 use Rattle.deltas.proofs.join.Goals as goal
 

@@ -1,5 +1,4 @@
 -- Each arm is one case of the definition, by the operation's number.
-use borrow.Author.Rules.{rules}
 use Rattle.deltas.proofs.Making.{operate-append, operate_prepend, operate-count}
 use Rattle.deltas.proofs.operate.Goals as goal
 

@@ -1,6 +1,5 @@
 -- The part of the slice is the window.
 use Rattle.lent.proofs.Splice.{part_win}
-use borrow.Author.Rules.{rules}
 use Rattle.deltas.proofs.operate_at.Goals as goal
 
 pub returns : goal.returns

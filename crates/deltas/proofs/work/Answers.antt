@@ -1,6 +1,5 @@
 -- The row's mark and the key's decide which value is worked on, and that value stands where its record says.
 use mathlib.Core.Path.{sym, ◌∙◌}
-use borrow.Author.Rules.{rules}
 use Rattle.lent.proofs.Choices.{test_failed, test_passed}
 use Rattle.machine.specs.State.{staged_in, row_at, cached}
 use Rattle.deltas.proofs.Working.{changed-drop, works_staged, changed-absent, works_cached}

@@ -1,5 +1,4 @@
 -- `among` is `mem`: as long as no number passed is n, none before place j is.
-use Prim.Native.Nat.{◌≤◌, ◌-◌}
 use mathlib.Core.Bool.{false}
 use mathlib.Core.Path.{◌≡◌, sym}
 use native.Mathlib.Omega.{arith}
@@ -9,7 +8,7 @@ use borrow.Author.Rules.{rules}
 use borrow.Author.Count.{below_more}
 use borrow.Author.Tests.{eq-eqb, ne_eqb}
 use Rattle.machine.proofs.Views.{none_any}
-use Rattle.layout.proofs.Scans.{NoneBelow, any-hit}
+use Rattle.layout.proofs.Scans.{any-hit}
 use Rattle.endings.proofs.among.Goals as goal
 
 pub loop-j-init : goal.loop-j-init

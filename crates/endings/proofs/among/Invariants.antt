@@ -1,14 +1,7 @@
 use Prim.Native.Nat.{◌≤◌, ◌-◌}
-use mathlib.Core.Bool.{false}
-use mathlib.Core.Path.{◌≡◌, sym}
-use native.Mathlib.Omega.{arith}
 use lib.Dec.{eqb}
-use lib.ListN.{length, get_or}
-use borrow.Author.Rules.{rules}
-use borrow.Author.Count.{below_more}
-use borrow.Author.Tests.{eq-eqb, ne_eqb}
-use Rattle.machine.proofs.Views.{none_any}
-use Rattle.layout.proofs.Scans.{NoneBelow, any-hit}
+use lib.ListN.{length}
+use Rattle.layout.proofs.Scans.{NoneBelow}
 use Rattle.endings.proofs.among.Given as goal
 
 abbrev pub invariant-loop-j : goal.invariant-loop-j

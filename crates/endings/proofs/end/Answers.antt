@@ -1,5 +1,4 @@
 -- The rows of the session end, which changes no session, and then its place is freed.
-use borrow.Author.Rules.{rules}
 use Rattle.endings.specs.Ends.{end_rows}
 use Rattle.endings.proofs.end.Goals as goal
 

@@ -2,7 +2,6 @@
 use mathlib.Core.Path.{◌≡◌, sym, ◌∙◌}
 use mathlib.Core.Bool.{true}
 use native.Mathlib.Omega.{arith}
-use borrow.Author.Rules.{rules}
 use Rattle.lent.proofs.Choices.{test_failed, test_passed}
 use Rattle.machine.specs.Tables.{mem}
 use Rattle.machine.specs.State.{row_at}

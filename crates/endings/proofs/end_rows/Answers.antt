@@ -1,11 +1,7 @@
 -- After i turns the bytes hold the state after i steps of `end_row`; all of them are `end_rows` (`rows_ended`).
-use Prim.Native.Nat.{◌≤◌, ◌-◌}
-use mathlib.Core.Path.{◌≡◌}
 use native.Mathlib.Omega.{arith}
-use lib.ListN.{length}
 use borrow.Author.Rules.{rules}
-use Rattle.machine.specs.Sizes.{state_size, row_count}
-use Rattle.layout.proofs.Walked.{Walked, walked_none, walked_more, walked_all}
+use Rattle.layout.proofs.Walked.{walked_none, walked_more, walked_all}
 use Rattle.endings.specs.Ends.{end_row}
 use Rattle.endings.proofs.Ended.{rows_ended}
 use Rattle.endings.proofs.end_rows.Goals as goal

@@ -1,12 +1,9 @@
 use Prim.Native.Nat.{◌≤◌, ◌-◌}
 use mathlib.Core.Path.{◌≡◌}
-use native.Mathlib.Omega.{arith}
 use lib.ListN.{length}
-use borrow.Author.Rules.{rules}
 use Rattle.machine.specs.Sizes.{state_size, row_count}
-use Rattle.layout.proofs.Walked.{Walked, walked_none, walked_more, walked_all}
+use Rattle.layout.proofs.Walked.{Walked}
 use Rattle.endings.specs.Ends.{end_row}
-use Rattle.endings.proofs.Ended.{rows_ended}
 use Rattle.endings.proofs.end_rows.Given as goal
 
 abbrev pub invariant-loop-i : goal.invariant-loop-i

@@ -1,5 +1,4 @@
 -- The rows of the session end, the values stay, and its place is freed: that is `leave` (`leave-whole`).
-use borrow.Author.Rules.{rules}
 use Rattle.endings.proofs.Whole.{leave-whole}
 use Rattle.endings.proofs.leave.Goals as goal
 

@@ -1,5 +1,4 @@
 -- Each ending is one change of the key's value, by what the called function ensures; where the value stays nothing is called.
-use borrow.Author.Rules.{rules}
 use Rattle.endings.proofs.settle.Goals as goal
 
 pub returns-in-Leaves : goal.returns-in-Leaves

@@ -1,5 +1,4 @@
 -- The reply is the one that the command by number gives, its answer told as numbers.
-use borrow.Author.Rules.{rules}
 use Rattle.exported.proofs.basalekko_run.Goals as goal
 
 pub returns : goal.returns

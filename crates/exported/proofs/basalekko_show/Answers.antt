@@ -1,5 +1,4 @@
 -- SHOW's answer, told as numbers.
-use borrow.Author.Rules.{rules}
 use Rattle.exported.proofs.basalekko_show.Goals as goal
 
 pub returns : goal.returns

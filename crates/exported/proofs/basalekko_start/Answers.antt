@@ -1,5 +1,4 @@
 -- The reply is the one that START gives, its answer told as numbers.
-use borrow.Author.Rules.{rules}
 use Rattle.exported.proofs.basalekko_start.Goals as goal
 
 pub returns : goal.returns

@@ -1,5 +1,4 @@
 -- The part that SHOW hands back has the place and the length which are told.
-use borrow.Author.Rules.{rules}
 use Rattle.exported.proofs.basalekko_stretch.Goals as goal
 
 pub returns : goal.returns

@@ -1,6 +1,5 @@
 -- The three numbers are the answer's.
 use mathlib.Core.Path.{refl}
-use borrow.Author.Rules.{rules}
 use Rattle.exported.proofs.tell.Goals as goal
 
 pub returns : goal.returns

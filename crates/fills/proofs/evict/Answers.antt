@@ -1,7 +1,6 @@
 -- The refusal, then whether a value is there; where one is, dropping it leaves the record with its lease.
 use native.Mathlib.Omega.{arith}
 use borrow.Author.Tests.{not-true, not-false}
-use borrow.Author.Rules.{rules}
 use Rattle.lent.proofs.Choices.{test_failed, test_passed}
 use Rattle.outcome.proofs.Told.{gives}
 use Rattle.fills.proofs.Tried.{evict_key, evict_empty, evict_evicted}

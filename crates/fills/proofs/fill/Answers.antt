@@ -2,7 +2,6 @@
 -- filled in.
 use native.Mathlib.Omega.{arith}
 use mathlib.Core.Path.{sym, ◌∙◌}
-use borrow.Author.Rules.{rules}
 use Rattle.outcome.proofs.Told.{gives}
 use Rattle.layout.proofs.Held.{key_stands}
 use Rattle.fills.proofs.Tried.{fill_key, fill_long, fill_unleased, fill_other, fill_stored}

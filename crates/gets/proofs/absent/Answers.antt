@@ -4,7 +4,6 @@ use native.Mathlib.Omega.{arith}
 use Rattle.machine.specs.declared.Answer.{Answer}
 use Rattle.machine.proofs.SoundFacts.{next-token}
 use Rattle.gets.proofs.Tried.{absent-blocked, absent-refused, absent-leased}
-use borrow.Author.Rules.{rules}
 use Rattle.outcome.proofs.Told.{gives}
 use Rattle.gets.proofs.absent.Goals as goal
 

@@ -1,7 +1,6 @@
 -- Each case is one of the definition's.
 use mathlib.Core.Path.{sym, ap}
 use Rattle.gets.specs.Got.{asked}
-use borrow.Author.Rules.{rules}
 use Rattle.gets.proofs.asked.Goals as goal
 
 pub returns-in-At : goal.returns-in-At

@@ -5,7 +5,6 @@ use native.Mathlib.Omega.{arith}
 use Prim.Native.Nat.{◌<◌}
 use Rattle.gets.specs.Got.{asked}
 use Rattle.gets.proofs.Tried.{got_key, got_unknown, got_held, got_others}
-use borrow.Author.Rules.{rules}
 use Rattle.outcome.proofs.Told.{gives}
 use Rattle.gets.proofs.get.Goals as goal
 

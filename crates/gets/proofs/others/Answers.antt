@@ -1,7 +1,6 @@
 -- A cached value is the HIT; without one the key is absent.
 use mathlib.Core.Path.{sym, ◌∙◌}
 use Rattle.gets.proofs.Tried.{others-hit, others-absent}
-use borrow.Author.Rules.{rules}
 use Rattle.gets.proofs.others.Goals as goal
 
 pub returns-in-At : goal.returns-in-At

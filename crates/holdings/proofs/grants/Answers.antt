@@ -1,7 +1,6 @@
 -- The table's word on what is held and what is asked.
 use mathlib.Core.Path.{◌∙◌}
 use Rattle.machine.specs.Refusals.{decide}
-use borrow.Author.Rules.{rules}
 use Rattle.holdings.proofs.grants.Goals as goal
 
 pub returns : goal.returns

@@ -12,7 +12,6 @@ use Rattle.machine.specs.Refusals.{held_on}
 use Rattle.layout.specs.Holds.{Holds}
 use Rattle.layout.proofs.Held.{key_stands}
 use Rattle.holdings.proofs.Holdings.{held_row, held_leased}
-use borrow.Author.Rules.{rules}
 use Rattle.holdings.proofs.held.Goals as goal
 use Rattle.holdings.proofs.held.Goals.{After-lease_token}
 

@@ -2,7 +2,6 @@
 use mathlib.Core.Path.{ap}
 use mathlib.Core.Bool.{not}
 use Rattle.machine.specs.Refusals.{blocked}
-use borrow.Author.Rules.{rules}
 use Rattle.holdings.proofs.is_blocked.Goals as goal
 
 pub returns : goal.returns

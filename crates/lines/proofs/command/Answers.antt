@@ -4,7 +4,6 @@ use Rattle.lines.specs.Fields.{fields_at, ending}
 use Rattle.lines.specs.Lines.{or_unreadable, shape_of, command_line}
 use Rattle.lines.specs.declared.Line.{Line}
 use Rattle.lines.proofs.Saying.{gives_none, GivesBy, gives_valued}
-use borrow.Author.Rules.{rules}
 use Rattle.lines.proofs.command.Goals as goal
 use Rattle.lines.proofs.command.Goals.{In-Are}
 

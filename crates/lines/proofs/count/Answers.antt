@@ -2,7 +2,6 @@
 use mathlib.Core.Path.{sym, ◌∙◌}
 use native.Mathlib.Omega.{arith}
 use Rattle.lines.proofs.Saying.{number_short, number-zero, number_other}
-use borrow.Author.Rules.{rules}
 use Rattle.lines.proofs.count.Goals as goal
 
 pub returns-then-text-lt2 : goal.returns-then-text-lt2

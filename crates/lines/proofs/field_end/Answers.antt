@@ -1,11 +1,6 @@
 -- `field_end` meets its contract: as long as no space is passed, the fields are those of the bytes left with the bytes passed before the first (`end_turn` of `Cutting`).
-use Prim.Native.Nat.{◌-◌, ◌≤◌}
-use mathlib.Core.Path.{◌≡◌}
-use lib.ListN.{length, drop}
 use borrow.Author.Rules.{rules}
-use Rattle.lent.specs.Bytes.{win}
-use Rattle.lines.specs.Fields.{fields, fields_at}
-use Rattle.lines.proofs.Cutting.{prefixed, end_start, end_turn, end_space, end_line}
+use Rattle.lines.proofs.Cutting.{end_start, end_turn, end_space, end_line}
 use Rattle.lines.proofs.field_end.Goals as goal
 
 pub loop-e-init : goal.loop-e-init

@@ -1,10 +1,9 @@
 use Prim.Native.Nat.{◌-◌, ◌≤◌}
 use mathlib.Core.Path.{◌≡◌}
 use lib.ListN.{length, drop}
-use borrow.Author.Rules.{rules}
 use Rattle.lent.specs.Bytes.{win}
 use Rattle.lines.specs.Fields.{fields, fields_at}
-use Rattle.lines.proofs.Cutting.{prefixed, end_start, end_turn, end_space, end_line}
+use Rattle.lines.proofs.Cutting.{prefixed}
 use Rattle.lines.proofs.field_end.Given as goal
 
 abbrev pub invariant-loop-e : goal.invariant-loop-e

@@ -1,6 +1,5 @@
 -- `number_at` meets its contract: where none is wanted nothing is taken; else the field is what stands up to its end, and the rest starts behind it (`number_cut` of `Saying`).
 use mathlib.Core.Path.{◌∙◌}
-use borrow.Author.Tests.{not-true, not-false}
 use Rattle.lines.proofs.Cutting.{fields_past}
 use Rattle.lines.proofs.Saying.{number_cut}
 use borrow.Author.Rules.{rules}

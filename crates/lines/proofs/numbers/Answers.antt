@@ -3,7 +3,6 @@ use mathlib.Core.Path.{◌≡◌}
 use mathlib.Core.Option.{some}
 use Rattle.lines.specs.Fields.{fields_at, ◌>>=◌, numbers, number_at}
 use Rattle.lines.specs.declared.One.{One}
-use borrow.Author.Rules.{rules}
 use Rattle.lines.proofs.numbers.Goals as goal
 use Rattle.lines.proofs.numbers.Goals.{After-number_at-4}
 

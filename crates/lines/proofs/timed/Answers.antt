@@ -7,7 +7,6 @@ use borrow.Author.Tests.{eq-eqb, ne_eqb}
 use Rattle.lines.specs.Fields.{fields_at}
 use Rattle.lines.specs.Lines.{shape_of, command_line, write_line, timed_line, write_letter}
 use Rattle.lines.proofs.Saying.{gives_none}
-use borrow.Author.Rules.{rules}
 use Rattle.lines.proofs.timed.Goals as goal
 use Rattle.lines.proofs.timed.Goals.{In-Is-letter_at}
 

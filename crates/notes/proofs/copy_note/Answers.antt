@@ -1,6 +1,5 @@
 -- The length is written, and behind it the bytes of a note that lies before it.
 use Rattle.notes.proofs.Notes.{note_copied}
-use borrow.Author.Rules.{rules}
 use Rattle.notes.proofs.copy_note.Goals as goal
 
 pub returns : goal.returns

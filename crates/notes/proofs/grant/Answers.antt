@@ -2,7 +2,6 @@
 use Rattle.book.specs.Book.{registered, with_granted}
 use borrow.Author.Tests.{le-ltb, lt-ltb}
 use Rattle.machine.specs.Sizes.{key_count}
-use borrow.Author.Rules.{rules}
 use Rattle.notes.proofs.grant.Goals as goal
 
 pub returns-then-key-ge-KEYS_END : goal.returns-then-key-ge-KEYS_END

@@ -4,7 +4,6 @@ use mathlib.Core.Path.{sym}
 use borrow.Author.Tests.{le-ltb, lt-ltb}
 use Rattle.machine.specs.Sizes.{key_count}
 use Rattle.notes.proofs.Notes.{same_empty}
-use borrow.Author.Rules.{rules}
 use Rattle.notes.proofs.is_registered.Goals as goal
 
 pub returns-then-key-ge-KEYS_END : goal.returns-then-key-ge-KEYS_END

@@ -2,7 +2,6 @@
 use Rattle.book.specs.Book.{note}
 use mathlib.Core.Path.{◌∙◌}
 use Rattle.lent.proofs.Splice.{part_win}
-use borrow.Author.Rules.{rules}
 use Rattle.notes.proofs.note_is.Goals as goal
 
 pub returns : goal.returns

@@ -2,7 +2,6 @@
 use Rattle.book.specs.Book.{with_registered}
 use borrow.Author.Tests.{le-ltb, lt-ltb}
 use Rattle.machine.specs.Sizes.{key_count}
-use borrow.Author.Rules.{rules}
 use Rattle.notes.proofs.write.Goals as goal
 
 pub returns-then-key-ge-KEYS_END : goal.returns-then-key-ge-KEYS_END

@@ -10,7 +10,6 @@ use Rattle.machine.specs.Words.{CLOCK, ARG}
 use Rattle.machine.specs.declared.Answer.{Answer}
 use Rattle.layout.proofs.Formed.{formed, holds_decoded}
 use Rattle.numbered.specs.Commands.{unknown}
-use borrow.Author.Rules.{rules}
 use Rattle.numbered.proofs.refuse_unknown.Goals as goal
 use Rattle.numbered.proofs.refuse_unknown.Goals.{After-clock}
 

@@ -1,6 +1,5 @@
 -- A number of the list is its command; any other is refused.
 use mathlib.Core.Path.{refl, sym, ◌∙◌}
-use borrow.Author.Rules.{rules}
 use Rattle.numbered.proofs.run_numbered.Goals as goal
 
 pub returns-in-Is : goal.returns-in-Is

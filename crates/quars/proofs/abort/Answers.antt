@@ -1,7 +1,6 @@
 -- The session leaves.
 use mathlib.Core.Path.{refl}
 use Rattle.outcome.proofs.Told.{gives}
-use borrow.Author.Rules.{rules}
 use Rattle.quars.proofs.abort.Goals as goal
 
 pub returns : goal.returns

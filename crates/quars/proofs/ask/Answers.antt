@@ -2,7 +2,6 @@
 use mathlib.Core.Path.{sym, ◌∙◌}
 use Rattle.layout.proofs.Held.{number-given}
 use Rattle.quars.proofs.Tried.{ask-by}
-use borrow.Author.Rules.{rules}
 use Rattle.quars.proofs.ask.Goals as goal
 
 pub returns-then-grants : goal.returns-then-grants

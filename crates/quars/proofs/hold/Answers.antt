@@ -2,7 +2,6 @@
 use mathlib.Core.Path.{sym, ◌∙◌}
 use Rattle.outcome.proofs.Told.{gives}
 use Rattle.quars.proofs.Tried.{hold-by}
-use borrow.Author.Rules.{rules}
 use Rattle.quars.proofs.hold.Goals as goal
 
 pub returns-then-holds : goal.returns-then-holds

@@ -1,7 +1,6 @@
 -- Without a row of its own the session holds no kind; else its row's kind is compared.
 use mathlib.Core.Path.{sym, ◌∙◌}
 use Rattle.quars.proofs.Holding.{holds-none, holds_row}
-use borrow.Author.Rules.{rules}
 use Rattle.quars.proofs.holds.Goals as goal
 
 pub returns-in_default : goal.returns-in_default

@@ -1,7 +1,6 @@
 -- A row of that kind is HELD; without one the table says whether it is granted.
 use mathlib.Core.Path.{sym, ◌∙◌}
 use Rattle.quars.proofs.Tried.{grants-by}
-use borrow.Author.Rules.{rules}
 use Rattle.quars.proofs.would_grant.Goals as goal
 
 pub returns-then-holds : goal.returns-then-holds

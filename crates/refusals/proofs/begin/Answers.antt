@@ -3,7 +3,6 @@ use mathlib.Core.Path.{sym, ◌∙◌}
 use Rattle.refusals.proofs.Expired.{head_expired}
 use Rattle.machine.proofs.FirstRefusal.{begin_full, begin_numbers, begin_none}
 use Rattle.refusals.proofs.Lefts.{meets}
-use borrow.Author.Rules.{rules}
 use Rattle.refusals.proofs.begin.Goals as goal
 
 pub returns-then-sessions_full : goal.returns-then-sessions_full

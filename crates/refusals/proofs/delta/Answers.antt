@@ -3,7 +3,6 @@ use Rattle.lent.proofs.Choices.{test_failed, test_passed}
 use mathlib.Core.Path.{◌∙◌}
 use Rattle.machine.proofs.FirstRefusal.{delta_key, delta_operation, delta_step, delta_long, delta_staging}
 use Rattle.refusals.proofs.Lefts.{meets}
-use borrow.Author.Rules.{rules}
 use Rattle.refusals.proofs.delta.Goals as goal
 
 pub returns-then-key : goal.returns-then-key

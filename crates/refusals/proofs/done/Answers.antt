@@ -2,7 +2,6 @@
 use Rattle.lent.proofs.Choices.{test_failed, test_passed}
 use Rattle.machine.proofs.FirstRefusal.{done_not_live, done_open, done_none}
 use Rattle.refusals.proofs.Lefts.{left_is, left_nobody, meets}
-use borrow.Author.Rules.{rules}
 use Rattle.refusals.proofs.done.Goals as goal
 
 pub returns-in_default : goal.returns-in_default

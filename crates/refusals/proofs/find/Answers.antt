@@ -3,7 +3,6 @@ use mathlib.Core.Path.{◌∙◌}
 use Rattle.machine.proofs.FirstRefusal.{clock_before, clock_past, clock_none}
 use Rattle.refusals.proofs.Expired.{head_expired}
 use Rattle.refusals.proofs.Lefts.{meets}
-use borrow.Author.Rules.{rules}
 use Rattle.refusals.proofs.find.Goals as goal
 
 pub returns-then-time-clock : goal.returns-then-time-clock

@@ -3,7 +3,6 @@ use mathlib.Core.Path.{sym, ◌∙◌}
 use Rattle.refusals.proofs.Expired.{head_expired}
 use Rattle.machine.proofs.FirstRefusal.{get_key, get_unknown, get_numbers, get_token, get_unleased}
 use Rattle.refusals.proofs.Lefts.{meets}
-use borrow.Author.Rules.{rules}
 use Rattle.refusals.proofs.get.Goals as goal
 
 pub returns-then-key : goal.returns-then-key

@@ -10,7 +10,6 @@ use Rattle.machine.specs.Refusals.{not_live}
 use Rattle.layout.specs.Holds.{Holds}
 use Rattle.refusals.specs.declared.after.Left.{Left}
 use Rattle.refusals.proofs.Lefts.{is_nobody, left-free}
-use borrow.Author.Rules.{rules}
 use Rattle.refusals.proofs.is_unknown.Goals as goal
 use Rattle.refusals.proofs.is_unknown.Goals.{After-session}
 

@@ -2,7 +2,6 @@
 use mathlib.Core.Path.{refl}
 use Rattle.machine.specs.Expiry.{expire}
 use Rattle.machine.specs.Refusals.{refusals}
-use borrow.Author.Rules.{rules}
 use Rattle.refusals.proofs.of.Goals as goal
 
 pub returns-in-Begin : goal.returns-in-Begin

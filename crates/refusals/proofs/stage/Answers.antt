@@ -2,7 +2,6 @@
 use mathlib.Core.Path.{◌∙◌}
 use Rattle.machine.proofs.FirstRefusal.{stage_key, stage_step, stage_long, stage_staging}
 use Rattle.refusals.proofs.Lefts.{meets}
-use borrow.Author.Rules.{rules}
 use Rattle.refusals.proofs.stage.Goals as goal
 
 pub returns-then-key : goal.returns-then-key

@@ -7,7 +7,6 @@ use Rattle.machine.proofs.FirstRefusal.{staging_not_live}
 use Rattle.stages.specs.declared.Staging.{Staging}
 use Rattle.refusals.specs.Met.{Meets}
 use Rattle.refusals.proofs.Lefts.{meets, left_is, left_nobody, refusal_in, left-stages}
-use borrow.Author.Rules.{rules}
 use Rattle.refusals.proofs.staging.Goals as goal
 use Rattle.refusals.proofs.staging.Goals.{After-find}
 

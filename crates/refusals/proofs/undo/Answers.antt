@@ -1,7 +1,6 @@
 -- Whoever is left may go.
 use Rattle.machine.proofs.FirstRefusal.{undo_not_live, undo_none}
 use Rattle.refusals.proofs.Lefts.{left_is, left_nobody, meets}
-use borrow.Author.Rules.{rules}
 use Rattle.refusals.proofs.undo.Goals as goal
 
 pub returns-in-Is : goal.returns-in-Is

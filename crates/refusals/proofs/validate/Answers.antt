@@ -8,7 +8,6 @@ use Rattle.machine.specs.declared.Command.TheVariants.{Validate}
 use Rattle.machine.proofs.FirstRefusal.{validate_steps, validate_not_live}
 use Rattle.refusals.specs.Met.{Meets}
 use Rattle.refusals.proofs.Lefts.{left_is, left_nobody, meets, clash_in, validates}
-use borrow.Author.Rules.{rules}
 use Rattle.refusals.proofs.validate.Goals as goal
 use Rattle.refusals.proofs.validate.Goals.{After-validate}
 

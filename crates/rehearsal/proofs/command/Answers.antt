@@ -1,7 +1,6 @@
 -- A command counts only after START has answered READY; then its number decides.
 use Rattle.lent.proofs.Choices.{test_failed, test_passed}
 use Rattle.rehearsal.proofs.Turns.{says_here, not_taken, command_early, command_is, command_unknown}
-use borrow.Author.Rules.{rules}
 use Rattle.rehearsal.proofs.command.Goals as goal
 
 pub returns-then-not-started : goal.returns-then-not-started

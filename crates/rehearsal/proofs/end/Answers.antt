@@ -1,7 +1,6 @@
 -- Buffers that are not lent right are left alone; else the two counts are printed.
 use Rattle.lent.proofs.Choices.{test_failed, test_passed}
 use Rattle.rehearsal.proofs.Turns.{lent_sizes, end_idle, end_printed}
-use borrow.Author.Rules.{rules}
 use Rattle.rehearsal.proofs.end.Goals as goal
 
 pub returns-then-not-lent_right : goal.returns-then-not-lent_right

@@ -1,6 +1,5 @@
 -- What the command would break is read first; the answer is told with it.
 use Rattle.rules.proofs.Told.{command_says}
-use borrow.Author.Rules.{rules}
 use Rattle.rehearsal.proofs.run.Goals as goal
 
 pub returns : goal.returns

@@ -1,7 +1,6 @@
 -- An A line counts only before START has answered READY.
 use mathlib.Core.Path.{sym, ◌∙◌}
 use Rattle.rehearsal.proofs.Turns.{says_here, not_taken, start_late, start_first}
-use borrow.Author.Rules.{rules}
 use Rattle.rehearsal.proofs.start.Goals as goal
 
 pub returns-then-started : goal.returns-then-started

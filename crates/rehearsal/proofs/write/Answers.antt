@@ -1,7 +1,6 @@
 -- A C line counts only after START has answered READY; then it is the write.
 use Rattle.lent.proofs.Choices.{test_failed, test_passed}
 use Rattle.rehearsal.proofs.Turns.{says_here, not_taken, write_early, write_started}
-use borrow.Author.Rules.{rules}
 use Rattle.rehearsal.proofs.write.Goals as goal
 
 pub returns-then-not-started : goal.returns-then-not-started

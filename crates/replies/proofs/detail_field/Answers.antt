@@ -1,7 +1,6 @@
 -- `detail_field` meets its contract: the space stands behind the detail.
 use native.Mathlib.Omega.{arith}
 use Rattle.replies.proofs.Lines.{put_then, detail_most}
-use borrow.Author.Rules.{rules}
 use Rattle.replies.proofs.detail_field.Goals as goal
 
 pub byte-requires : goal.byte-requires

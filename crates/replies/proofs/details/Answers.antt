@@ -4,7 +4,6 @@ use native.Mathlib.Omega.{arith}
 use borrow.Author.Tests.{eq-eqb, ne_eqb}
 use Rattle.hex_text.proofs.Printing.{hex_most}
 use Rattle.replies.specs.Replies.{detailed}
-use borrow.Author.Rules.{rules}
 use Rattle.machine.specs.Sizes.{value_max}
 use Rattle.machine.specs.Words.{HIT}
 use Rattle.replies.proofs.details.Goals as goal

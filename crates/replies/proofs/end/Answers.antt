@@ -1,7 +1,6 @@
 -- `end` meets its contract: the three fields stand one behind the other.
 use Rattle.replies.proofs.Lines.{end_put, number_most}
 use native.Mathlib.Omega.{arith}
-use borrow.Author.Rules.{rules}
 use Rattle.lent.specs.Text.{space}
 use Rattle.replies.proofs.end.Goals as goal
 

@@ -3,7 +3,6 @@ use mathlib.Core.Path.{sym, ap, ◌∙◌}
 use native.Mathlib.Omega.{arith}
 use lib.ListN.{length}
 use Rattle.replies.proofs.Names.{front_is}
-use borrow.Author.Rules.{rules}
 use Rattle.replies.proofs.name.Goals as goal
 
 pub slice_bounds-text-end : goal.slice_bounds-text-end

@@ -1,7 +1,6 @@
 -- `name_length` meets its contract: the code's table is `word_lengths`.
 use Rattle.replies.proofs.Names.{word_lengths, length_at}
 use Rattle.replies.specs.Replies.{name_of, words}
-use borrow.Author.Rules.{rules}
 use Rattle.replies.proofs.name_length.Goals as goal
 
 pub returns : goal.returns

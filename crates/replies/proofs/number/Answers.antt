@@ -1,7 +1,6 @@
 -- `number` meets its contract: the byte stands behind the digits, of which there are at most 20.
 use native.Mathlib.Omega.{arith}
 use Rattle.replies.proofs.Lines.{put_then, printed_most}
-use borrow.Author.Rules.{rules}
 use Rattle.replies.proofs.number.Goals as goal
 
 pub byte-requires : goal.byte-requires

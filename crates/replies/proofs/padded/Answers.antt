@@ -1,7 +1,6 @@
 -- `padded` meets its contract: the code's table is `padded_words`, whose fronts are the words.
 use Rattle.replies.proofs.Names.{padded_words, front_at}
 use Rattle.replies.specs.Replies.{name_of, words}
-use borrow.Author.Rules.{rules}
 use Rattle.replies.proofs.padded.Goals as goal
 
 pub returns : goal.returns

@@ -1,6 +1,5 @@
 -- `done_risk` meets its contract: rule 4 would be broken exactly where `stale_for` finds a row.
 use mathlib.Core.Path.{sym, ◌∙◌}
-use borrow.Author.Rules.{rules}
 use Rattle.risks.proofs.done_risk.Goals as goal
 
 pub returns-then-stale_for : goal.returns-then-stale_for

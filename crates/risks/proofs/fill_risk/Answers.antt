@@ -1,6 +1,5 @@
 -- `fill_risk` meets its contract: rule 1 would be broken exactly where neither of the two notes is the value.
 use mathlib.Core.Path.{sym, ◌∙◌}
-use borrow.Author.Rules.{rules}
 use Rattle.risks.proofs.fill_risk.Goals as goal
 
 pub returns-then-is_registered : goal.returns-then-is_registered

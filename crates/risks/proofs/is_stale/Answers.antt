@@ -8,7 +8,6 @@ use Rattle.machine.specs.Sizes.{staged_at}
 use Rattle.machine.specs.State.{row_at}
 use Rattle.book.specs.Book.{registered}
 use Rattle.risks.proofs.Stale.{differs_other, differs_unstaged, differs_row}
-use borrow.Author.Rules.{rules}
 use Rattle.risks.proofs.is_stale.Goals as goal
 
 pub returns-then-session : goal.returns-then-session

@@ -1,7 +1,6 @@
 -- A wrong length is not well formed; else each arm is the risk of its command, on the state that the bytes hold.
 use Rattle.layout.proofs.Formed.{formed, holds_decoded}
 use Rattle.risks.specs.Risks.{wrote_for, stale_for}
-use borrow.Author.Rules.{rules}
 use Rattle.risks.proofs.risk.Goals as goal
 
 pub returns-then-cache-ne-STATE_SIZE : goal.returns-then-cache-ne-STATE_SIZE

@@ -1,11 +1,6 @@
 -- As long as no row passed is stale, none before the place is; one that is stale is a hit for all.
-use Prim.Native.Nat.{◌≤◌, ◌-◌}
 use native.Mathlib.Omega.{arith}
-use Rattle.machine.specs.Sizes.{row_count}
-use Rattle.machine.specs.State.{no_row}
-use Rattle.machine.specs.Test.{differs}
-use Rattle.layout.proofs.Scans.{Scanned, scanned_none, scanned_more, scanned_hit, scanned_all}
-use Rattle.book.specs.Book.{registered}
+use Rattle.layout.proofs.Scans.{scanned_none, scanned_more, scanned_hit, scanned_all}
 use borrow.Author.Rules.{rules}
 use Rattle.risks.proofs.stale_for.Goals as goal
 

@@ -1,11 +1,9 @@
 use Prim.Native.Nat.{◌≤◌, ◌-◌}
-use native.Mathlib.Omega.{arith}
 use Rattle.machine.specs.Sizes.{row_count}
 use Rattle.machine.specs.State.{no_row}
 use Rattle.machine.specs.Test.{differs}
-use Rattle.layout.proofs.Scans.{Scanned, scanned_none, scanned_more, scanned_hit, scanned_all}
+use Rattle.layout.proofs.Scans.{Scanned}
 use Rattle.book.specs.Book.{registered}
-use borrow.Author.Rules.{rules}
 use Rattle.risks.proofs.stale_for.Given as goal
 
 abbrev pub invariant-loop-i : goal.invariant-loop-i

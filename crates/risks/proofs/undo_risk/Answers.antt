@@ -1,6 +1,5 @@
 -- `undo_risk` meets its contract: rule 3 would be broken exactly where `wrote_for` finds a mark.
 use mathlib.Core.Path.{sym, ◌∙◌}
-use borrow.Author.Rules.{rules}
 use Rattle.risks.proofs.undo_risk.Goals as goal
 
 pub returns-then-wrote_for : goal.returns-then-wrote_for

@@ -3,7 +3,6 @@ use mathlib.Core.Path.{sym, ◌∙◌}
 use native.Mathlib.Omega.{arith}
 use Rattle.layout.proofs.Search.{found_below}
 use Rattle.risks.proofs.Wrote.{wrote_found, wrote_nothing}
-use borrow.Author.Rules.{rules}
 use Rattle.risks.proofs.wrote_for.Goals as goal
 
 pub mark-requires : goal.mark-requires

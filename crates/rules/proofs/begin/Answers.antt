@@ -2,7 +2,6 @@
 use mathlib.Core.Path.{sym, ap, ◌∙◌}
 use Rattle.words.specs.declared.Numbers.{Numbers}
 use Rattle.rules.proofs.Told.{begin_refused, begin_ready}
-use borrow.Author.Rules.{rules}
 use Rattle.rules.proofs.begin.Goals as goal
 
 pub returns-then-n-ne-READY : goal.returns-then-n-ne-READY

@@ -1,6 +1,5 @@
 -- The word decides both what is noted and what is told.
 use Rattle.rules.proofs.Told.{concluded}
-use borrow.Author.Rules.{rules}
 use Rattle.rules.proofs.conclude.Goals as goal
 
 pub returns : goal.returns

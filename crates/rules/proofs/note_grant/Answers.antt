@@ -1,7 +1,6 @@
 -- Only a LEASE is noted, on the key that the command asks for.
 use mathlib.Core.Path.{◌∙◌}
 use Rattle.rules.proofs.Told.{noted-none, noted-grant}
-use borrow.Author.Rules.{rules}
 use Rattle.rules.proofs.note_grant.Goals as goal
 
 pub returns-then-word-ne-LEASE : goal.returns-then-word-ne-LEASE

@@ -1,7 +1,6 @@
 -- The risk counts exactly at the word that is watched.
 use mathlib.Core.Path.{sym, ◌∙◌}
 use borrow.Author.Tests.{eq-eqb, ne_eqb}
-use borrow.Author.Rules.{rules}
 use Rattle.rules.proofs.rule_of.Goals as goal
 
 pub returns-then-word-watched : goal.returns-then-word-watched

@@ -4,7 +4,6 @@ use lib.Seq.{length-take-le}
 use native.Mathlib.Omega.{arith}
 use Rattle.script.proofs.Steps.{finish-none, finish_line}
 use Rattle.script.proofs.Prints.{printed-length}
-use borrow.Author.Rules.{rules}
 use Rattle.script.proofs.finish.Goals as goal
 
 pub returns-then-held-eq0 : goal.returns-then-held-eq0

@@ -2,7 +2,6 @@
 use mathlib.Core.Path.{sym, ◌∙◌}
 use lib.Seq.{length-take-le}
 use Rattle.script.proofs.Steps.{step_held, step_line, line_within}
-use borrow.Author.Rules.{rules}
 use Rattle.script.proofs.step.Goals as goal
 
 pub slice_bounds-answer-end : goal.slice_bounds-answer-end

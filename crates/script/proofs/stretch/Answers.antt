@@ -1,13 +1,8 @@
 -- `stretch` meets its contract: the bytes before i are answered and held, and where it stops the chunk ends or there is no room.
 use borrow.Author.Rules.{rules}
-use Prim.Native.Nat.{◌-◌}
-use mathlib.Core.Path.{◌≡◌, refl, sym, ◌∙◌}
+use mathlib.Core.Path.{refl}
 use mathlib.Core.Logic.{inl, inr}
 use native.Mathlib.Omega.{arith}
-use lib.ListN.{length}
-use Rattle.lent.specs.Bytes.{win}
-use Rattle.feed.specs.Held.{buffer, pushed_all}
-use Rattle.script.specs.Buffers.{opened, HeldFits, Reaches}
 use Rattle.script.proofs.Prints.{printed-length}
 use Rattle.script.proofs.Stretches.{buffer-none, buffer-more, reaches_none, reaches_more}
 use Rattle.script.proofs.stretch.Goals as goal

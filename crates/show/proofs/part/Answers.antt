@@ -1,6 +1,5 @@
 -- The check refuses with the empty part at the first byte, or the bytes hold a state and its part is given.
 use Rattle.show.proofs.Formed.{unformed_shows, formed_size, formed_holds, formed_shows}
-use borrow.Author.Rules.{rules}
 use Rattle.show.proofs.part.Goals as goal
 
 pub returns-then-not-well_formed : goal.returns-then-not-well_formed

@@ -1,6 +1,5 @@
 -- The check refuses, or the bytes hold a state and its answer is given.
 use Rattle.show.proofs.Formed.{unformed_shows, formed_size, formed_holds, formed_shows}
-use borrow.Author.Rules.{rules}
 use Rattle.show.proofs.show.Goals as goal
 
 pub returns-then-not-well_formed : goal.returns-then-not-well_formed

@@ -3,7 +3,6 @@ use mathlib.Core.Path.{refl}
 use native.Mathlib.Nat.{zero-add}
 use Rattle.lent.specs.Bytes.{win}
 use Rattle.show.proofs.Formed.{unformed_shows, formed_size, formed_holds, formed_shows}
-use borrow.Author.Rules.{rules}
 use Rattle.show.proofs.stretch.Goals as goal
 
 pub returns-then-not-well_formed : goal.returns-then-not-well_formed

@@ -6,7 +6,6 @@ use Rattle.lent.proofs.Choices.{test_failed, test_passed}
 use Rattle.machine.specs.State.{cached}
 use Rattle.sights.specs.Sights.{placed}
 use Rattle.sights.proofs.Sights.{cached-absent, cached_there}
-use borrow.Author.Rules.{rules}
 use Rattle.sights.proofs.cached_sight.Goals as goal
 
 pub returns-then-not-has_value : goal.returns-then-not-has_value

@@ -8,7 +8,6 @@ use Rattle.layout.specs.Holds.{Holds}
 use Rattle.layout.specs.declared.Found.{Found}
 use Rattle.layout.proofs.Slots.{slot_by}
 use Rattle.sights.proofs.Known.{known_zero, known_by}
-use borrow.Author.Rules.{rules}
 use Rattle.sights.proofs.is_unknown.Goals as goal
 use Rattle.sights.proofs.is_unknown.Goals.{After-find-place}
 

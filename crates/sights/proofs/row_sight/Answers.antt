@@ -12,7 +12,6 @@ use Rattle.machine.specs.Words.{INVALIDATE}
 use Rattle.layout.specs.Holds.{Holds}
 use Rattle.sights.specs.Sights.{placed}
 use Rattle.sights.proofs.Sights.{row_staged, row_dropped, row_unstaged}
-use borrow.Author.Rules.{rules}
 use Rattle.sights.proofs.row_sight.Goals as goal
 use Rattle.sights.proofs.row_sight.Goals.{After-kind}
 

@@ -2,7 +2,6 @@
 use Rattle.askers.proofs.Asked.{asks, asks_own}
 use mathlib.Core.Path.{sym, ◌∙◌}
 use Rattle.stages.proofs.Found.{staging_refused}
-use borrow.Author.Rules.{rules}
 use Rattle.stages.proofs.find.Goals as goal
 
 pub steps-requires : goal.steps-requires

@@ -7,7 +7,6 @@ use Rattle.askers.specs.Asker.{asker_of}
 use Rattle.askers.specs.declared.Asker.{Asker}
 use Rattle.stages.specs.Staging.{staging_of}
 use Rattle.stages.proofs.Found.{stepped, staging_rowless, staging_kind, staging_steps}
-use borrow.Author.Rules.{rules}
 use Rattle.stages.proofs.steps.Goals as goal
 use Rattle.stages.proofs.steps.Goals.{After-step}
 

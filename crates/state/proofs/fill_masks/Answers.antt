@@ -1,10 +1,10 @@
 -- The invariant: the first half is 0, and what was passed of the second is ones.
-use Prim.Native.Nat.{◌+◌, ◌-◌, ◌≤◌}
+use Prim.Native.Nat.{◌+◌}
 use mathlib.Core.Path.{◌≡◌}
 use native.Mathlib.Omega.{arith}
 use borrow.Author.Rules.{rules}
 use Rattle.machine.specs.Sizes.{value_max}
-use Rattle.state.proofs.Masks.{Filled, filled_none, filled_more, masks_filled}
+use Rattle.state.proofs.Masks.{filled_none, filled_more, masks_filled}
 use Rattle.state.proofs.fill_masks.Goals as goal
 
 pub loop-i-init : goal.loop-i-init

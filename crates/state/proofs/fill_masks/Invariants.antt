@@ -1,9 +1,6 @@
 use Prim.Native.Nat.{◌+◌, ◌-◌, ◌≤◌}
-use mathlib.Core.Path.{◌≡◌}
-use native.Mathlib.Omega.{arith}
-use borrow.Author.Rules.{rules}
 use Rattle.machine.specs.Sizes.{value_max}
-use Rattle.state.proofs.Masks.{Filled, filled_none, filled_more, masks_filled}
+use Rattle.state.proofs.Masks.{Filled}
 use Rattle.state.proofs.fill_masks.Given as goal
 
 abbrev pub invariant-loop-i : goal.invariant-loop-i

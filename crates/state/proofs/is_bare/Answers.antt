@@ -1,8 +1,7 @@
 -- The bytes joined, each under its mask, are 0 exactly if those passed from the n-th on are.
-use Prim.Native.Nat.{◌+◌, ◌-◌, ◌≤◌}
+use Prim.Native.Nat.{◌+◌, ◌-◌}
 use mathlib.Core.Path.{◌≡◌, refl}
 use native.Mathlib.Omega.{arith}
-use lib.Dec.{eqb}
 use borrow.Author.Rules.{rules}
 use Rattle.lent.specs.Bytes.{win}
 use Rattle.lent.specs.Tables.{all_zero}

@@ -1,12 +1,9 @@
 use Prim.Native.Nat.{◌+◌, ◌-◌, ◌≤◌}
-use mathlib.Core.Path.{◌≡◌, refl}
-use native.Mathlib.Omega.{arith}
+use mathlib.Core.Path.{◌≡◌}
 use lib.Dec.{eqb}
-use borrow.Author.Rules.{rules}
 use Rattle.lent.specs.Bytes.{win}
 use Rattle.lent.specs.Tables.{all_zero}
 use Rattle.machine.specs.Sizes.{value_max}
-use Rattle.state.proofs.Zeros.{mask_turn}
 use Rattle.state.proofs.is_bare.Given as goal
 
 abbrev pub invariant-loop-i : goal.invariant-loop-i

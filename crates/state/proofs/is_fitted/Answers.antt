@@ -1,7 +1,6 @@
 -- The length is at most 64, and then the result is that of the scan behind the value.
 use native.Mathlib.Omega.{arith}
 use borrow.Author.Tests.{le-leb, lt-leb}
-use borrow.Author.Rules.{rules}
 use Rattle.machine.specs.Sizes.{value_max}
 use Rattle.state.specs.Forms.{fitted}
 use Rattle.state.proofs.is_fitted.Goals as goal

@@ -3,7 +3,6 @@ use native.Mathlib.Omega.{arith}
 use lib.ListN.{get_or}
 use borrow.Author.Tests.{eq-eqb, ne_eqb}
 use Rattle.machine.specs.Sizes.{value_max}
-use borrow.Author.Rules.{rules}
 use Rattle.state.proofs.Zeros.{zero-first}
 use Rattle.state.proofs.is_plain.Goals as goal
 

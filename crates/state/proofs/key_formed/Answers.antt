@@ -1,5 +1,4 @@
 -- A key is its value and its lease.
-use borrow.Author.Rules.{rules}
 use Rattle.state.specs.Forms.{key_formed}
 use Rattle.lent.proofs.Choices.{test_failed, test_passed}
 use Rattle.state.proofs.key_formed.Goals as goal

@@ -1,19 +1,13 @@
 use mathlib.Core.Bool.{Bool, false}
 use mathlib.Core.List.{List}
 use Prim.Native.Nat.{ℕ, ◌+◌, ◌-◌, ◌*◌}
-use mathlib.Core.Path.{◌≡◌, ◌∙◌}
-use borrow.Author.Tests.{not-true}
+use mathlib.Core.Path.{◌≡◌}
 use Rattle.lent.specs.Bytes.{win}
-use Rattle.lent.proofs.Choices.{test_failed}
-use Rattle.lent.proofs.Splice.{part_win}
-use Rattle.lent.proofs.Walks.{every_fails}
 use Rattle.machine.specs.Sizes.{key_count, keys_from, key_width}
 use Rattle.layout.specs.Layout.{dec_head}
 use Rattle.joins.specs.Joins.{tokens, Marked}
-use Rattle.joins.proofs.Marks.{marked-none, met_noted, met_more}
-use Rattle.state.specs.Forms.{key_formed, read_limit, keys_formed, keys_fit}
-use Rattle.state.proofs.Walked.{Walked, walked_none, walked_more, walked_all}
-use borrow.Author.Rules.{rules}
+use Rattle.state.specs.Forms.{key_formed, read_limit}
+use Rattle.state.proofs.Walked.{Walked}
 use Rattle.state.proofs.keys_fit.Given as goal
 
 -- key k is formed

@@ -4,7 +4,6 @@ use mathlib.Core.Path.{ap}
 use native.Mathlib.Omega.{arith}
 use lib.Dec.{eqb, leb}
 use borrow.Author.Tests.{eq-eqb, ne_eqb, lt-ltb, le-ltb}
-use borrow.Author.Rules.{rules}
 use Rattle.lent.specs.Bytes.{le32}
 use Rattle.state.specs.Forms.{lease_formed}
 use Rattle.state.proofs.lease_formed.Goals as goal

@@ -4,7 +4,6 @@ use mathlib.Core.Path.{ap}
 use native.Mathlib.Omega.{arith}
 use lib.Dec.{leb}
 use borrow.Author.Tests.{le-leb, lt-leb}
-use borrow.Author.Rules.{rules}
 use Rattle.lent.specs.Bytes.{le32}
 use Rattle.machine.specs.Sizes.{life_max}
 use Rattle.state.proofs.lifetime_at.Goals as goal

@@ -3,7 +3,6 @@ use mathlib.Core.Path.{ap, ◌∙◌}
 use native.Mathlib.Omega.{arith}
 use lib.ListN.{get_or}
 use borrow.Author.Tests.{eq-eqb, ne_eqb, le-leb, lt-leb}
-use borrow.Author.Rules.{rules}
 use Rattle.lent.specs.Bytes.{le32}
 use Rattle.lent.specs.Tables.{all_zero}
 use Rattle.lent.proofs.Splice.{win-whole}

@@ -1,19 +1,14 @@
 -- After i turns each of the first i rows is formed and joins, and all is known at row i that `join` asks.
-use Prim.Native.Nat.{ℕ, ◌+◌, ◌-◌, ◌*◌, ◌≤◌}
 use mathlib.Core.Path.{◌≡◌, ◌∙◌}
-use mathlib.Core.Bool.{Bool, true, and-false}
-use mathlib.Core.List.{List}
+use mathlib.Core.Bool.{and-false}
 use native.Mathlib.Omega.{arith}
-use borrow.Author.Tests.{not-false}
-use Rattle.lent.specs.Bytes.{win}
-use Rattle.lent.specs.Tables.{every}
 use Rattle.lent.proofs.Walks.{every-none, every_more, every_fails}
 use Rattle.lent.proofs.Choices.{test_failed, test_passed}
 use Rattle.lent.proofs.Splice.{part_win}
-use Rattle.machine.specs.Sizes.{row_count, rows_from, row_width}
-use Rattle.joins.specs.Joins.{join_ok, Ready}
+use Rattle.machine.specs.Sizes.{row_count}
+use Rattle.joins.specs.Joins.{join_ok}
 use Rattle.joins.proofs.Joins.{ready-none}
-use Rattle.state.specs.Forms.{row_formed, rows_formed, rows_fit}
+use Rattle.state.specs.Forms.{rows_formed, rows_fit}
 use borrow.Author.Rules.{rules}
 use Rattle.state.proofs.rows_fit.Goals as goal
 use Rattle.state.proofs.rows_fit.Goals.{After-row_formed}

@@ -6,7 +6,6 @@ use native.Mathlib.Omega.{arith}
 use lib.Dec.{eqb, leb}
 use lib.ListN.{get_or}
 use borrow.Author.Tests.{eq-eqb, ne_eqb, lt-ltb, le-ltb, le-leb, lt-leb}
-use borrow.Author.Rules.{rules}
 use Rattle.lent.specs.Bytes.{le32, le64}
 use Rattle.machine.specs.Sizes.{step_max}
 use Rattle.state.specs.Forms.{life_formed, session_formed}

@@ -1,22 +1,17 @@
 -- After j turns each of the first j sessions is formed and entered, and if none is loose they are distinct.
-use mathlib.Core.Bool.{Bool, false, and-false}
-use mathlib.Core.List.{List}
-use Prim.Native.Nat.{ℕ, ◌+◌, ◌-◌, ◌*◌}
+use mathlib.Core.Bool.{false, and-false}
 use mathlib.Core.Path.{◌≡◌, refl, sym, ◌∙◌}
-use Rattle.lent.specs.Bytes.{win}
 use Rattle.lent.proofs.Choices.{clash, test_failed}
 use Rattle.lent.proofs.Splice.{part_win}
 use Rattle.lent.proofs.Walks.{every_fails}
-use Rattle.machine.specs.Sizes.{session_count, sessions_from, session_width}
+use Rattle.machine.specs.Sizes.{session_count}
 use Rattle.layout.specs.Layout.{dec_head}
-use Rattle.joins.specs.Joins.{session_numbers, Entered}
 use Rattle.joins.proofs.Gathered.{distinct_gathered}
 use Rattle.joins.proofs.Loose.{loosened_distinct}
 use Rattle.joins.proofs.Seats.{entered_none, number_sat, sat_more}
-use Rattle.state.specs.Forms.{session_formed, write_limit, sessions_formed, sessions_fit}
-use Rattle.state.proofs.Walked.{Walked, walked_none, walked_more, walked_all}
+use Rattle.state.specs.Forms.{sessions_formed, sessions_fit}
+use Rattle.state.proofs.Walked.{walked_none, walked_more, walked_all}
 use borrow.Author.Rules.{rules}
-use borrow.Author.Tests.{not-true, not-false}
 use Rattle.state.proofs.sessions_fit.Goals as goal
 use Rattle.state.proofs.sessions_fit.Goals.{After-session_formed}
 use Rattle.state.proofs.sessions_fit.Invariants.{Formed}

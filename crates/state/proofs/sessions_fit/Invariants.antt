@@ -1,21 +1,13 @@
-use mathlib.Core.Bool.{Bool, false, and-false}
+use mathlib.Core.Bool.{Bool}
 use mathlib.Core.List.{List}
 use Prim.Native.Nat.{ℕ, ◌+◌, ◌-◌, ◌*◌}
-use mathlib.Core.Path.{◌≡◌, refl, sym, ◌∙◌}
+use mathlib.Core.Path.{◌≡◌}
 use Rattle.lent.specs.Bytes.{win}
-use Rattle.lent.proofs.Choices.{clash, test_failed}
-use Rattle.lent.proofs.Splice.{part_win}
-use Rattle.lent.proofs.Walks.{every_fails}
 use Rattle.machine.specs.Sizes.{session_count, sessions_from, session_width}
 use Rattle.layout.specs.Layout.{dec_head}
 use Rattle.joins.specs.Joins.{session_numbers, Entered}
-use Rattle.joins.proofs.Gathered.{distinct_gathered}
-use Rattle.joins.proofs.Loose.{loosened_distinct}
-use Rattle.joins.proofs.Seats.{entered_none, number_sat, sat_more}
-use Rattle.state.specs.Forms.{session_formed, write_limit, sessions_formed, sessions_fit}
-use Rattle.state.proofs.Walked.{Walked, walked_none, walked_more, walked_all}
-use borrow.Author.Rules.{rules}
-use borrow.Author.Tests.{not-true, not-false}
+use Rattle.state.specs.Forms.{session_formed, write_limit}
+use Rattle.state.proofs.Walked.{Walked}
 use Rattle.state.proofs.sessions_fit.Given as goal
 
 -- session j is formed

@@ -1,5 +1,4 @@
 -- Each test is the next of the definition; the sessions that fit stand side by side, where the rows find them.
-use borrow.Author.Tests.{not-false}
 use Rattle.lent.proofs.Choices.{test_failed, test_passed}
 use Rattle.state.specs.Forms.{tables_fit}
 use borrow.Author.Rules.{rules}

@@ -1,7 +1,6 @@
 -- The length is tested first; of a buffer of the right length the tests say whether it is well formed.
 use mathlib.Core.Path.{sym, ◌∙◌}
 use native.Mathlib.Omega.{arith}
-use borrow.Author.Rules.{rules}
 use Rattle.state.proofs.Whole.{formed_is_well_formed, wrong_length}
 use Rattle.state.proofs.well_formed.Goals as goal
 

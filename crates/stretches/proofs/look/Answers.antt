@@ -9,7 +9,6 @@ use Rattle.layout.specs.Holds.{Holds}
 use Rattle.layout.specs.declared.Found.{Found}
 use Rattle.sights.specs.Sights.{placed}
 use Rattle.sights.proofs.Sights.{sight_by, sight-by}
-use borrow.Author.Rules.{rules}
 use Rattle.stretches.proofs.look.Goals as goal
 use Rattle.stretches.proofs.look.Goals.{After-find-row}
 

@@ -6,7 +6,6 @@ use Rattle.machine.specs.Step.{show}
 use Rattle.layout.specs.Holds.{Holds}
 use Rattle.sights.specs.declared.Sight.{Sight}
 use Rattle.stretches.proofs.Shown.{Shows, shown_key, shown_unknown, shown_by}
-use borrow.Author.Rules.{rules}
 use Rattle.stretches.proofs.part.Goals as goal
 use Rattle.stretches.proofs.part.Goals.{After-look-sight}
 

@@ -5,7 +5,6 @@ use Rattle.lent.proofs.Splice.{part_win}
 use Rattle.machine.specs.Step.{show}
 use Rattle.stretches.specs.declared.Span.{Span}
 use Rattle.stretches.proofs.Shown.{shown_stands}
-use borrow.Author.Rules.{rules}
 use Rattle.stretches.proofs.stretch.Goals as goal
 
 pub returns : goal.returns

@@ -1,17 +1,13 @@
 use Prim.Native.Nat.{◌≤◌, ◌-◌}
-use mathlib.Core.Path.{◌≡◌, refl, ap, ◌∙◌}
-use native.Mathlib.Omega.{arith}
+use mathlib.Core.Path.{◌≡◌}
 use lib.ListN.{length, take}
-use lib.Seq.{take_all}
-use borrow.Author.Rules.{rules}
-use Rattle.machine.specs.State.{no_session, State}
+use Rattle.machine.specs.State.{State}
 use Rattle.machine.specs.Sizes.{state_size, session_count}
 use Rattle.machine.specs.Session.{is_due}
-use Rattle.machine.specs.Expiry.{with_sessions, those}
+use Rattle.machine.specs.Expiry.{those}
 use Rattle.layout.specs.Holds.{Holds}
-use Rattle.layout.proofs.Walked.{Walked, walked_none, walked_more, walked_all}
-use Rattle.sweep.specs.Lapsing.{free_due, end_due}
-use Rattle.sweep.proofs.Ended.{passed, noted-next}
+use Rattle.layout.proofs.Walked.{Walked}
+use Rattle.sweep.specs.Lapsing.{end_due}
 use Rattle.sweep.proofs.end_sessions.Given as goal
 
 abbrev pub invariant-loop-i : goal.invariant-loop-i

@@ -1,6 +1,5 @@
 -- A lease that has lapsed is dropped (`lease_goes`), any other stays (`lease_stays`).
 use mathlib.Core.Path.{sym, ◌∙◌}
-use borrow.Author.Rules.{rules}
 use Rattle.sweep.proofs.Steps.{lease_stays, lease_goes}
 use Rattle.sweep.proofs.lapse_key.Goals as goal
 

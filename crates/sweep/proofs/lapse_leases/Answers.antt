@@ -1,13 +1,10 @@
 -- After k turns the bytes hold the state after k steps of `lapse_key`; all of them are the map over the keys (`passed`).
-use Prim.Native.Nat.{◌≤◌, ◌-◌}
-use mathlib.Core.Path.{◌≡◌, refl}
+use mathlib.Core.Path.{refl}
 use native.Mathlib.Omega.{arith}
-use lib.ListN.{length}
 use borrow.Author.Rules.{rules}
-use Rattle.machine.specs.Sizes.{state_size, key_count}
 use Rattle.machine.specs.State.{blank}
 use Rattle.machine.specs.Expiry.{with_keys, lapsed_lease}
-use Rattle.layout.proofs.Walked.{Walked, walked_none, walked_more, walked_all}
+use Rattle.layout.proofs.Walked.{walked_none, walked_more, walked_all}
 use Rattle.sweep.specs.Lapsing.{lapse_key}
 use Rattle.sweep.proofs.Ended.{passed}
 use Rattle.sweep.proofs.lapse_leases.Goals as goal

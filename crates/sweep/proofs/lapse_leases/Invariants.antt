@@ -1,14 +1,9 @@
 use Prim.Native.Nat.{◌≤◌, ◌-◌}
-use mathlib.Core.Path.{◌≡◌, refl}
-use native.Mathlib.Omega.{arith}
+use mathlib.Core.Path.{◌≡◌}
 use lib.ListN.{length}
-use borrow.Author.Rules.{rules}
 use Rattle.machine.specs.Sizes.{state_size, key_count}
-use Rattle.machine.specs.State.{blank}
-use Rattle.machine.specs.Expiry.{with_keys, lapsed_lease}
-use Rattle.layout.proofs.Walked.{Walked, walked_none, walked_more, walked_all}
+use Rattle.layout.proofs.Walked.{Walked}
 use Rattle.sweep.specs.Lapsing.{lapse_key}
-use Rattle.sweep.proofs.Ended.{passed}
 use Rattle.sweep.proofs.lapse_leases.Given as goal
 
 abbrev pub invariant-loop-k : goal.invariant-loop-k

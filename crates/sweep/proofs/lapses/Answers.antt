@@ -1,6 +1,5 @@
 -- `lapsing` is the one or the other, in this order.
 use mathlib.Core.Path.{sym, ◌∙◌}
-use borrow.Author.Rules.{rules}
 use Rattle.sweep.specs.Lapsing.{lapsing}
 use Rattle.sweep.proofs.lapses.Goals as goal
 

@@ -1,11 +1,7 @@
 -- As long as no lease passed has lapsed, none before key k has; one that has is a hit for all.
-use Prim.Native.Nat.{◌≤◌, ◌-◌}
 use native.Mathlib.Omega.{arith}
 use borrow.Author.Rules.{rules}
-use Rattle.machine.specs.Sizes.{key_count}
-use Rattle.machine.specs.State.{blank}
-use Rattle.deadlines.specs.Deadlines.{lapsed_on}
-use Rattle.layout.proofs.Scans.{Scanned, scanned_none, scanned_more, scanned_hit, scanned_all}
+use Rattle.layout.proofs.Scans.{scanned_none, scanned_more, scanned_hit, scanned_all}
 use Rattle.sweep.proofs.leases_lapse.Goals as goal
 
 pub loop-k-init : goal.loop-k-init

@@ -1,10 +1,8 @@
 use Prim.Native.Nat.{◌≤◌, ◌-◌}
-use native.Mathlib.Omega.{arith}
-use borrow.Author.Rules.{rules}
 use Rattle.machine.specs.Sizes.{key_count}
 use Rattle.machine.specs.State.{blank}
 use Rattle.deadlines.specs.Deadlines.{lapsed_on}
-use Rattle.layout.proofs.Scans.{Scanned, scanned_none, scanned_more, scanned_hit, scanned_all}
+use Rattle.layout.proofs.Scans.{Scanned}
 use Rattle.sweep.proofs.leases_lapse.Given as goal
 
 abbrev pub invariant-loop-k : goal.invariant-loop-k

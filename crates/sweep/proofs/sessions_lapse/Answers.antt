@@ -1,11 +1,7 @@
 -- As long as no session passed is due, none before the place is; one that is due is a hit for all.
-use Prim.Native.Nat.{◌≤◌, ◌-◌}
 use native.Mathlib.Omega.{arith}
 use borrow.Author.Rules.{rules}
-use Rattle.machine.specs.Sizes.{session_count}
-use Rattle.machine.specs.State.{no_session}
-use Rattle.deadlines.specs.Deadlines.{due_slot}
-use Rattle.layout.proofs.Scans.{Scanned, scanned_none, scanned_more, scanned_hit, scanned_all}
+use Rattle.layout.proofs.Scans.{scanned_none, scanned_more, scanned_hit, scanned_all}
 use Rattle.sweep.proofs.sessions_lapse.Goals as goal
 
 pub loop-place-init : goal.loop-place-init

@@ -1,10 +1,8 @@
 use Prim.Native.Nat.{◌≤◌, ◌-◌}
-use native.Mathlib.Omega.{arith}
-use borrow.Author.Rules.{rules}
 use Rattle.machine.specs.Sizes.{session_count}
 use Rattle.machine.specs.State.{no_session}
 use Rattle.deadlines.specs.Deadlines.{due_slot}
-use Rattle.layout.proofs.Scans.{Scanned, scanned_none, scanned_more, scanned_hit, scanned_all}
+use Rattle.layout.proofs.Scans.{Scanned}
 use Rattle.sweep.proofs.sessions_lapse.Given as goal
 
 abbrev pub invariant-loop-place : goal.invariant-loop-place

@@ -4,7 +4,6 @@ use mathlib.Core.Path.{◌≡◌, sym, ap, ◌∙◌}
 use Prim.Native.Nat.{ℕ}
 use native.Mathlib.Omega.{arith}
 use lib.ListN.{take, length-take}
-use borrow.Author.Rules.{rules}
 use Rattle.machine.specs.Session.{is_due}
 use Rattle.machine.specs.Expiry.{those}
 use Rattle.sweep.proofs.Whole.{expire-whole, expire-none}

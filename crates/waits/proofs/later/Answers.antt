@@ -3,7 +3,6 @@ use mathlib.Core.Path.{◌≡◌, sym, ap}
 use native.Mathlib.Omega.{arith}
 use mathlib.Core.Option.{some}
 use Prim.Native.Nat.{max}
-use borrow.Author.Rules.{rules}
 use Rattle.waits.proofs.later.Goals as goal
 
 pub returns-then-x-y : goal.returns-then-x-y

@@ -1,13 +1,10 @@
-use borrow.Author.Rules.{rules}
 use Prim.Native.Nat.{◌≤◌}
-use mathlib.Core.Path.{◌≡◌, sym, ◌∙◌}
-use native.Mathlib.Omega.{arith}
+use mathlib.Core.Path.{◌≡◌}
 use lib.ListN.{drop}
 use Rattle.machine.specs.Sizes.{row_count}
 use Rattle.machine.specs.State.{State}
 use Rattle.machine.specs.Effects.{life_end, latest}
 use Rattle.layout.specs.Holds.{Holds}
-use Rattle.waits.proofs.Waits.{latest-none, latest-turn}
 use Rattle.waits.proofs.latest.Given as goal
 
 abbrev pub invariant-loop-i : goal.invariant-loop-i

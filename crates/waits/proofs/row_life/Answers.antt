@@ -12,7 +12,6 @@ use Rattle.layout.proofs.Held.{row_stands}
 use Rattle.layout.proofs.Slots.{slot_by, session_by}
 use Rattle.waits.specs.Waits.{row_end}
 use Rattle.waits.proofs.Waits.{row_end_free, row_end_other, row_end_on}
-use borrow.Author.Rules.{rules}
 use Rattle.waits.proofs.row_life.Goals as goal
 use Rattle.waits.proofs.row_life.Goals.{After-find-place}
 

@@ -7,7 +7,6 @@ use Rattle.machine.specs.declared.Life.{Life}
 use Rattle.layout.specs.Holds.{Holds}
 use Rattle.layout.proofs.Held.{key_stands}
 use Rattle.waits.proofs.Waits.{wait_lease, wait_rows}
-use borrow.Author.Rules.{rules}
 use Rattle.waits.proofs.wait.Goals as goal
 use Rattle.waits.proofs.wait.Goals.{After-latest-life}
 

@@ -12,7 +12,6 @@ use Rattle.book.specs.Book.{with_mark}
 use Rattle.turns.proofs.Tried.{Located, located}
 use Rattle.writes.specs.Writes.{Writes}
 use Rattle.writes.proofs.Written.{rule_by, written_open, written-by}
-use borrow.Author.Rules.{rules}
 use Rattle.writes.proofs.mark_write.Goals as goal
 use Rattle.writes.proofs.mark_write.Goals.{After-find-row, After-load-session}
 

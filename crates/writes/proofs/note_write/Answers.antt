@@ -11,7 +11,6 @@ use Rattle.layout.specs.declared.Found.{Found}
 use Rattle.layout.proofs.Formed.{formed, holds_decoded}
 use Rattle.layout.proofs.Search.{found_below}
 use Rattle.writes.proofs.Written.{written_damaged, written_nobody, written_at}
-use borrow.Author.Rules.{rules}
 use Rattle.writes.proofs.note_write.Goals as goal
 use Rattle.writes.proofs.note_write.Goals.{After-find-place}
 

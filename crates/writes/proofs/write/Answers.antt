@@ -1,6 +1,5 @@
 -- The write is tested and marked, and then the register's note is written.
 use Rattle.writes.proofs.Written.{write_says}
-use borrow.Author.Rules.{rules}
 use Rattle.writes.proofs.write.Goals as goal
 
 pub returns : goal.returns

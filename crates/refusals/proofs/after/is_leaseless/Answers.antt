@@ -3,7 +3,6 @@ use mathlib.Core.Path.{sym, ◌∙◌}
 use Rattle.machine.specs.State.{lease_on}
 use Rattle.layout.proofs.Held.{key_stands}
 use Rattle.refusals.proofs.Leases.{leaseless-none, leaseless-by}
-use borrow.Author.Rules.{rules}
 use Rattle.refusals.proofs.after.is_leaseless.Goals as goal
 
 pub returns-then-lease_token-eq0 : goal.returns-then-lease_token-eq0

@@ -4,7 +4,6 @@ use Rattle.machine.specs.Sizes.{session_count}
 use Rattle.machine.specs.State.{no_session, numbered}
 use Rattle.layout.proofs.Search.{found_entry}
 use Rattle.layout.proofs.Slots.{session_by}
-use borrow.Author.Rules.{rules}
 use Rattle.refusals.proofs.after.row_goes.Goals as goal
 
 pub returns-in_default : goal.returns-in_default

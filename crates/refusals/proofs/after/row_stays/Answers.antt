@@ -4,7 +4,6 @@ use Rattle.machine.specs.State.{row_at}
 use mathlib.Core.Path.{sym, ap, ◌∙◌}
 use Rattle.layout.proofs.Held.{row_stands}
 use Rattle.refusals.proofs.Leases.{stays_free, stays_other, stays_on_lem}
-use borrow.Author.Rules.{rules}
 use Rattle.refusals.proofs.after.row_stays.Goals as goal
 
 pub returns-then-session-eq0 : goal.returns-then-session-eq0

@@ -1,7 +1,6 @@
 -- A free row stays free; where there is none, one is free if a row goes.
 use mathlib.Core.Path.{refl}
 use Rattle.refusals.proofs.Rooms.{rows_full_told}
-use borrow.Author.Rules.{rules}
 use Rattle.refusals.proofs.after.rows_full.Goals as goal
 
 pub returns-in-At : goal.returns-in-At

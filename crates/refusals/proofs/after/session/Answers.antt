@@ -8,7 +8,6 @@ use Rattle.machine.specs.Sound.{sound}
 use Rattle.layout.specs.Holds.{Holds}
 use Rattle.refusals.specs.Left.{left_of}
 use Rattle.refusals.proofs.Lefts.{left-none, left_by}
-use borrow.Author.Rules.{rules}
 use Rattle.refusals.proofs.after.session.Goals as goal
 use Rattle.refusals.proofs.after.session.Goals.{After-due}
 

@@ -1,7 +1,6 @@
 -- A free place stays free; where there is none, one is free if a session goes.
 use mathlib.Core.Path.{refl}
 use Rattle.refusals.proofs.Rooms.{sessions_full_told}
-use borrow.Author.Rules.{rules}
 use Rattle.refusals.proofs.after.sessions_full.Goals as goal
 
 pub returns-in-At : goal.returns-in-At

@@ -1,11 +1,7 @@
 -- As long as no row passed goes, none before the place does; one that goes is a hit for all.
 use borrow.Author.Rules.{rules}
-use Prim.Native.Nat.{◌≤◌, ◌-◌}
 use native.Mathlib.Omega.{arith}
-use Rattle.machine.specs.Sizes.{row_count}
-use Rattle.machine.specs.State.{no_row}
-use Rattle.layout.proofs.Scans.{Scanned, scanned_none, scanned_more, scanned_hit, scanned_all}
-use Rattle.refusals.specs.Left.{goes}
+use Rattle.layout.proofs.Scans.{scanned_none, scanned_more, scanned_hit, scanned_all}
 use Rattle.refusals.proofs.after.some_row_goes.Goals as goal
 
 pub loop-i-init : goal.loop-i-init

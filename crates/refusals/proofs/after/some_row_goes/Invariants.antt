@@ -1,9 +1,7 @@
-use borrow.Author.Rules.{rules}
 use Prim.Native.Nat.{◌≤◌, ◌-◌}
-use native.Mathlib.Omega.{arith}
 use Rattle.machine.specs.Sizes.{row_count}
 use Rattle.machine.specs.State.{no_row}
-use Rattle.layout.proofs.Scans.{Scanned, scanned_none, scanned_more, scanned_hit, scanned_all}
+use Rattle.layout.proofs.Scans.{Scanned}
 use Rattle.refusals.specs.Left.{goes}
 use Rattle.refusals.proofs.after.some_row_goes.Given as goal
 

@@ -13,7 +13,6 @@ use Rattle.layout.specs.Holds.{Holds}
 use Rattle.layout.specs.declared.Found.{Found}
 use Rattle.refusals.proofs.Searches.{is_at, found-any}
 use Rattle.refusals.proofs.Leases.{lease_where_stays, lease_where_none_stays}
-use borrow.Author.Rules.{rules}
 use Rattle.refusals.proofs.after.would_lease.Goals as goal
 use Rattle.refusals.proofs.after.would_lease.Goals.{After-first_on}
 
