@@ -1,10 +1,5 @@
 -- Chunks one behind the other are one input, and at its end the world and what was written are those of its rehearsal.
-use mathlib.Core.Path.{◌≡◌, ap, ◌∙◌}
-use mathlib.Core.Bool.{Bool, true, false}
-use mathlib.Core.List.{List, ◌++◌}
-use Prim.Native.Nat.{ℕ, ◌≤◌}
-use native.Mathlib.Omega.{arith}
-use lib.ListN.{length, take}
+use Rattle.std.proofs.Common.{ℕ, ◌≡◌, ◌++◌, ◌∙◌, ◌≤◌, ap, Bool, true, false, List, length, take, arith}
 use Rattle.lent.proofs.Splice.{take-splice}
 use Rattle.feed.specs.Lines.{held_max}
 use Rattle.feed.specs.Answers.{Answered, Open, behind, fed}
@@ -13,13 +8,8 @@ use Rattle.book.specs.Memory.{Memory}
 use Rattle.script.specs.Input.{answer_line, finished, rehearsed, nothing_read}
 use Rattle.script.specs.Buffers.{Printed, Delivered}
 use Rattle.script.proofs.Whole.{fed-ended}
-use Rattle.rehearse.specs.Turns.{Poured, Turned, Rehearsed}
+use Rattle.rehearse.specs.Turns.{Turned, Rehearsed}
 use Rattle.rehearse.specs.declared.Went.{Went}
-
-pub poured_turned : (o : Open Memory) (before n : ℕ) (chunk : List ℕ) (now : ℕ → Open Memory) (r : Went) → Poured o (take n chunk) now r → Turned o before chunk now r
-poured_turned o before n chunk now (Went.On held) p = (n, p)
-poured_turned o before n chunk now Went.Ended p = absurd p
-poured_turned o before n chunk now Went.Failed p = tt
 
 pub turned_on : (o : Open Memory) (before n : ℕ) (chunk : List ℕ) (now : ℕ → Open Memory) (r : Went) → r ≡ Went.On n → Turned o before chunk now r
     → (k : ℕ) × ((now n ≡ (fed answer_line o (take k chunk)).world) × (n ≤ held_max))
@@ -34,6 +24,9 @@ ReadSoFar o now = (input : List ℕ) × (now ≡ (fed answer_line o input).world
 
 pub read_more : (o now then : Open Memory) (more : List ℕ) → ReadSoFar o now → then ≡ (fed answer_line now more).world → ReadSoFar o then
 read_more o now then more r e = (r.0 ++ more, e ∙ rw (fed-append answer_line o r.0 more, r.1))
+
+pub read_no_more : (o now then : Open Memory) → ReadSoFar o now → then ≡ now → ReadSoFar o then
+read_no_more o now then r e = (r.0, e ∙ r.1)
 
 -- the front of what a text is printed on is the text
 printed_front : (text out after : List ℕ) (next : ℕ) → Printed text out 0 after next → take next after ≡ text

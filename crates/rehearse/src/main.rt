@@ -3,19 +3,22 @@
 // No contract can say which bytes a read or a write moves, so what is proved speaks of the buffers. Whatever the reads put into the chunk: the cache,
 // the book and the held bytes after a turn are those of all these bytes in a row; what a write is handed is the text of the bytes that it answers
 // (`script::stretch`); and where the input ends, all the texts in a row are the text of the rehearsal of all that was read (`Rehearsed`). Not proved:
-// that what is read is the input, and that what a write is handed is written once and in order, which is what the C library's two calls are for.
+// that what is read is the input, and that what a write is handed is written once and in order, which is what the reader and the writer are for.
 //
-// Each answer is written before more is read. A read or a write that fails ends the program with what was written so far, and with no end line.
+// Each answer is written and flushed before more is read. A read or a write that fails ends the program with what was written so far, and with no end
+// line; standard error says so.
 #![tactic(auto)]
 
-ghost use Rattle.std.specs.Prelude.{◌≡◌, ◌+◌, ◌≤◌, length};
+ghost use Rattle.std.specs.Prelude.{◌≡◌, ◌+◌, ◌≤◌, OnOk, length};
+ghost use Rattle.std.specs.Io.KnownBytes.{Appends};
 ghost use Rattle.feed.specs.Lines.{held_max};
 ghost use Rattle.book.specs.Memory.{memory_of};
 ghost use Rattle.replies.specs.Replies.{line_room};
 ghost use Rattle.script.specs.Buffers.{opened, HeldFits};
 ghost use Rattle.rehearse.specs.Turns.{Poured, Turned, Rehearsed};
 
-use libc::{STDERR_FILENO, STDIN_FILENO, STDOUT_FILENO};
+use std::io;
+use std::io::{Read, Write};
 
 const CHUNK: usize = 32768;
 
@@ -29,8 +32,17 @@ enum Went {
     Failed,
 }
 
+// Writes a text, and sends on what the writer holds back.
+fn write_out<W: Write>(writer: &mut W, text: &[u8]) -> io::Result<()>
+    ensures { OnOk result (Appends (W.contents writer.old) (W.contents writer.new) text.now) }
+{
+    writer.write_all(text)?;
+    writer.flush()
+}
+
 // Answers a chunk. Each answer is written before more is read.
-fn pour(
+fn pour<W: Write>(
+    writer: &mut W,
     cache: &mut [u8],
     book: &mut [u8],
     line: &mut [u8],
@@ -46,7 +58,7 @@ fn pour(
     while from < chunk.len() {
         let at = script::stretch(cache, book, line, held, chunk, from, out);
         let put = at.put;
-        if !io::write_all(STDOUT_FILENO, &out[..put]) {
+        if write_out(writer, &out[..put]).is_err() {
             return Went::Failed;
         }
         held = at.held;
@@ -56,7 +68,9 @@ fn pour(
 }
 
 // Reads once and answers what came.
-fn turn(
+fn turn<R: Read, W: Write>(
+    reader: &mut R,
+    writer: &mut W,
     cache: &mut [u8],
     book: &mut [u8],
     line: &mut [u8],
@@ -67,19 +81,20 @@ fn turn(
     requires { (line_room ≤ length out.old) × HeldFits line.old held }
     ensures { Turned (opened cache.old book.old line.old held) held chunk.new (opened cache.new book.new line.new) result }
 {
-    let got = libc::read(STDIN_FILENO, chunk);
-    if got < 0 {
-        return Went::Failed;
-    }
-    if got == 0 {
+    let n = match reader.read(chunk) {
+        Ok(n) => n,
+        Err(_) => return Went::Failed,
+    };
+    if n == 0 {
         return Went::Ended;
     }
-    let n = io::count(got, chunk);
-    pour(cache, book, line, held, &chunk[..n], out)
+    pour(writer, cache, book, line, held, &chunk[..n], out)
 }
 
 // Reads to the end of the input, and writes the end line. False where a read or a write has failed.
-fn rehearse(
+fn rehearse<R: Read, W: Write>(
+    reader: &mut R,
+    writer: &mut W,
     cache: &mut [u8],
     book: &mut [u8],
     line: &mut [u8],
@@ -90,33 +105,41 @@ fn rehearse(
     ensures { Rehearsed (memory_of cache.old book.old) (memory_of cache.new book.new) out.new result }
 {
     let mut held = 0;
-    let mut turns = u64::MAX;
-    while turns > 0 {
-        let went = turn(cache, book, line, held, chunk, out);
+    for _ in 0..u64::MAX {
+        let went = turn(reader, writer, cache, book, line, held, chunk, out);
         match went {
             Went::On(n) => {
                 held = n;
             }
             Went::Ended => {
                 let put = script::finish(cache, book, line, held, out);
-                return io::write_all(STDOUT_FILENO, &out[..put]);
+                return write_out(writer, &out[..put]).is_ok();
             }
             Went::Failed => {
                 return false;
             }
         }
-        turns -= 1;
     }
     false
 }
 
-fn main() {
+fn main(rt: HostRuntime) {
     let mut cache = [0u8; layout::STATE_SIZE];
     let mut book = [0u8; book::BOOK_SIZE];
     let mut line = [0u8; feed::HELD_MAX];
     let mut chunk = [0u8; CHUNK];
     let mut out = [0u8; OUT];
-    if !rehearse(&mut cache, &mut book, &mut line, &mut chunk, &mut out) {
-        io::write_all(STDERR_FILENO, b"rehearse: a read or a write failed\n");
+    let mut reader = rt.stdin();
+    let mut writer = rt.stdout();
+    if !rehearse(
+        &mut reader,
+        &mut writer,
+        &mut cache,
+        &mut book,
+        &mut line,
+        &mut chunk,
+        &mut out,
+    ) {
+        let _ = rt.eprintln("rehearse: a read or a write failed");
     }
 }
