@@ -8,8 +8,14 @@ use Rattle.book.specs.Memory.{Memory}
 use Rattle.script.specs.Input.{answer_line, finished, rehearsed, nothing_read}
 use Rattle.script.specs.Buffers.{Printed, Delivered}
 use Rattle.script.proofs.Whole.{fed-ended}
-use Rattle.rehearse.specs.Turns.{Turned, Rehearsed}
+use Rattle.rehearse.specs.Turns.{Poured, Turned, Rehearsed}
 use Rattle.rehearse.specs.declared.Went.{Went}
+
+-- what `pour` says of the front of a chunk is what `turn` says of the chunk
+pub poured_turned : (o : Open Memory) (before n : ℕ) (chunk : List ℕ) (now : ℕ → Open Memory) (r : Went) → Poured o (take n chunk) now r → Turned o before chunk now r
+poured_turned o before n chunk now (Went.On held) p = (n, p)
+poured_turned o before n chunk now Went.Ended p = absurd p
+poured_turned o before n chunk now Went.Failed p = tt
 
 pub turned_on : (o : Open Memory) (before n : ℕ) (chunk : List ℕ) (now : ℕ → Open Memory) (r : Went) → r ≡ Went.On n → Turned o before chunk now r
     → (k : ℕ) × ((now n ≡ (fed answer_line o (take k chunk)).world) × (n ≤ held_max))
