@@ -1,4 +1,4 @@
-// The library that firmware links: the proved functions under plain names, with numbers for answers. Its header is include/basalekko.h.
+// The proved functions under plain names, with numbers for answers. `exported_c` hands them on to C; the header is include/basalekko.h.
 #![tactic(auto)]
 
 ghost use Rattle.std.specs.Prelude.{◌≡◌};
@@ -22,29 +22,21 @@ fn tell(a: Answer, told: &mut [u64; 2]) -> u64
 }
 
 // Raised with each change of a name, a number or a parameter.
-#[unsafe(no_mangle)]
-pub extern "C" fn basalekko_version() -> u64
+pub fn basalekko_version() -> u64
     ensures { result ≡ version }
 {
     VERSION
 }
 
 // Whether the buffer holds a well-formed state.
-#[unsafe(no_mangle)]
-pub extern "C" fn basalekko_well_formed(state: &[u8]) -> bool
+pub fn basalekko_well_formed(state: &[u8]) -> bool
     ensures { result ≡ well_formed state.now }
 {
     state::well_formed(state)
 }
 
 // START.
-#[unsafe(no_mangle)]
-pub extern "C" fn basalekko_start(
-    state: &mut [u8],
-    read: u64,
-    write: u64,
-    told: &mut [u64; 2],
-) -> u64
+pub fn basalekko_start(state: &mut [u8], read: u64, write: u64, told: &mut [u64; 2]) -> u64
     ensures { Replied (start_of state.old read write) result state.new told.new }
 {
     let answer = startup::start(state, read, write);
@@ -52,8 +44,7 @@ pub extern "C" fn basalekko_start(
 }
 
 // One command by its number.
-#[unsafe(no_mangle)]
-pub extern "C" fn basalekko_run(
+pub fn basalekko_run(
     state: &mut [u8],
     time: u64,
     number: u64,
@@ -71,8 +62,7 @@ pub extern "C" fn basalekko_run(
 }
 
 // SHOW's first call: VALUE with the length, NONE, or the refusal.
-#[unsafe(no_mangle)]
-pub extern "C" fn basalekko_show(state: &[u8], session: u64, key: u64, told: &mut [u64; 2]) -> u64
+pub fn basalekko_show(state: &[u8], session: u64, key: u64, told: &mut [u64; 2]) -> u64
     ensures { Said (show_of state.now session key).answer result told.new }
 {
     let answer = show::show(state, session, key);
@@ -80,8 +70,7 @@ pub extern "C" fn basalekko_show(state: &[u8], session: u64, key: u64, told: &mu
 }
 
 // SHOW's second call: length and place of the stretch.
-#[unsafe(no_mangle)]
-pub extern "C" fn basalekko_stretch(state: &[u8], session: u64, key: u64, told: &mut [u64; 2])
+pub fn basalekko_stretch(state: &[u8], session: u64, key: u64, told: &mut [u64; 2])
     ensures { told.new ≡ stretch_told (show_of state.now session key) }
 {
     let part = show::part(state, session, key);
