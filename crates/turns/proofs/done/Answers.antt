@@ -1,17 +1,12 @@
 -- The search finds no session (`done_none`) or its place; an open one is refused (`done_open`), and a sealed one finishes.
 use mathlib.Core.Bool.{true}
 use Rattle.lent.proofs.Choices.{test_failed, test_passed}
-use Rattle.machine.specs.State.{State}
-use Rattle.machine.specs.Sound.{sound}
-use Rattle.layout.specs.Holds.{Holds}
-use mathlib.Core.Path.{◌≡◌}
 use Rattle.outcome.proofs.Told.{gives}
 use Rattle.machine.specs.Sizes.{session_count}
 use Rattle.layout.proofs.Search.{found_below}
-use Rattle.turns.proofs.Tried.{Located, located_at, number_here, done_none, done_open, done_is}
+use Rattle.turns.proofs.Tried.{located_at, number_here, done_none, done_open, done_is}
 use borrow.Author.Rules.{rules}
 use Rattle.turns.proofs.done.Goals as goal
-use Rattle.turns.proofs.done.Goals.{After-load-x}
 
 pub returns-in_default : goal.returns-in_default
 returns-in_default c = λ σ h ok. gives (done_none σ _ ok (c.find.ensures.0 σ h) c.in_default.is) h
@@ -19,17 +14,13 @@ returns-in_default c = λ σ h ok. gives (done_none σ _ ok (c.find.ensures.0 σ
 pub load-x-requires : goal.load-x-requires
 load-x-requires c = search (rules, found_below session_count)
 
--- the session that was found and loaded
-here : (c : After-load-x) (σ : State) → let a = c.args in Holds a.s.now σ → sound σ ≡ true → Located σ a.session c.in-At.i c.load-x.result
-here c σ h ok = located_at σ _ ok (c.find.ensures.0 σ h) c.in-At.is (c.load-x.ensures σ h)
-
 pub returns-then-not-is_sealed : goal.returns-then-not-is_sealed
-returns-then-not-is_sealed c = λ σ h ok. gives (done_open σ _ (here (goal.at.returns-then-not-is_sealed c).After-load-x σ h ok) (test_failed c.is_sealed.ensures c.if-not-is_sealed.true)) h
+returns-then-not-is_sealed c = λ σ h ok. gives (done_open σ _ (located_at σ _ ok (c.find.ensures.0 σ h) c.in-At.is (c.load-x.ensures σ h)) (test_failed c.is_sealed.ensures c.if-not-is_sealed.true)) h
 
 pub finish-requires : goal.finish-requires
 finish-requires c = search (rules, found_below session_count)
 
 pub returns : goal.returns
 returns c = λ σ h ok.
-    let w = here (goal.at.returns c).After-load-x σ h ok in
+    let w = located_at σ _ ok (c.find.ensures.0 σ h) c.in-At.is (c.load-x.ensures σ h) in
     gives (done_is σ _ w (test_passed c.is_sealed.ensures c.if-not-is_sealed.false)) (rw (← w.number) (c.finish.ensures σ h ok (number_here w w.number)))
