@@ -17,18 +17,8 @@ hexed-requires c = omega (arith, hex_most c.args.value.now value_max (omega arit
 
 pub returns-then-word-eq-HIT : goal.returns-then-word-eq-HIT
 unfolding detailed
-returns-then-word-eq-HIT c =
-    let if2 = c.if-word-eq-HIT in
-    let if1 = c.if-numbered in
-    let numbered = c.numbered in
-    let e = sym numbered.ensures ∙ if1.false in
-    rw (e, eq-eqb _ HIT if2.true) c.hexed.ensures
+returns-then-word-eq-HIT c = let e = sym c.numbered.ensures ∙ c.if-numbered.false in rw (e, eq-eqb _ HIT c.if-word-eq-HIT.true) c.hexed.ensures
 
 pub returns : goal.returns
 unfolding detailed
-returns c =
-    let if2 = c.if-word-eq-HIT in
-    let if1 = c.if-numbered in
-    let numbered = c.numbered in
-    let e = sym numbered.ensures ∙ if1.false in
-    rw (e, ne_eqb _ HIT if2.false) c.byte.ensures
+returns c = let e = sym c.numbered.ensures ∙ c.if-numbered.false in rw (e, ne_eqb _ HIT c.if-word-eq-HIT.false) c.byte.ensures
