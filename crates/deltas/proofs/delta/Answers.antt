@@ -1,7 +1,8 @@
 -- DELTA's own tests, then what its session found; where that is its places, the record is stored and the row changed.
 use mathlib.Core.Path.{sym, ◌∙◌}
-use borrow.Author.Rules.{rules}
+use Rattle.std.proofs.Common.{length, ◌≤◌, rules}
 use Rattle.lent.proofs.Choices.{test_failed, test_passed}
+use Rattle.machine.specs.Sizes.{value_max}
 use Rattle.stages.proofs.Staged.{staging_stored}
 use Rattle.outcome.proofs.Told.{gives}
 use Rattle.deltas.proofs.Tried.{Right, delta_key, delta_operation, delta_step, delta_long, delta_found, delta_changes}
@@ -36,25 +37,24 @@ change-requires c = let place = c.in-At in
     let if1 = c.if-key in
     (search rules, ((rw place.is at find.ensures.1).1, if1.false))
 
--- the tests before the search are passed
-right : (c : After-find) → let a = c.args in Right a.step a.key a.operation a.operand.now
-right c =
-    let if4 = c.if-operand-gt-VALUE_MAX in
+-- the tests before the search are passed, that of the operand's length as it is told
+right : (c : After-find) → length c.args.operand.now ≤ value_max → let a = c.args in Right a.step a.key a.operation a.operand.now
+right c l =
     let if3 = c.if-step-ge-STEP_MAX in
     let if2 = c.if-not-is_operation in
     let is-operation = c.is_operation in
     let if1 = c.if-key in
-    record { key = if1.false; operation = test_passed is-operation.ensures if2.false; step = if3.false; short = if4.false }
+    record { key = if1.false; operation = test_passed is-operation.ensures if2.false; step = if3.false; short = l }
 
 pub returns-in-Refused : goal.returns-in-Refused
-returns-in-Refused c = λ σ h ok. gives (delta_found _ _ _ _ _ _ (right (goal.at.returns-in-Refused c).After-find) (sym (c.find.ensures.0 σ h) ∙ c.in-Refused.is)) h
+returns-in-Refused c = λ σ h ok. gives (delta_found _ _ _ _ _ _ (right (goal.at.returns-in-Refused c).After-find c.if-operand-gt-VALUE_MAX.false) (sym (c.find.ensures.0 σ h) ∙ c.in-Refused.is)) h
 
 pub returns-in-Repeated : goal.returns-in-Repeated
-returns-in-Repeated c = λ σ h ok. gives (delta_found _ _ _ _ _ _ (right (goal.at.returns-in-Repeated c).After-find) (sym (c.find.ensures.0 σ h) ∙ c.in-Repeated.is)) h
+returns-in-Repeated c = λ σ h ok. gives (delta_found _ _ _ _ _ _ (right (goal.at.returns-in-Repeated c).After-find c.if-operand-gt-VALUE_MAX.false) (sym (c.find.ensures.0 σ h) ∙ c.in-Repeated.is)) h
 
 pub returns-in-At : goal.returns-in-At
 returns-in-At c = let change = c.change in
     let store = c.store in
     let place = c.in-At in
     λ σ h ok. let q = sym (c.find.ensures.0 σ h) ∙ place.is in
-    rw (delta_changes _ _ _ _ _ _ (right (goal.at.returns-in-At c).After-find) ok _ _ _ q) (staging_stored σ _ _ _ _ ok q (store.ensures σ h) (change.ensures _))
+    rw (delta_changes _ _ _ _ _ _ (right (goal.at.returns-in-At c).After-find c.if-operand-gt-VALUE_MAX.false) ok _ _ _ q) (staging_stored σ _ _ _ _ ok q (store.ensures σ h) (change.ensures _))

@@ -14,13 +14,13 @@ use Rattle.sights.proofs.is_unknown.Goals.{After-find-place}
 pub returns-then-session-eq0 : goal.returns-then-session-eq0
 returns-then-session-eq0 c = λ σ h. sym (known_zero σ c.args.session c.if-session-eq0.true)
 
--- what the search told decides
-unknown-by : (c : After-find-place) {r : Found} → c.find-place.result ≡ r
+-- where the number is not 0, what the search told decides
+unknown-by : (c : After-find-place) → (c.args.session ≡ 0 → ⊥) → {r : Found} → c.find-place.result ≡ r
     → (σ : State) → let a = c.args in Holds a.s.now σ → free (slot_by σ r) ≡ (not (eqb a.session 0) && not_live σ a.session)
-unknown-by c e σ h = sym (known_by σ _ c.if-session-eq0.false h.fits.sessions (sym (c.find-place.ensures.0 σ h) ∙ e))
+unknown-by c z e σ h = sym (known_by σ _ z h.fits.sessions (sym (c.find-place.ensures.0 σ h) ∙ e))
 
 pub returns-in-At : goal.returns-in-At
-returns-in-At c = unknown-by (goal.at.returns-in-At c).After-find-place c.in-At.is
+returns-in-At c = unknown-by (goal.at.returns-in-At c).After-find-place c.if-session-eq0.false c.in-At.is
 
 pub returns-in-Nothing : goal.returns-in-Nothing
-returns-in-Nothing c = unknown-by (goal.at.returns-in-Nothing c).After-find-place c.in-Nothing.is
+returns-in-Nothing c = unknown-by (goal.at.returns-in-Nothing c).After-find-place c.if-session-eq0.false c.in-Nothing.is

@@ -1,6 +1,7 @@
 -- STAGE's own tests, then what its session found; where that is its places, the record is stored and the value staged there.
 use Rattle.outcome.proofs.Told.{gives}
 use mathlib.Core.Path.{◌≡◌, sym, ◌∙◌}
+use Rattle.machine.specs.Sizes.{step_max}
 use Rattle.machine.specs.State.{staged, State}
 use Rattle.machine.specs.declared.Command.TheVariants.{Stage}
 use Rattle.layout.specs.Holds.{Holds}
@@ -8,7 +9,7 @@ use Rattle.outcome.specs.Outcome.{tried}
 use Rattle.stages.specs.declared.Staging.{Staging}
 use Rattle.stages.proofs.Staged.{staged_by, staging_stored}
 use Rattle.stages.proofs.Tried.{stage_key, stage_step, stage_long, stage_found}
-use borrow.Author.Rules.{rules}
+use Rattle.std.proofs.Common.{◌<◌, rules}
 use Rattle.stages.proofs.stage.Goals as goal
 use Rattle.stages.proofs.stage.Goals.{After-find}
 
@@ -31,20 +32,20 @@ stage-requires c = let place = c.in-At in
     let find = c.find in
     (search rules, ((rw place.is at find.ensures.1).1, search rules))
 
--- the tests before the search are passed, and it found d
-tried-by : (c : After-find) {d : Staging} → c.find.result ≡ d → (σ : State)
+-- the tests before the search are passed, that of the step as it is told, and it found d
+tried-by : (c : After-find) → c.args.step < step_max → {d : Staging} → c.find.result ≡ d → (σ : State)
     → let a = c.args in Holds a.s.now σ → tried σ 0 (Stage a.session a.step a.key) a.value.now ≡ staged_by σ (staged a.value.now) d
-tried-by c e σ h = stage_found _ _ _ _ _ c.if-key.false c.if-step-ge-STEP_MAX.false c.if-value-gt-VALUE_MAX.false (sym (c.find.ensures.0 σ h) ∙ e)
+tried-by c l e σ h = stage_found _ _ _ _ _ c.if-key.false l c.if-value-gt-VALUE_MAX.false (sym (c.find.ensures.0 σ h) ∙ e)
 
 pub returns-in-Refused : goal.returns-in-Refused
-returns-in-Refused c = λ σ h ok. gives (tried-by (goal.at.returns-in-Refused c).After-find c.in-Refused.is σ h) h
+returns-in-Refused c = λ σ h ok. gives (tried-by (goal.at.returns-in-Refused c).After-find c.if-step-ge-STEP_MAX.false c.in-Refused.is σ h) h
 
 pub returns-in-Repeated : goal.returns-in-Repeated
-returns-in-Repeated c = λ σ h ok. gives (tried-by (goal.at.returns-in-Repeated c).After-find c.in-Repeated.is σ h) h
+returns-in-Repeated c = λ σ h ok. gives (tried-by (goal.at.returns-in-Repeated c).After-find c.if-step-ge-STEP_MAX.false c.in-Repeated.is σ h) h
 
 pub returns-in-At : goal.returns-in-At
 returns-in-At c = let stage = c.stage in
     let store = c.store in
     let place = c.in-At in
-    λ σ h ok. gives (tried-by (goal.at.returns-in-At c).After-find place.is σ h)
+    λ σ h ok. gives (tried-by (goal.at.returns-in-At c).After-find c.if-step-ge-STEP_MAX.false place.is σ h)
     (staging_stored σ _ _ _ _ ok (sym (c.find.ensures.0 σ h) ∙ place.is) (store.ensures σ h) (stage.ensures _))
