@@ -2,33 +2,31 @@
 // is sealed.
 #![tactic(auto)]
 
-ghost use Rattle.std.specs.Prelude.{◌≡◌, length};
-ghost use Rattle.machine.specs.Sizes.{state_size};
+ghost use Rattle.std.specs.Prelude.{◌≡◌};
 ghost use Rattle.machine.specs.State.{State};
 ghost use Rattle.layout.specs.Holds.{Holds};
 ghost use Rattle.askers.specs.Asker.{asker_of, Placed};
 
-use layout::Found;
-use machine::Session;
+use layout::Buffer;
+use machine::{Refusal, Session};
 
-// An open session's place and record, or the refusal.
+// An open session: its place and its record.
 #[derive(Clone, Copy)]
-pub enum Asker {
-    Refused(u8),
-    Open { place: usize, session: Session },
+pub struct Asker {
+    pub place: usize,
+    pub session: Session,
 }
 
-// The session of number n.
-pub fn find(s: &[u8], n: u64) -> Asker
-    requires { length s.now ≡ state_size }
+// The session of number n, if it is open; else the refusal.
+pub fn find(s: &Buffer, n: u64) -> Result<Asker, Refusal>
     ensures { ((σ : State) → Holds s.now σ → result ≡ asker_of σ n) × Placed result }
 {
-    let Found::At(place) = sessions::find(s, n) else {
-        return Asker::Refused(machine::NO_SESSION);
+    let Some(place) = sessions::find(s, n) else {
+        return Err(Refusal::NoSession);
     };
     let session = sessions::load(s, place);
     if session.is_sealed() {
-        return Asker::Refused(machine::SEALED);
+        return Err(Refusal::Sealed);
     }
-    Asker::Open { place, session }
+    Ok(Asker { place, session })
 }

@@ -1,13 +1,17 @@
 // The book: what the rehearsal remembers beside the cache. Its values, the notes, are read and written by the crate `notes`.
 #![tactic(auto)]
 
-ghost use Rattle.std.specs.Prelude.{◌≡◌, ◌<◌, length};
+ghost use Rattle.std.specs.Prelude.{◌≡◌, ◌<◌};
 ghost use Rattle.machine.specs.Sizes.{session_count};
-ghost use Rattle.book.specs.Book.{book_size, started, with_started, lines_in, broken_in, mark, with_mark, counted};
+ghost use Rattle.book.specs.Book.{started, with_started, lines_in, broken_in, mark, with_mark, counted};
 
 pub const BOOK_SIZE: usize = 33824;
 
+// The book's bytes. The length is the type's, so that no function asks for it.
+pub type Book = [u8; BOOK_SIZE];
+
 // The rule that a line breaks where it breaks none.
+// Kept: a rule is told by its number, as its column prints it and the definitions say it (`risk_of`, `rule_of`).
 pub const KEPT: u64 = 0;
 
 const STARTED_AT: usize = 0;
@@ -21,38 +25,33 @@ const MARKS_FROM: usize = 33312;
 const MARK_WIDTH: usize = 4;
 
 // START has answered READY.
-pub fn started(b: &[u8]) -> bool
-    requires { length b.now ≡ book_size }
+pub fn started(b: &Book) -> bool
     ensures { result ≡ started b.now }
 {
     b[STARTED_AT] != 0
 }
 
-pub fn set_started(b: &mut [u8])
-    requires { length b.old ≡ book_size }
+pub fn set_started(b: &mut Book)
     ensures { b.new ≡ with_started b.old }
 {
     lent::store_u8(b, STARTED_AT, 1);
 }
 
 // The lines read, and those with a rule broken.
-pub fn lines(b: &[u8]) -> u64
-    requires { length b.now ≡ book_size }
+pub fn lines(b: &Book) -> u64
     ensures { result ≡ lines_in b.now }
 {
     lent::load_u64(b, LINES_AT)
 }
 
-pub fn broken(b: &[u8]) -> u64
-    requires { length b.now ≡ book_size }
+pub fn broken(b: &Book) -> u64
     ensures { result ≡ broken_in b.now }
 {
     lent::load_u64(b, BROKEN_AT)
 }
 
 // One line more is read, which breaks the rule of that number.
-pub fn count(b: &mut [u8], rule: u64)
-    requires { length b.old ≡ book_size }
+pub fn count(b: &mut Book, rule: u64)
     ensures { b.new ≡ counted b.old rule }
 {
     let n = std::num::wrapping_add_u64(lines(b), 1);
@@ -65,15 +64,15 @@ pub fn count(b: &mut [u8], rule: u64)
 }
 
 // The last session at place i for which the register has written.
-pub fn mark(b: &[u8], i: usize) -> u32
-    requires { (length b.now ≡ book_size) × (i < session_count) }
+pub fn mark(b: &Book, i: usize) -> u32
+    requires { i < session_count }
     ensures { result ≡ mark b.now i }
 {
     lent::load_u32(b, MARKS_FROM + i * MARK_WIDTH)
 }
 
-pub fn set_mark(b: &mut [u8], i: usize, n: u32)
-    requires { (length b.old ≡ book_size) × (i < session_count) }
+pub fn set_mark(b: &mut Book, i: usize, n: u32)
+    requires { i < session_count }
     ensures { b.new ≡ with_mark b.old i n }
 {
     lent::store_u32(b, MARKS_FROM + i * MARK_WIDTH, n);

@@ -1,5 +1,6 @@
 -- The parts of a step as the code takes them, said of the bytes: what is held after the clock's test, after the command, after expiry,
 -- and after the check of the whole buffer.
+use Rattle.std.specs.Prelude.{Ok, Err}
 use mathlib.Core.Path.{◌≡◌, refl, sym, ap, ◌∙◌}
 use mathlib.Core.Bool.{true, false, or-true}
 use mathlib.Core.List.{List}
@@ -25,14 +26,14 @@ use Rattle.outcome.specs.Outcome.{tried, acted, is_refused, Gives, Does}
 use Rattle.outcome.proofs.Told.{gives}
 use Rattle.outcome.proofs.Steps.{acted_clock, acted_in_time, step_still}
 use Rattle.refusals.specs.Met.{refusal_of}
-use Rattle.refusals.specs.declared.Refusal.{Refusal}
+use Rattle.machine.specs.declared.Refusal.{Refusal}
 use Rattle.cache.specs.Run.{encoded, ran}
 
-refusal-some : {e : ℕ} (o : Option ℕ) → refusal_of o ≡ Refusal.Is e → o ≡ some e
+refusal-some : {e : Refusal} (o : Option Refusal) → refusal_of o ≡ Err e → o ≡ some e
 refusal-some none q = zero_one cc
 refusal-some (some d) q = cc
 
-refusal-none : (o : Option ℕ) → refusal_of o ≡ Refusal.Nothing → o ≡ none
+refusal-none : (o : Option Refusal) → refusal_of o ≡ Ok tt → o ≡ none
 refusal-none none q = refl
 refusal-none (some d) q = zero_one cc
 
@@ -56,11 +57,11 @@ module _ (s : State) (now : ℕ) (c : Command) (v : Value) where
   accepted_still p q r g h = rw (acted_in_time s now c v (in_time p q) (sym (ap is_refused g.answer) ∙ r)) (record { answer = g.answer; holds = h })
 
   -- after expiry
-  pub refused-expired : {e : ℕ} {b : List ℕ} → refusal_of (refusal (expire now s) now c v) ≡ Refusal.Is e → Holds b s → Gives (step s now c v) (Answer.Refused e) b
+  pub refused-expired : {e : Refusal} {b : List ℕ} → refusal_of (refusal (expire now s) now c v) ≡ Err e → Holds b s → Gives (step s now c v) (Answer.Refused e) b
   unfolding step settled
   refused-expired q h = rw (refusal-some (refusal (expire now s) now c v) q) (record { answer = refl; holds = h })
 
-  pub accepted_expired : {a : Answer} {b : List ℕ} → refusal_of (refusal (expire now s) now c v) ≡ Refusal.Nothing → Gives (acted (expire now s) now c v) a b → Gives (step s now c v) a b
+  pub accepted_expired : {a : Answer} {b : List ℕ} → refusal_of (refusal (expire now s) now c v) ≡ Ok tt → Gives (acted (expire now s) now c v) a b → Gives (step s now c v) a b
   unfolding step acted settled
   accepted_expired q g = let e = refusal-none (refusal (expire now s) now c v) q in rw e (rw e at g)
 

@@ -1,18 +1,18 @@
 // The cache: every command on the lent state.
 #![tactic(auto)]
 
-ghost use Rattle.std.specs.Prelude.{◌≡◌, ◌≤◌, length};
-ghost use Rattle.machine.specs.Sizes.{state_size, time_max};
+ghost use Rattle.std.specs.Prelude.{◌≡◌, ◌≤◌};
+ghost use Rattle.machine.specs.Sizes.{time_max};
 ghost use Rattle.machine.specs.Step.{step};
 ghost use Rattle.outcome.specs.Outcome.{tried, acted, Does};
 ghost use Rattle.cache.specs.Run.{ran};
 
-use machine::{Answer, Command};
-use refusals::Refusal;
+use layout::Buffer;
+use machine::{Answer, Command, Refusal};
 
 // A command on a state on which nothing lapses, its clock aside.
-fn act(s: &mut [u8], time: u64, command: Command, value: &[u8]) -> Answer
-    requires { (length s.old ≡ state_size) × (time ≤ time_max) }
+fn act(s: &mut Buffer, time: u64, command: Command, value: &[u8]) -> Answer
+    requires { time ≤ time_max }
     ensures { Does s.old (λ σ. tried σ time command value.now) result s.new }
 {
     match command {
@@ -36,15 +36,14 @@ fn act(s: &mut [u8], time: u64, command: Command, value: &[u8]) -> Answer
 }
 
 // CLOCK comes first; an accepted command moves the clock.
-fn still(s: &mut [u8], time: u64, command: Command, value: &[u8]) -> Answer
-    requires { length s.old ≡ state_size }
+fn still(s: &mut Buffer, time: u64, command: Command, value: &[u8]) -> Answer
     ensures { Does s.old (λ σ. acted σ time command value.now) result s.new }
 {
     if time < header::clock(s) {
-        return Answer::Refused(machine::CLOCK);
+        return Answer::Refused(Refusal::Clock);
     }
     if machine::TIME_MAX < time {
-        return Answer::Refused(machine::CLOCK);
+        return Answer::Refused(Refusal::Clock);
     }
     let r = act(s, time, command, value);
     if outcome::is_refused(r) {
@@ -55,21 +54,19 @@ fn still(s: &mut [u8], time: u64, command: Command, value: &[u8]) -> Answer
 }
 
 // Something lapses: whether the command is refused after expiry is decided by reading alone, so that a refusal leaves the state as it came.
-fn lapsing(s: &mut [u8], time: u64, command: Command, value: &[u8]) -> Answer
-    requires { length s.old ≡ state_size }
+fn lapsing(s: &mut Buffer, time: u64, command: Command, value: &[u8]) -> Answer
     ensures { Does s.old (λ σ. step σ time command value.now) result s.new }
 {
     match refusals::find(s, time, command, value) {
-        Refusal::Is(e) => Answer::Refused(e),
-        Refusal::Nothing => {
+        Err(refusal) => Answer::Refused(refusal),
+        Ok(()) => {
             sweep::sweep(s, time);
             still(s, time, command, value)
         }
     }
 }
 
-fn settle(s: &mut [u8], time: u64, command: Command, value: &[u8]) -> Answer
-    requires { length s.old ≡ state_size }
+fn settle(s: &mut Buffer, time: u64, command: Command, value: &[u8]) -> Answer
     ensures { Does s.old (λ σ. step σ time command value.now) result s.new }
 {
     if sweep::lapses(s, time) {
@@ -82,8 +79,11 @@ fn settle(s: &mut [u8], time: u64, command: Command, value: &[u8]) -> Answer
 pub fn run(state: &mut [u8], time: u64, command: Command, value: &[u8]) -> Answer
     ensures { (result ≡ (ran state.old time command value.now).answer) × (state.new ≡ (ran state.old time command value.now).bytes) }
 {
-    if !state::well_formed(state) {
-        return Answer::Refused(machine::STATE);
+    let Some(buffer) = state.as_mut_array() else {
+        return Answer::Refused(Refusal::State);
+    };
+    if !state::well_formed(buffer) {
+        return Answer::Refused(Refusal::State);
     }
-    settle(state, time, command, value)
+    settle(buffer, time, command, value)
 }

@@ -1,42 +1,24 @@
 -- A count is written from its lowest digit at the last place down to the first: what is still to be written is always the digits that are
--- left, at the front, and where none is left the buffer is as it is to be. Before it, the digits are counted by the divisions that leave
--- something.
-use Rattle.std.proofs.Common.{◌≡◌, ℕ, zero, suc, ◌+◌, ◌-◌, ◌/◌, ◌%◌, ◌^◌, ◌<◌, ◌≤◌, List, [], ◌∷◌, ◌++◌, length, take, drop, set, sym, ap, ◌∙◌, append_assoc, zero-add, arith, length-append, length-take-le, drop_at, le-leb}
+-- left, at the front, and where none is left the buffer is as it is to be. How many there are is told by the powers of ten around it.
+use Rattle.std.proofs.Common.{◌≡◌, ℕ, zero, suc, ◌+◌, ◌-◌, ◌*◌, ◌/◌, ◌%◌, ◌^◌, ◌<◌, ◌≤◌, List, [], ◌∷◌, ◌++◌, length, take, drop, set, refl, sym, ap, ◌∙◌, append_assoc, zero-add, arith, length-append, length-take-le, drop_at, le-leb}
 use lib.Seq.{set_split}
 use borrow.Author.Tests.{lt-leb}
 use Rattle.lent.specs.Bytes.{splice}
 use Rattle.counts.specs.Count.{digits_max, decimal, decimal_length, written}
 use Rattle.counts.proofs.Decimal.{width, width_one, width-more, low_digits, length_low, decimal-width, decimal_low}
 
--- w - 1 digits of n are counted, and left is what stands before them
-pub record Counted (n left w : ℕ) : Type 0 where
-  pub few : w ≤ digits_max
-  pub small : left < 10 ^ (digits_max + 1 - w)
-  pub rest : decimal_length n + 1 ≡ w + width (digits_max + 1 - w) left
+-- a number from 10 ^ k up to the next power of ten has k + 1 digits
+width_exact : (f k n : ℕ) → k < f → 10 ^ k ≤ n → n < 10 * 10 ^ k → width f n ≡ suc k
+width_exact zero k n l h m = absurd (omega arith)
+width_exact (suc f) zero n l h m = width_one f n (omega arith)
+width_exact (suc f) (suc k) n l h m = width-more f n (omega arith) ∙ ap suc (width_exact f k (n / 10) (omega arith) (omega arith) (omega arith))
 
-pub count-start : (n : ℕ) → n < 10 ^ digits_max → Counted n n 1
-count-start n h = record { few = omega arith; small = h; rest = rw (decimal-width n) (omega arith) }
+pub digits_exact : (n k : ℕ) → k < digits_max → 10 ^ k ≤ n → n < 10 * 10 ^ k → decimal_length n ≡ k + 1
+digits_exact n k l h m = decimal-width n ∙ rw (width_exact digits_max k n l h m) (omega arith)
 
--- where f + 1 digits are allowed and more than one is left, another may follow
-digits_more : (f left : ℕ) → 10 ≤ left → left < 10 ^ suc f → 1 ≤ f
-digits_more zero left h l = omega arith
-digits_more (suc f) left h l = omega arith
-
-pub count_turn : (n left w : ℕ) → 10 ≤ left → Counted n left w → Counted n (left / 10) (w + 1)
-count_turn n left w h c =
-    let e : digits_max + 1 - w ≡ suc (digits_max - w) = omega arith in
-    let g : digits_max + 1 - (w + 1) ≡ digits_max - w = omega arith in
-    let l : left < 10 ^ suc (digits_max - w) = rw (← e) c.small in
-    record {
-      few = omega (arith, digits_more (digits_max - w) left h l);
-      small = rw g (omega arith);
-      rest = rw (g, c.rest, e, width-more (digits_max - w) left h) (omega arith);
-    }
-
-pub count_end : (n left w : ℕ) → left < 10 → Counted n left w → w ≡ decimal_length n
-count_end n left w h c =
-    let e : digits_max + 1 - w ≡ suc (digits_max - w) = omega arith in
-    omega (arith, rw (e, width_one (digits_max - w) left h) at c.rest)
+pub zero-digit : decimal_length 0 ≡ 1
+unfolding decimal_length
+zero-digit = refl
 
 -- the last byte of what is written may be stored before the others
 splice-last : (s y : List ℕ) (d k : ℕ) → length y ≡ k → k < length s → splice s 0 (y ++ (d ∷ [])) ≡ splice (set s k d) 0 y

@@ -1,9 +1,7 @@
 -- Counts: what bytes say a number, and the bytes that say it. 01, DELTA: "A count is 1 to 20 ASCII digits, at most 2^64 - 1, digits only ..
 -- results have no leading zero."
-use Rattle.std.specs.Prelude.{ℕ, zero, suc, ◌+◌, ◌-◌, ◌*◌, ◌/◌, ◌%◌, ◌^◌, Bool, true, ◌&&◌, List, [], ◌∷◌, length, nat_le, nat_lt, if◌then◌else◌}
+use Rattle.std.specs.Prelude.{ℕ, zero, suc, ◌+◌, ◌-◌, ◌*◌, ◌/◌, ◌%◌, ◌^◌, Bool, true, ◌&&◌, List, [], ◌∷◌, length, nat_le, nat_lt, if◌then◌else◌, Option, Some, None}
 use Rattle.lent.specs.Bytes.{splice}
-use Rattle.counts.specs.declared.Count.{Count}
-use Rattle.counts.specs.declared.Count.TheVariants.{Is, Not}
 
 -- the most digits a count has, and the largest count
 abbrev pub digits_max : ℕ
@@ -28,12 +26,12 @@ numeral a (b ∷ v) = numeral (a * 10 + (b - 48)) v
 abbrev pub is_count : List ℕ → Bool
 is_count v = nat_le 1 (length v) && nat_le (length v) digits_max && all_digits v && nat_le (numeral 0 v) count_max
 
-unfoldable pub read_count : List ℕ → Count
-read_count v = if is_count v then Is (numeral 0 v) else Not
+unfoldable pub read_count : List ℕ → Option ℕ
+read_count v = if is_count v then Some (numeral 0 v) else None
 
 -- the count a with the digit b behind it
-unfoldable pub extended : ℕ → ℕ → Count
-extended a b = if digit b && nat_le (a * 10 + (b - 48)) count_max then Is (a * 10 + (b - 48)) else Not
+unfoldable pub extended : ℕ → ℕ → Option ℕ
+extended a b = if digit b && nat_le (a * 10 + (b - 48)) count_max then Some (a * 10 + (b - 48)) else None
 
 -- the digits of n before those of v, at most f of them; none is a leading zero, but the one digit of 0
 abbrev pub digits : ℕ → ℕ → List ℕ → List ℕ

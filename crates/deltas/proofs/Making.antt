@@ -1,6 +1,6 @@
 -- What DELTA makes of a value: two values copied one behind the other are the longer value, if they fit, and a count that is written stands
 -- at the front of its buffer. Where there is no result nothing is said of the buffer.
-use Rattle.std.specs.Prelude.{if◌then◌else◌}
+use Rattle.std.specs.Prelude.{if◌then◌else◌, Some, None, Option as ProgramOption}
 use mathlib.Core.Path.{◌≡◌, refl, sym, ap}
 use mathlib.Core.List.{List, ◌++◌}
 use mathlib.Core.Option.{Option, none, some}
@@ -14,7 +14,6 @@ use borrow.Author.Tests.{ne_eqb, le-leb, lt-leb}
 use Rattle.lent.specs.Bytes.{splice}
 use Rattle.lent.proofs.Splice.{splice-next}
 use Rattle.counts.specs.Count.{read_count, written, raised, lowered}
-use Rattle.counts.specs.declared.Count.{Count}
 use Rattle.counts.proofs.Decimal.{decimal_most}
 use Rattle.counts.proofs.Laws.{written_room, written_front}
 use Rattle.machine.specs.Sizes.{value_max}
@@ -22,11 +21,10 @@ use Rattle.machine.specs.State.{Value}
 use Rattle.machine.specs.Effects.{fits, counts, operate}
 use Rattle.machine.specs.Words.{APPEND, PREPEND, INCREMENT}
 use Rattle.deltas.specs.Changes.{Makes}
-use Rattle.deltas.specs.declared.Changed.{Changed}
 
 -- ---- no result
 
-pub makes_drop : {o : Option Value} {b : List ℕ} → o ≡ none → Makes o Changed.Drop b
+pub makes_drop : {o : Option Value} {b : List ℕ} → o ≡ none → Makes o None b
 makes_drop e = record { value = sym e; short = tt }
 
 -- ---- one value behind the other
@@ -38,7 +36,7 @@ module _ (a b : List ℕ) where
   both_copied : (s : List ℕ) → length a + length b ≤ length s → splice (splice s 0 a) (length a) b ≡ splice s 0 (a ++ b)
   both_copied s h = rw (zero-add (length a)) at (splice-next s a b 0 (length a) refl (omega arith))
 
-  pub joined : (s : List ℕ) → length s ≡ value_max → length a + length b ≤ value_max → Makes (fits (a ++ b)) (Changed.To (length a + length b)) (splice (splice s 0 a) (length a) b)
+  pub joined : (s : List ℕ) → length s ≡ value_max → length a + length b ≤ value_max → Makes (fits (a ++ b)) (Some (length a + length b)) (splice (splice s 0 a) (length a) b)
   unfolding splice
   joined s l h =
       let f : fits (a ++ b) ≡ some (a ++ b) = rw (le-leb (length (a ++ b)) value_max (rw (length-append a b) h)) in
@@ -46,15 +44,15 @@ module _ (a b : List ℕ) where
 
 -- ---- a count
 
-module _ (operation : ℕ) (c d : Count) where
-  pub counted_value : c ≡ Count.Not → counts operation c d ≡ none
+module _ (operation : ℕ) (c d : ProgramOption ℕ) where
+  pub counted_value : c ≡ None → counts operation c d ≡ none
   counted_value e = rw e
 
-  pub counted_operand : (a : ℕ) → c ≡ Count.Is a → d ≡ Count.Not → counts operation c d ≡ none
+  pub counted_operand : (a : ℕ) → c ≡ Some a → d ≡ None → counts operation c d ≡ none
   counted_operand a e f = rw (e, f)
 
-pub counted : (operation a b n w : ℕ) (c d : Count) (s t : List ℕ) → c ≡ Count.Is a → d ≡ Count.Is b → n ≡ (if eqb operation INCREMENT then raised a b else lowered a b)
-    → length s ≡ value_max → w ≡ (written n s).number → t ≡ (written n s).bytes → Makes (counts operation c d) (Changed.To w) t
+pub counted : (operation a b n w : ℕ) (c d : ProgramOption ℕ) (s t : List ℕ) → c ≡ Some a → d ≡ Some b → n ≡ (if eqb operation INCREMENT then raised a b else lowered a b)
+    → length s ≡ value_max → w ≡ (written n s).number → t ≡ (written n s).bytes → Makes (counts operation c d) (Some w) t
 counted operation a b n w c d s t e f g l p q =
     record {
       value = rw (e, f, p, q, ← g) (ap (λ (v : Value). some v) (written_front n s (omega arith)));

@@ -1,5 +1,7 @@
 -- What DELTA answers and leaves, case by case: its own tests in their order, and then what its session found; and where a session stages,
 -- the row that was found is the one that is changed.
+use Rattle.machine.specs.declared.Refusal.{Refusal}
+use Rattle.std.specs.Prelude.{Option as Made, Result, Ok}
 use mathlib.Core.Path.{◌≡◌, refl, ap, ◌∙◌}
 use mathlib.Core.Bool.{true, false}
 use mathlib.Core.List.{List}
@@ -20,7 +22,6 @@ use Rattle.layout.specs.Holds.{Holds}
 use Rattle.stages.specs.Staging.{staging_of}
 use Rattle.stages.specs.declared.Staging.{Staging}
 use Rattle.stages.proofs.Staged.{staged_by, staged_by_lem, staging_at}
-use Rattle.deltas.specs.declared.Changed.{Changed}
 use Rattle.deltas.specs.Changes.{value_in, changed_in, changes}
 
 -- DELTA's arguments are right
@@ -49,23 +50,23 @@ module _ (s : State) (n step k operation : ℕ) (x : Value) where
   delta_long a o b h = rw (FirstRefusal.delta_long s n step k operation x a o b h)
 
   module _ (w : Right step k operation x) where
-    pub delta_found : {r : Staging} → staging_of s n step k INCREMENTAL ≡ r → tried s 0 (Delta n step k operation) x ≡ staged_by s (changed operation x (staged_in (row_of s n k)) (cached s k)) r
+    pub delta_found : {r : Result Staging Refusal} → staging_of s n step k INCREMENTAL ≡ r → tried s 0 (Delta n step k operation) x ≡ staged_by s (changed operation x (staged_in (row_of s n k)) (cached s k)) r
     unfolding tried effect
     delta_found e =
         rw (FirstRefusal.delta_staging s n step k operation x w.key w.operation w.step w.short)
         (staged_by_lem s n step k INCREMENTAL (changed operation x (staged_in (row_of s n k)) (cached s k)) e)
 
     -- the session at place i and its row at place j: the session's next record, and then the row's change
-    pub delta_changes : sound s ≡ true → (i j : ℕ) (y : Session) → staging_of s n step k INCREMENTAL ≡ Staging.At i j y
+    pub delta_changes : sound s ≡ true → (i j : ℕ) (y : Session) → staging_of s n step k INCREMENTAL ≡ Ok (Staging.At i j y)
         → tried s 0 (Delta n step k operation) x ≡ changes (with_sessions s (set s.sessions i (session y))) j k operation x
     unfolding changes
     delta_changes ok i j y e =
-        delta_found e ∙ ap (λ (u : Row). staged_by s (changed operation x (staged_in u) (cached s k)) (Staging.At i j y)) (staging_at s n step k INCREMENTAL ok i j y e).row
+        delta_found e ∙ ap (λ (u : Row). staged_by s (changed operation x (staged_in u) (cached s k)) (Ok (Staging.At i j y))) (staging_at s n step k INCREMENTAL ok i j y e).row
 
 -- ---- what is staged
 
 -- the change of row i on key k, once what was made is known: a, which the buffer o has, is to be staged, and d, which is a, is staged
-pub change_gives : (s : State) (i k operation : ℕ) (x : Value) (o : List ℕ) {a d : Changed} {b : List ℕ} → or_drop (value_in a o) ≡ changed_in s i k operation x → a ≡ d
+pub change_gives : (s : State) (i k operation : ℕ) (x : Value) (o : List ℕ) {a d : Made ℕ} {b : List ℕ} → or_drop (value_in a o) ≡ changed_in s i k operation x → a ≡ d
     → Holds b (with_rows s (set s.rows i (restaged (or_drop (value_in d o)) (row_at s i)))) → Gives (changes s i k operation x) (staged_answer (or_drop (value_in d o))) b
 unfolding changes
 change_gives s i k operation x o made e h = rw (← made, e) (record { answer = refl; holds = h })

@@ -1,23 +1,22 @@
 -- What DELTA makes of a value, in a buffer that is lent for it, and what it stages.
-use Rattle.std.specs.Prelude.{ℕ, ◌≤◌, ◌≡◌, List, take, set}
+use Rattle.std.specs.Prelude.{ℕ, ◌≤◌, ◌≡◌, List, take, set, Option as Made, Some, None}
 use Rattle.std.proofs.Math.Option.{Option, none, some}
 use Rattle.machine.specs.Sizes.{value_max}
 use Rattle.machine.specs.State.{Value, Staged, State, staged_in, row_at, cached}
 use Rattle.machine.specs.Expiry.{with_rows}
 use Rattle.machine.specs.Effects.{Outcome, told, changed, staged_answer, restaged}
-use Rattle.deltas.specs.declared.Changed.{Changed}
 
 -- the new value stands at the front of the buffer b; or there is none
-abbrev pub value_in : Changed → List ℕ → Option Value
-value_in (Changed.To n) b = some (take n b)
-value_in Changed.Drop b = none
+abbrev pub value_in : Made ℕ → List ℕ → Option Value
+value_in (Some n) b = some (take n b)
+value_in None b = none
 
-abbrev pub Short : Changed → Type 0
-Short (Changed.To n) = n ≤ value_max
-Short Changed.Drop = Unit
+abbrev pub Short : Made ℕ → Type 0
+Short (Some n) = n ≤ value_max
+Short None = Unit
 
 -- the buffer b has the result o, if there is one
-pub record Makes (o : Option Value) (r : Changed) (b : List ℕ) : Type 0 where
+pub record Makes (o : Option Value) (r : Made ℕ) (b : List ℕ) : Type 0 where
   pub value : value_in r b ≡ o
   pub short : Short r
 

@@ -5,7 +5,7 @@
 ghost use Rattle.std.specs.Prelude.{◌≡◌, false, ◌++◌, ◌+◌, ◌≤◌, ◌<◌, eqb, length, if◌then◌else◌};
 ghost use Rattle.lent.specs.Bytes.{win};
 ghost use Rattle.counts.specs.Count.{read_count, raised, lowered};
-ghost use Rattle.machine.specs.Sizes.{state_size, key_count, row_count, value_max};
+ghost use Rattle.machine.specs.Sizes.{key_count, row_count, value_max};
 ghost use Rattle.machine.specs.State.{State, free_row, row_at};
 ghost use Rattle.machine.specs.Effects.{fits, counts, operate, or_drop};
 ghost use Rattle.machine.specs.declared.Command.TheVariants.{Delta};
@@ -13,40 +13,36 @@ ghost use Rattle.layout.specs.Holds.{Holds};
 ghost use Rattle.outcome.specs.Outcome.{tried, Gives, Does};
 ghost use Rattle.deltas.specs.Changes.{value_in, Short, Makes, changed_in, changes};
 
-use counts::Count;
-use machine::Answer;
+use layout::Buffer;
+use machine::{Answer, Refusal};
 use stages::Staging;
 
 // The operations; the fourth is decrement.
+// Kept: the document's commands carry an operation as a number, and test it by a range.
 const APPEND: u64 = 1;
 
 const PREPEND: u64 = 2;
 
 const INCREMENT: u64 = 3;
 
-// What a value becomes: so many bytes at the front of the lent buffer, or DROP.
-#[derive(Clone, Copy)]
-pub enum Changed {
-    To(usize),
-    Drop,
-}
+// A value becomes so many bytes at the front of `out`, or none: DROP.
 
 // a, and b behind it.
-fn join(a: &[u8], b: &[u8], out: &mut [u8]) -> Changed
+fn join(a: &[u8], b: &[u8], out: &mut [u8]) -> Option<usize>
     requires { length out.old ≡ value_max }
     ensures { Makes (fits (a.now ++ b.now)) result out.new }
 {
     let n = a.len();
     let m = b.len();
     if layout::VALUE_MAX < n {
-        return Changed::Drop;
+        return None;
     }
     if layout::VALUE_MAX - n < m {
-        return Changed::Drop;
+        return None;
     }
     blocks::copy_in(out, 0, a);
     blocks::copy_in(out, n, b);
-    Changed::To(n + m)
+    Some(n + m)
 }
 
 // a raised or lowered by b.
@@ -60,22 +56,18 @@ fn calculate(operation: u64, a: u64, b: u64) -> u64
 }
 
 // The value is a count and so is the operand.
-fn count(operation: u64, operand: &[u8], value: &[u8], out: &mut [u8]) -> Changed
+fn count(operation: u64, operand: &[u8], value: &[u8], out: &mut [u8]) -> Option<usize>
     requires { length out.old ≡ value_max }
     ensures { Makes (counts operation (read_count value.now) (read_count operand.now)) result out.new }
 {
-    let Count::Is(a) = counts::read(value) else {
-        return Changed::Drop;
-    };
-    let Count::Is(b) = counts::read(operand) else {
-        return Changed::Drop;
-    };
+    let a = counts::read(value)?;
+    let b = counts::read(operand)?;
     let n = calculate(operation, a, b);
-    Changed::To(counts::write(n, out))
+    Some(counts::write(n, out))
 }
 
 // The operation on a value.
-fn operate(operation: u64, operand: &[u8], value: &[u8], out: &mut [u8]) -> Changed
+fn operate(operation: u64, operand: &[u8], value: &[u8], out: &mut [u8]) -> Option<usize>
     requires { length out.old ≡ value_max }
     ensures { Makes (operate operation operand.now value.now) result out.new }
 {
@@ -94,7 +86,7 @@ fn operate_at(
     operation: u64,
     operand: &[u8],
     out: &mut [u8],
-) -> Changed
+) -> Option<usize>
     requires { (at + n ≤ length s.now) × (length out.old ≡ value_max) }
     ensures { Makes (operate operation operand.now (win s.now at n)) result out.new }
 {
@@ -102,13 +94,20 @@ fn operate_at(
 }
 
 // What is to be staged in a row on key k: the operation on its staged value, or else on the cached one.
-fn work(s: &[u8], row: usize, k: usize, operation: u64, operand: &[u8], out: &mut [u8]) -> Changed
-    requires { (length s.now ≡ state_size) × ((row < row_count) × ((k < key_count) × (length out.old ≡ value_max))) }
+fn work(
+    s: &Buffer,
+    row: usize,
+    k: usize,
+    operation: u64,
+    operand: &[u8],
+    out: &mut [u8],
+) -> Option<usize>
+    requires { (row < row_count) × ((k < key_count) × (length out.old ≡ value_max)) }
     ensures { ((σ : State) → Holds s.now σ → or_drop (value_in result out.new) ≡ changed_in σ row k operation operand.now) × Short result }
 {
     let mark = rows::mark(s, row);
     if mark == layout::DROPPED {
-        return Changed::Drop;
+        return None;
     }
     if mark == layout::VALUED {
         let n = rows::staged_length(s, row);
@@ -116,7 +115,7 @@ fn work(s: &[u8], row: usize, k: usize, operation: u64, operand: &[u8], out: &mu
         return operate_at(s, at, n, operation, operand, out);
     }
     if !keys::has_value(s, k) {
-        return Changed::Drop;
+        return None;
     }
     let n = keys::value_length(s, k);
     let at = layout::KEYS_FROM + k * layout::KEY_WIDTH + layout::KEY_VALUE;
@@ -124,17 +123,17 @@ fn work(s: &[u8], row: usize, k: usize, operation: u64, operand: &[u8], out: &mu
 }
 
 // It is staged. The value is made in a buffer of its own, since the one that it is made of stands where it goes.
-fn change(s: &mut [u8], row: usize, k: usize, operation: u64, operand: &[u8]) -> Answer
-    requires { (length s.old ≡ state_size) × ((row < row_count) × (k < key_count)) }
+fn change(s: &mut Buffer, row: usize, k: usize, operation: u64, operand: &[u8]) -> Answer
+    requires { (row < row_count) × (k < key_count) }
     ensures { (σ : State) → Holds s.old σ → free_row (row_at σ row) ≡ false → Gives (changes σ row k operation operand.now) result s.new }
 {
     let mut out = [0u8; layout::VALUE_MAX];
     match work(s, row, k, operation, operand, &mut out) {
-        Changed::To(n) => {
+        Some(n) => {
             stagings::stage(s, row, &out[..n]);
             Answer::Staged
         }
-        Changed::Drop => {
+        None => {
             stagings::stage_drop(s, row);
             Answer::Dropped
         }
@@ -143,33 +142,32 @@ fn change(s: &mut [u8], row: usize, k: usize, operation: u64, operand: &[u8]) ->
 
 // DELTA: the operation on the staged value of its row, or else on the cached one; where there is none, DROP.
 pub fn delta(
-    s: &mut [u8],
+    s: &mut Buffer,
     session: u64,
     step: u64,
     key: u64,
     operation: u64,
     operand: &[u8],
 ) -> Answer
-    requires { length s.old ≡ state_size }
     ensures { Does s.old (λ σ. tried σ 0 (Delta session step key operation) operand.now) result s.new }
 {
     if layout::KEY_COUNT as u64 <= key {
-        return Answer::Refused(machine::ARG);
+        return Answer::Refused(Refusal::Arg);
     }
     if !decisions::is_operation(operation) {
-        return Answer::Refused(machine::ARG);
+        return Answer::Refused(Refusal::Arg);
     }
     if machine::STEP_MAX <= step {
-        return Answer::Refused(machine::ARG);
+        return Answer::Refused(Refusal::Arg);
     }
     if layout::VALUE_MAX < operand.len() {
-        return Answer::Refused(machine::LONG);
+        return Answer::Refused(Refusal::Long);
     }
     let k = key as usize;
     match stages::find(s, session, step, k, machine::INCREMENTAL) {
-        Staging::Refused(e) => Answer::Refused(e),
-        Staging::Repeated => Answer::Repeated,
-        Staging::At { place, row, next } => {
+        Err(refusal) => Answer::Refused(refusal),
+        Ok(Staging::Repeated) => Answer::Repeated,
+        Ok(Staging::At { place, row, next }) => {
             sessions::store(s, place, next);
             change(s, row, k, operation, operand)
         }

@@ -1,16 +1,18 @@
 // What is dropped of the lent state: a row, an I lease, a cached value; and a staged value that is cached in place of the old one.
 #![tactic(auto)]
 
-ghost use Rattle.std.specs.Prelude.{◌≡◌, ◌<◌, length, set};
+ghost use Rattle.std.specs.Prelude.{◌<◌, set};
 ghost use Rattle.std.proofs.Math.Option.{none};
-ghost use Rattle.machine.specs.Sizes.{state_size, key_count, row_count};
+ghost use Rattle.machine.specs.Sizes.{key_count, row_count};
 ghost use Rattle.machine.specs.State.{State, no_row, staged_in, row_at};
 ghost use Rattle.machine.specs.Expiry.{with_keys, with_rows, set_value, set_lease};
 ghost use Rattle.machine.specs.Effects.{to_cache};
 ghost use Rattle.layout.specs.Holds.{Holds};
 
-pub fn free_row(s: &mut [u8], i: usize)
-    requires { (length s.old ≡ state_size) × (i < row_count) }
+use layout::Buffer;
+
+pub fn free_row(s: &mut Buffer, i: usize)
+    requires { i < row_count }
     ensures { (σ : State) → Holds s.old σ → Holds s.new (with_rows σ (set σ.rows i no_row)) }
 {
     blocks::clear(
@@ -20,8 +22,8 @@ pub fn free_row(s: &mut [u8], i: usize)
     );
 }
 
-pub fn drop_lease(s: &mut [u8], k: usize)
-    requires { (length s.old ≡ state_size) × (k < key_count) }
+pub fn drop_lease(s: &mut Buffer, k: usize)
+    requires { k < key_count }
     ensures { (σ : State) → Holds s.old σ → Holds s.new (with_keys σ (set_lease σ.keys k none)) }
 {
     blocks::clear(
@@ -32,8 +34,8 @@ pub fn drop_lease(s: &mut [u8], k: usize)
 }
 
 // The mark with the length, and the 64 bytes of the value; the lease lies between them.
-pub fn drop_value(s: &mut [u8], k: usize)
-    requires { (length s.old ≡ state_size) × (k < key_count) }
+pub fn drop_value(s: &mut Buffer, k: usize)
+    requires { k < key_count }
     ensures { (σ : State) → Holds s.old σ → Holds s.new (with_keys σ (set_value σ.keys k none)) }
 {
     let at = layout::KEYS_FROM + k * layout::KEY_WIDTH;
@@ -42,8 +44,8 @@ pub fn drop_value(s: &mut [u8], k: usize)
 }
 
 // What row i has staged becomes the value of key k: mark and length stand side by side in both, and the 64 bytes are the same.
-pub fn cache_staged(s: &mut [u8], k: usize, i: usize)
-    requires { (length s.old ≡ state_size) × ((k < key_count) × (i < row_count)) }
+pub fn cache_staged(s: &mut Buffer, k: usize, i: usize)
+    requires { (k < key_count) × (i < row_count) }
     ensures { (σ : State) → Holds s.old σ → Holds s.new (with_keys σ (set_value σ.keys k (to_cache (staged_in (row_at σ i))))) }
 {
     if rows::mark(s, i) != layout::VALUED {

@@ -9,6 +9,7 @@ ghost use Rattle.startup.specs.Start.{start_of};
 ghost use Rattle.exported.specs.Told.{version, Said, Replied, stretch_told};
 
 use machine::Answer;
+use words::Numbers;
 
 const VERSION: u64 = 1;
 
@@ -16,7 +17,7 @@ const VERSION: u64 = 1;
 fn tell(a: Answer, told: &mut [u64; 2]) -> u64
     ensures { Said a result told.new }
 {
-    let n = words::as_numbers(a);
+    let n = Numbers::from(a);
     *told = [n.detail, n.place];
     n.word
 }

@@ -1,4 +1,5 @@
 // The library that firmware links: the functions of `exported`, each with its contract, handed on to C under the same names. Its header is include/basalekko.h.
+// Kept: the functions of `exported` once more, for the C interface.
 #![tactic(auto)]
 
 ghost use Rattle.std.specs.Prelude.{◌≡◌};

@@ -2,26 +2,25 @@
 // the state and the clock, and nothing lapses.
 #![tactic(auto)]
 
-ghost use Rattle.std.specs.Prelude.{◌≡◌, [], length};
-ghost use Rattle.machine.specs.Sizes.{state_size};
+ghost use Rattle.std.specs.Prelude.{[]};
 ghost use Rattle.machine.specs.declared.Command.{Command};
 ghost use Rattle.outcome.specs.Outcome.{tried, Does};
 
-use machine::Answer;
+use layout::Buffer;
+use machine::{Answer, Refusal};
 
 // FILL: the value is cached and the I lease removed if the lease has that token. An absent lease has the token 0, which is no lease's.
-pub fn fill(s: &mut [u8], token: u64, key: u64, value: &[u8]) -> Answer
-    requires { length s.old ≡ state_size }
+pub fn fill(s: &mut Buffer, token: u64, key: u64, value: &[u8]) -> Answer
     ensures { Does s.old (λ σ. tried σ 0 (Command.Fill token key) value.now) result s.new }
 {
     if layout::KEY_COUNT as u64 <= key {
-        return Answer::Refused(machine::ARG);
+        return Answer::Refused(Refusal::Arg);
     }
     if layout::VALUE_MAX < value.len() {
-        return Answer::Refused(machine::LONG);
+        return Answer::Refused(Refusal::Long);
     }
     let k = key as usize;
-    let held = keys::lease_token(s, k) as u64;
+    let held = u64::from(keys::lease_token(s, k));
     if held == 0 {
         return Answer::Ignored;
     }
@@ -33,12 +32,11 @@ pub fn fill(s: &mut [u8], token: u64, key: u64, value: &[u8]) -> Answer
 }
 
 // EVICT: the key becomes absent; its rows and its I lease stay.
-pub fn evict(s: &mut [u8], key: u64) -> Answer
-    requires { length s.old ≡ state_size }
+pub fn evict(s: &mut Buffer, key: u64) -> Answer
     ensures { Does s.old (λ σ. tried σ 0 (Command.Evict key) []) result s.new }
 {
     if layout::KEY_COUNT as u64 <= key {
-        return Answer::Refused(machine::ARG);
+        return Answer::Refused(Refusal::Arg);
     }
     let k = key as usize;
     if !keys::has_value(s, k) {

@@ -1,6 +1,6 @@
 -- What GET comes to, case by case: each test of its list of refusals decided, in its order, then what the asker sees. A holder of a row
 -- meets no test beyond the session's; anyone else meets the test of the numbers only where a lease would be given.
-use Rattle.std.specs.Prelude.{if◌then◌else◌}
+use Rattle.std.specs.Prelude.{if◌then◌else◌, Some, None}
 use mathlib.Core.Path.{◌≡◌, refl, sym, ap, ◌∙◌}
 use mathlib.Core.Bool.{Bool, true, false, not, ◌&&◌}
 use mathlib.Core.List.{List, [], ◌∷◌}
@@ -23,12 +23,10 @@ use Rattle.machine.specs.declared.Command.TheVariants.{Get}
 use Rattle.machine.proofs.FirstRefusal
 use Rattle.layout.specs.Holds.{Holds}
 use Rattle.layout.specs.Search.{found}
-use Rattle.layout.specs.declared.Found.{Found}
 use Rattle.outcome.specs.Outcome.{unless, tried, Gives}
 use Rattle.sights.specs.Sights.{placed}
 use Rattle.sights.proofs.Sights.{row_taken, row_missing, sight-by}
 use Rattle.gets.specs.Got.{asked, absent, looked, others}
-use Rattle.sights.specs.declared.Sight.{Sight}
 
 -- ---- an absent key, anyone else
 
@@ -51,19 +49,19 @@ module _ (s : State) (now k : ℕ) where
   unfolding leased
   lease_gives token life e f h = record { answer = ap Answer.Lease e; holds = rw (add-one token, e, f) at h }
 
-  pub others-hit : (at n : ℕ) {b : List ℕ} → Holds b s → placed (cached_sight k (cached s k)) ≡ Sight.At at n → Gives (others s now k) (Answer.Hit at n) b
+  pub others-hit : (at n : ℕ) {b : List ℕ} → Holds b s → placed (cached_sight k (cached s k)) ≡ Some (record { at = at; length = n }) → Gives (others s now k) (Answer.Hit at n) b
   unfolding others
   others-hit at n {b} h e = go (cached_sight k (cached s k)) e
     where
-      go : (o : Option Seen) → placed o ≡ Sight.At at n → Gives (looked s now k o) (Answer.Hit at n) b
+      go : (o : Option Seen) → placed o ≡ Some (record { at = at; length = n }) → Gives (looked s now k o) (Answer.Hit at n) b
       go none p = zero_one cc
-      go (some x) p = record { answer = cc; holds = h }
+      go (some x) p = record { answer = sym (ap asked p); holds = h }
 
-  pub others-absent : placed (cached_sight k (cached s k)) ≡ Sight.Nothing → others s now k ≡ absent s now k
+  pub others-absent : placed (cached_sight k (cached s k)) ≡ None → others s now k ≡ absent s now k
   unfolding others
   others-absent e = go (cached_sight k (cached s k)) e
     where
-      go : (o : Option Seen) → placed o ≡ Sight.Nothing → looked s now k o ≡ absent s now k
+      go : (o : Option Seen) → placed o ≡ None → looked s now k o ≡ absent s now k
       go none p = refl
       go (some x) p = zero_one cc
 
@@ -100,14 +98,14 @@ module _ (s : State) (now n k : ℕ) where
           go false false x y = refl
 
       -- a row of its own was found, or none
-      pub got_held : {b : List ℕ} {i : ℕ} {r : Answer} → Holds b s → found row_count (row_place s n k) ≡ Found.At i → r ≡ asked (placed (row_sight i k (row_at s i) (cached s k))) → Gives (tried s now (Get n k) []) r b
+      pub got_held : {b : List ℕ} {i : ℕ} {r : Answer} → Holds b s → found row_count (row_place s n k) ≡ Some i → r ≡ asked (placed (row_sight i k (row_at s i) (cached s k))) → Gives (tried s now (Get n k) []) r b
       got_held {b} {i} {r} g f q = go (sight s n k) refl (q ∙ sym (ap (λ (o : Option Seen). asked (placed o)) (sight-by s n k g.fits.rows f)))
         where
           go : (o : Option Seen) → sight s n k ≡ o → r ≡ asked (placed o) → Gives (tried s now (Get n k) []) r b
           go none p q = rw (got_ask p (row_taken s n k i g.fits.rows f)) (record { answer = q; holds = g })
           go (some x) p q = rw (got_hit x p) (record { answer = q; holds = g })
 
-      pub got_others : {b : List ℕ} → Holds b s → found row_count (row_place s n k) ≡ Found.Nothing → tried s now (Get n k) [] ≡ others s now k
+      pub got_others : {b : List ℕ} → Holds b s → found row_count (row_place s n k) ≡ None → tried s now (Get n k) [] ≡ others s now k
       unfolding others
       got_others g f = go (cached_sight k (cached s k)) (sight-by s n k g.fits.rows f)
         where

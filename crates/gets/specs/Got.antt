@@ -1,5 +1,5 @@
 -- GET by parts: what it answers to a holder of a row on the key, and to anyone else.
-use Rattle.std.specs.Prelude.{ℕ, leb, length, if◌then◌else◌}
+use Rattle.std.specs.Prelude.{ℕ, leb, length, if◌then◌else◌, Option as Found, Some, None}
 use Rattle.std.proofs.Math.Option.{Option, none, some}
 use Rattle.machine.specs.Words.{NUMBERS}
 use Rattle.machine.specs.Sizes.{number_max}
@@ -7,12 +7,12 @@ use Rattle.machine.specs.State.{State, cached}
 use Rattle.machine.specs.Refusals.{Sight as Seen, blocked, cached_sight}
 use Rattle.machine.specs.Effects.{Outcome, told, wait, leased}
 use Rattle.machine.specs.declared.Answer.{Answer}
-use Rattle.sights.specs.declared.Sight.{Sight}
+use Rattle.sights.specs.declared.Span.{Span}
 
 -- a holder: HIT, or ASK
-abbrev pub asked : Sight → Answer
-asked (Sight.At at n) = Answer.Hit at n
-asked Sight.Nothing = Answer.Ask
+abbrev pub asked : Found Span → Answer
+asked (Some x) = Answer.Hit x.at x.length
+asked None = Answer.Ask
 
 -- the key is absent: blocked, BACKOFF w; free, LEASE t, if there is a token to give
 unfoldable pub absent : State → ℕ → ℕ → Outcome

@@ -1,4 +1,7 @@
 -- A text of hex is checked digit by digit and then read pair by pair: what is still to be written is always what the pairs that are left say, behind the bytes that are written.
+use Rattle.std.specs.Prelude.{IsTrue, EachIndex, slice_index, ◌↔◌, SomeIff, Some, None, Option as ProgramOption}
+use Rattle.std.specs.Simd.{first_chunks}
+use Rattle.std.proofs.lemmas.List.{get_or-take, get_or-drop}
 use mathlib.Core.Path.{◌≡◌, refl, sym, ap, ◌∙◌}
 use mathlib.Core.Bool.{Bool, true, false, ◌&&◌}
 use mathlib.Core.List.{List, [], ◌∷◌}
@@ -7,86 +10,86 @@ use Prim.Native.Nat.{ℕ, zero, suc, ◌+◌, ◌-◌, ◌*◌, ◌/◌, ◌%◌
 use native.Mathlib.Numerals.{add-one}
 use native.Mathlib.Omega.{arith}
 use lib.Dec.{eqb, ltb}
-use lib.ListN.{length, get_or, drop, set, length-drop, drop_of_length-le}
+use lib.ListN.{length, get_or, drop, set, length-drop}
 use lib.Seq.{drop-cons}
-use borrow.Author.Tests.{le-leb, lt-leb, lt-ltb, le-ltb, ltb-true, eq-eqb, ne_eqb}
+use borrow.Author.Tests.{le-leb, lt-leb, lt-ltb, ltb-true, eq-eqb}
 use Rattle.lent.specs.Bytes.{splice}
 use Rattle.lent.proofs.Choices.{and_yes}
 use Rattle.lent.proofs.Splice.{set-splice, splice-next, splice-none}
-use Rattle.hex_text.specs.Hex.{dash, digit_value, all_digits, is_dash, is_hex, bytes_of, read_hex}
+use Rattle.hex_text.specs.Hex.{digit_value, all_digits, is_dash, is_hex, bytes_of, read_hex}
 
--- ---- a digit, range by range
+-- ---- a digit of either range
 
 module _ (b : ℕ) where
-  pub digit_low : b < 48 → digit_value b ≡ 16
-  unfolding digit_value
-  digit_low h = rw (lt-leb 48 b h, lt-leb 97 b (omega arith))
-
   pub digit-number : 48 ≤ b → b ≤ 57 → digit_value b ≡ b - 48
   unfolding digit_value
   digit-number h l = rw (le-leb 48 b h, le-leb b 57 l)
-
-  pub digit-between : 57 < b → b < 97 → digit_value b ≡ 16
-  unfolding digit_value
-  digit-between h l = rw (le-leb 48 b (omega arith), lt-leb b 57 h, lt-leb 97 b l)
 
   pub digit-letter : 97 ≤ b → b ≤ 102 → digit_value b ≡ 10 + (b - 97)
   unfolding digit_value
   digit-letter h l = rw (le-leb 48 b (omega arith), lt-leb b 57 (omega arith), le-leb 97 b h, le-leb b 102 l)
 
-  pub digit_high : 102 < b → digit_value b ≡ 16
-  unfolding digit_value
-  digit_high h = rw (le-leb 48 b (omega arith), lt-leb b 57 (omega arith), le-leb 97 b (omega arith), lt-leb b 102 h)
-
--- ---- a dash
-
-pub dash_other : (t : List ℕ) → (length t ≡ 1 → ⊥) → is_dash t ≡ false
-dash_other [] h = refl
-dash_other (b ∷ []) h = absurd (h refl)
-dash_other (b ∷ c ∷ t) h = refl
-
-pub dash-one : (t : List ℕ) → length t ≡ 1 → is_dash t ≡ eqb (get_or t 0 0) dash
-dash-one [] e = absurd (omega arith)
-dash-one (b ∷ []) e = refl
-dash-one (b ∷ c ∷ t) e = absurd (omega arith)
-
 -- ---- all digits
 
-digits-turn : (t : List ℕ) (i : ℕ) → i < length t → all_digits (drop i t) ≡ ltb (digit_value (get_or t i 0)) 16 && all_digits (drop (i + 1) t)
-digits-turn t i h = rw (add-one, drop-cons t i 0)
-
-module _ (t : List ℕ) (i : ℕ) (h : i < length t) (r : Bool) (e : r ≡ all_digits (drop i t)) where
-  pub digits_stop : 16 ≤ digit_value (get_or t i 0) → false ≡ r
-  digits_stop l = sym (e ∙ digits-turn t i h ∙ rw (le-ltb (digit_value (get_or t i 0)) 16 l))
-
-  pub digits-on : digit_value (get_or t i 0) < 16 → r ≡ all_digits (drop (i + 1) t)
-  digits-on l = e ∙ digits-turn t i h ∙ rw (lt-ltb (digit_value (get_or t i 0)) 16 l)
-
-pub digits_end : (t : List ℕ) (i : ℕ) → length t ≤ i → all_digits (drop i t) ≡ true
-digits_end t i h = rw (drop_of_length-le t h)
+digits_each : (t : List ℕ) → ((k : ℕ) → k < length t → digit_value (get_or t k 0) < 16) → all_digits t ≡ true
+digits_each [] f = refl
+digits_each (b ∷ t) f = rw (lt-ltb (digit_value b) 16 (f 0 (omega arith))) (digits_each t (λ k h. f (suc k) (omega arith)))
 
 digit_at : (t : List ℕ) (i : ℕ) → all_digits t ≡ true → i < length t → digit_value (get_or t i 0) < 16
 digit_at [] i p h = absurd (omega arith)
 digit_at (b ∷ t) zero p h = ltb-true (digit_value b) 16 (and_yes (ltb (digit_value b) 16) (all_digits t) p).0
 digit_at (b ∷ t) (suc i) p h = digit_at t i (and_yes (ltb (digit_value b) 16) (all_digits t) p).1 (omega arith)
 
+-- a test of each byte tells whether all are digits
+pub digits_test : (t : List ℕ) (r : Bool) → (IsTrue r ↔ EachIndex t (λ k. digit_value (slice_index t k) < 16)) → r ≡ all_digits t
+digits_test t true f = sym (digits_each t (λ k h. f.0 refl k h))
+digits_test t false f = by (all_digits t) refl
+  where
+    by : (u : Bool) → all_digits t ≡ u → false ≡ u
+    by false e = refl
+    by true e = f.1 (λ k h. digit_at t k e h)
+
 -- ---- a text of hex
 
 module _ (t : List ℕ) where
-  pub hex_empty : length t < 1 → is_hex t ≡ false
-  hex_empty h = rw (le-ltb 0 (length t) (omega arith))
-
-  pub hex_odd : 1 ≤ length t → (length t % 2 ≡ 0 → ⊥) → is_hex t ≡ false
-  hex_odd h n = rw (lt-ltb 0 (length t) h, ne_eqb (length t % 2) 0 n)
-
   pub hex_even : 1 ≤ length t → length t % 2 ≡ 0 → is_hex t ≡ all_digits t
   hex_even h e = rw (lt-ltb 0 (length t) h, eq-eqb (length t % 2) 0 e)
 
   pub hex_digits : is_hex t ≡ true → all_digits t ≡ true
   hex_digits e = (and_yes (ltb 0 (length t) && eqb (length t % 2) 0) (all_digits t) e).1
 
-pub pair_digits : (t : List ℕ) (i : ℕ) → is_hex t ≡ true → i < length t / 2 → (digit_value (get_or t (2 * i) 0) < 16) × (digit_value (get_or t (2 * i + 1) 0) < 16)
-pair_digits t i e h = (digit_at t (2 * i) (hex_digits t e) (omega arith), digit_at t (2 * i + 1) (hex_digits t e) (omega arith))
+-- ---- pairs
+
+-- a byte of the pair at i
+pub pair_at : (t : List ℕ) (k i j : ℕ) → i < k → j < 2 → get_or (get_or (first_chunks 2 k t) i []) j 0 ≡ get_or t (2 * i + j) 0
+pair_at t zero i j h l = absurd (omega arith)
+pair_at t (suc k) zero j h l = get_or-take 2 t j 0 l ∙ ap (λ (n : ℕ). get_or t n 0) (omega arith)
+pair_at t (suc k) (suc i) j h l =
+    let e : 2 + (2 * i + j) ≡ 2 * suc i + j = omega arith in
+    pair_at (drop 2 t) k i j (omega arith) l ∙ get_or-drop 2 t (2 * i + j) 0 ∙ ap (λ (n : ℕ). get_or t n 0) e
+
+module _ (t : List ℕ) (p : List (List ℕ)) (i : ℕ) (e : p ≡ first_chunks 2 (length t / 2) t) (h : i < length t / 2) where
+  pub pair_high : get_or (get_or p i []) 0 0 ≡ get_or t (2 * i) 0
+  pair_high = rw e (pair_at t (length t / 2) i 0 h (omega arith) ∙ ap (λ (n : ℕ). get_or t n 0) (omega arith))
+
+  pub pair_low : get_or (get_or p i []) 1 0 ≡ get_or t (2 * i + 1) 0
+  pair_low = rw e (pair_at t (length t / 2) i 1 h (omega arith))
+
+  module _ (d : is_hex t ≡ true) where
+    pub high_digit : digit_value (get_or (get_or p i []) 0 0) < 16
+    high_digit = rw pair_high (digit_at t (2 * i) (hex_digits t d) (omega arith))
+
+    pub low_digit : digit_value (get_or (get_or p i []) 1 0) < 16
+    low_digit = rw pair_low (digit_at t (2 * i + 1) (hex_digits t d) (omega arith))
+
+-- what is told exactly where a fact holds is there where it does
+pub some_where : (o : ProgramOption ℕ) (b : ℕ) → SomeIff o (digit_value b < 16) (digit_value b) → digit_value b < 16 → o ≡ Some (digit_value b)
+some_where None b f h = absurd (f h)
+some_where (Some x) b f h = ap (λ (n : ℕ). Some n) f.1
+
+pub some_said : (o : ProgramOption ℕ) (b x : ℕ) → SomeIff o (digit_value b < 16) (digit_value b) → o ≡ Some x → x ≡ digit_value b
+some_said None b x f e = cc
+some_said (Some y) b x f e = let g : y ≡ digit_value b = f.1 in cc
 
 -- ---- the bytes
 

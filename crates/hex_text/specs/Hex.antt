@@ -1,8 +1,6 @@
 -- Values as the rehearsal prints and reads them. 01, "The rehearsal": "values are lower-case hex, `-` for empty."
-use Rattle.std.specs.Prelude.{ℕ, ◌+◌, ◌-◌, ◌*◌, ◌/◌, ◌%◌, Bool, true, false, ◌&&◌, List, [], ◌∷◌, length, eqb, leb, ltb, if◌then◌else◌}
+use Rattle.std.specs.Prelude.{ℕ, ◌+◌, ◌-◌, ◌*◌, ◌/◌, ◌%◌, Bool, true, false, ◌&&◌, List, [], ◌∷◌, length, eqb, leb, ltb, if◌then◌else◌, Some, None, Option as ProgramOption}
 use Rattle.std.proofs.Math.Option.{Option, none, some}
-use Rattle.hex_text.specs.declared.Hex.{Hex}
-use Rattle.hex_text.specs.declared.Hex.TheVariants.{Is, Not}
 
 -- `-`
 abbrev pub dash : ℕ
@@ -53,9 +51,9 @@ unfoldable pub read_hex : List ℕ → Option (List ℕ)
 read_hex t = if is_dash t then some [] else if is_hex t then some (bytes_of t) else none
 
 -- how many bytes were read, and which
-abbrev pub length_read : Option (List ℕ) → Hex
-length_read (some v) = Is (length v)
-length_read none = Not
+abbrev pub length_read : Option (List ℕ) → ProgramOption ℕ
+length_read (some v) = Some (length v)
+length_read none = None
 
 abbrev pub value_read : Option (List ℕ) → List ℕ
 value_read (some v) = v

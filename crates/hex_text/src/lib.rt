@@ -1,73 +1,41 @@
 // Values in lower-case hex, two digits a byte, with `-` for the empty value.
 #![tactic(auto)]
 
-ghost use Rattle.std.specs.Prelude.{◌≡◌, true, ◌*◌, ◌/◌, ◌≤◌, ◌<◌, length};
+ghost use Rattle.std.specs.Prelude.{◌≡◌, true, ◌*◌, ◌/◌, ◌≤◌, ◌<◌, length, SomeIff};
 ghost use Rattle.lent.specs.Bytes.{splice};
 ghost use Rattle.hex_text.specs.Hex.{digit_of, digits_of, hex_of, digit_value, all_digits, is_dash, is_hex, bytes_of, read_hex, length_read, value_read};
-
-// How many bytes a text says, or that it says none.
-#[derive(Clone, Copy)]
-pub enum Hex {
-    Is(usize),
-    Not,
-}
 
 // The empty value.
 const DASH: u8 = b'-';
 
-// What a byte that is no digit says: one more than the largest digit.
-const NO_DIGIT: u8 = 16;
-
-// The number that a digit says; 16 for a byte that is no digit.
-fn digit(b: u8) -> u8
-    ensures { result ≡ digit_value b }
+// The number that a digit says.
+#[tactic(auto, using(std::proofs::lemmas::Bool::Decides::nat_tests), unfolding(crate::specs::Hex::digit_value))]
+fn digit(b: u8) -> Option<u8>
+    ensures { SomeIff result (digit_value b < 16) (digit_value b) }
 {
-    if b < b'0' {
-        return NO_DIGIT;
+    match b {
+        b'0'..=b'9' => Some(b - b'0'),
+        b'a'..=b'f' => Some(10 + (b - b'a')),
+        _ => None,
     }
-    if b <= b'9' {
-        return b - b'0';
-    }
-    if b < b'a' {
-        return NO_DIGIT;
-    }
-    if b <= b'f' {
-        return 10 + (b - b'a');
-    }
-    NO_DIGIT
 }
 
 fn is_dash(text: &[u8]) -> bool
     ensures { result ≡ is_dash text.now }
 {
-    if text.len() != 1 {
-        return false;
-    }
-    text[0] == DASH
+    matches!(text, [DASH])
 }
 
 fn all_digits(text: &[u8]) -> bool
     ensures { result ≡ all_digits text.now }
 {
-    let n = text.len();
-    for i in 0..n {
-        if NO_DIGIT <= digit(text[i]) {
-            return false;
-        }
-    }
-    true
+    text.iter().all(|&b| digit(b).is_some())
 }
 
 fn is_hex(text: &[u8]) -> bool
     ensures { result ≡ is_hex text.now }
 {
-    if text.len() < 1 {
-        return false;
-    }
-    if text.len() % 2 != 0 {
-        return false;
-    }
-    all_digits(text)
+    !text.is_empty() && text.len() % 2 == 0 && all_digits(text)
 }
 
 // The bytes that the pairs of digits say, at the front of out.
@@ -75,40 +43,39 @@ fn fill(text: &[u8], out: &mut [u8])
     requires { (is_hex text.now ≡ true) × (length text.now / 2 ≤ length out.old) }
     ensures { out.new ≡ splice out.old 0 (bytes_of text.now) }
 {
-    let n = text.len() / 2;
-    for i in 0..n {
-        let high = digit(text[2 * i]);
-        let low = digit(text[2 * i + 1]);
-        out[i] = high * 16 + low;
+    let (pairs, _) = text.as_chunks::<2>();
+    // Kept: by places, since nothing is known of the bytes of `out` after `pairs.iter().zip(out.iter_mut())`.
+    for (i, &[high, low]) in pairs.iter().enumerate() {
+        out[i] = digit(high).unwrap() * 16 + digit(low).unwrap();
     }
 }
 
 // How many bytes a text says.
-pub fn length(text: &[u8]) -> Hex
+pub fn length(text: &[u8]) -> Option<usize>
     ensures { result ≡ length_read (read_hex text.now) }
 {
     if is_dash(text) {
-        return Hex::Is(0);
+        return Some(0);
     }
     if is_hex(text) {
-        return Hex::Is(text.len() / 2);
+        return Some(text.len() / 2);
     }
-    Hex::Not
+    None
 }
 
 // The bytes that a text says, at the front of out; where it says none, out stays.
-pub fn read(text: &[u8], out: &mut [u8]) -> Hex
+pub fn read(text: &[u8], out: &mut [u8]) -> Option<usize>
     requires { length text.now / 2 ≤ length out.old }
     ensures { (result ≡ length_read (read_hex text.now)) × (out.new ≡ splice out.old 0 (value_read (read_hex text.now))) }
 {
     if is_dash(text) {
-        return Hex::Is(0);
+        return Some(0);
     }
     if !is_hex(text) {
-        return Hex::Not;
+        return None;
     }
-    fill(text, &mut *out);
-    Hex::Is(text.len() / 2)
+    fill(text, out);
+    Some(text.len() / 2)
 }
 
 // The digit that says n.
@@ -127,10 +94,10 @@ fn print(v: &[u8], out: &mut [u8])
     requires { 2 * length v.now ≤ length out.old }
     ensures { out.new ≡ splice out.old 0 (digits_of v.now) }
 {
-    let n = v.len();
-    for i in 0..n {
-        out[2 * i] = digit_of(v[i] / 16);
-        out[2 * i + 1] = digit_of(v[i] % 16);
+    // Kept: by places, since nothing is known of the bytes of `out` after `out.chunks_exact_mut(2)`.
+    for (i, &b) in v.iter().enumerate() {
+        out[2 * i] = digit_of(b / 16);
+        out[2 * i + 1] = digit_of(b % 16);
     }
 }
 
@@ -139,10 +106,10 @@ pub fn write(v: &[u8], out: &mut [u8]) -> usize
     requires { length (hex_of v.now) ≤ length out.old }
     ensures { (result ≡ length (hex_of v.now)) × (out.new ≡ splice out.old 0 (hex_of v.now)) }
 {
-    if v.len() == 0 {
+    if v.is_empty() {
         out[0] = DASH;
         return 1;
     }
-    print(v, &mut *out);
+    print(v, out);
     2 * v.len()
 }

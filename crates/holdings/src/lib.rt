@@ -1,8 +1,8 @@
 // What is held on a key of the lent state, and what the decision table grants beside it.
 #![tactic(auto)]
 
-ghost use Rattle.std.specs.Prelude.{◌≡◌, true, suc, ◌≤◌, ◌<◌, length};
-ghost use Rattle.machine.specs.Sizes.{state_size, key_count};
+ghost use Rattle.std.specs.Prelude.{◌≡◌, true, suc, ◌≤◌, ◌<◌};
+ghost use Rattle.machine.specs.Sizes.{key_count};
 ghost use Rattle.machine.specs.Words.{INVALIDATE, INCREMENTAL};
 ghost use Rattle.machine.specs.State.{State};
 ghost use Rattle.machine.specs.Sound.{sound};
@@ -10,7 +10,7 @@ ghost use Rattle.machine.specs.Decision.{held_count, asked_count, grants};
 ghost use Rattle.machine.specs.Refusals.{held_on, decide, blocked};
 ghost use Rattle.layout.specs.Holds.{Holds};
 
-use layout::Found;
+use layout::Buffer;
 use machine::Verdict;
 
 // The decision table's line for a row of a kind.
@@ -25,12 +25,12 @@ fn line_of(kind: u8) -> usize
 }
 
 // The decision table's line for what is held on key k.
-fn held(s: &[u8], k: usize) -> usize
-    requires { (length s.now ≡ state_size) × (k < key_count) }
+fn held(s: &Buffer, k: usize) -> usize
+    requires { k < key_count }
     ensures { ((σ : State) → Holds s.now σ → sound σ ≡ true → result ≡ held_on σ k) × (result < held_count) }
 {
     let row = lookups::first_on(s, k);
-    if let Found::At(i) = row {
+    if let Some(i) = row {
         return line_of(rows::kind(s, i));
     }
     if keys::lease_token(s, k) == 0 {
@@ -43,25 +43,20 @@ fn held(s: &[u8], k: usize) -> usize
 fn is_grant(v: Verdict) -> bool
     ensures { result ≡ grants v }
 {
-    match v {
-        Verdict::Grant => true,
-        Verdict::Void => true,
-        Verdict::BackOff => false,
-        Verdict::Abort => false,
-    }
+    matches!(v, Verdict::Grant | Verdict::Void)
 }
 
 // Whether the decision table grants what is asked on key k: 0 the I lease, else a quarantine of that kind.
-pub fn grants(s: &[u8], k: usize, asked: usize) -> bool
-    requires { (length s.now ≡ state_size) × ((k < key_count) × (asked < asked_count)) }
+pub fn grants(s: &Buffer, k: usize, asked: usize) -> bool
+    requires { (k < key_count) × (asked < asked_count) }
     ensures { (σ : State) → Holds s.now σ → sound σ ≡ true → result ≡ grants (decide σ k asked) }
 {
     is_grant(decisions::decide(held(s, k), asked))
 }
 
 // Whether no I lease may be granted on key k.
-pub fn is_blocked(s: &[u8], k: usize) -> bool
-    requires { (length s.now ≡ state_size) × (k < key_count) }
+pub fn is_blocked(s: &Buffer, k: usize) -> bool
+    requires { k < key_count }
     ensures { (σ : State) → Holds s.now σ → sound σ ≡ true → result ≡ blocked σ k }
 {
     !grants(s, k, 0)

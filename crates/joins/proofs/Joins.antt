@@ -1,11 +1,12 @@
 -- One pass over the rows: the bits of a row's key tell of it what comparing it with each row before it tells. A row of kind INVALIDATE has the bit of
 -- its session, and the bit at a session's place is that session's, since a place has one number; a row of another kind has all bits of its key.
-use Rattle.std.specs.Prelude.{if◌then◌else◌}
+use Rattle.std.specs.Prelude.{Option, Some, None, if◌then◌else◌}
+use Rattle.std.proofs.lemmas.Option.{same_Some}
 use mathlib.Core.Path.{◌≡◌, refl, sym, ap, ◌∙◌}
 use mathlib.Core.Bool.{Bool, true, false, not, ◌&&◌, and-false}
 use mathlib.Core.Logic.{◌⊎◌, ⊎_elim, inl, inr}
 use mathlib.Core.List.{List}
-use Prim.Native.Nat.{ℕ, ◌+◌, ◌*◌, ◌-◌, ◌/◌, ◌<◌}
+use Prim.Native.Nat.{ℕ, ◌+◌, ◌*◌, ◌/◌, ◌<◌}
 use native.Mathlib.Omega.{arith}
 use lib.ListN.{length-replicate, replicate}
 use lib.Dec.{eqb}
@@ -70,7 +71,7 @@ ready-none y = record {
 }
 
 module _ {s nums words : List ℕ} {i : ℕ} (y : Ready s i nums words) where
-  abbrev P : ℕ → ℕ
+  abbrev P : ℕ → Option ℕ
   P = first_place nums
 
   -- a free row
@@ -94,8 +95,8 @@ module _ {s nums words : List ℕ} {i : ℕ} (y : Ready s i nums words) where
   }
 
   -- the session of a row before it stands at its place
-  placed_at : (k j : ℕ) → On s i k j → Stands s nums (row_session s j) (P (row_session s j))
-  placed_at k j o = place_live s nums y.sessions.gathered (row_session s j) (y.rows.placed k j o)
+  placed_at : (j : ℕ) {q : ℕ} → P (row_session s j) ≡ Some q → Stands s nums (row_session s j) q
+  placed_at j = place_live s nums y.sessions.gathered (row_session s j)
 
   -- row i of session n on key k
   module _ {n k : ℕ} (isn : n ≡ row_session s i) (isk : k ≡ row_key s i) (used : n ≡ 0 → ⊥) where
@@ -115,16 +116,16 @@ module _ {s nums words : List ℕ} {i : ℕ} (y : Ready s i nums words) where
     pub join_leased : (token ≡ 0 → ⊥) → Joined s i false nums words
     join_leased e = refused (join_is ∙ rw (ne_eqb token 0 e))
 
-    module _ {p : ℕ} (isp : p ≡ P n) (free : token ≡ 0) where
-      join_dead : {words' : List ℕ} → p ≡ 0 → Joined s i false nums words'
+    module _ {p : Option ℕ} (isp : p ≡ P n) (free : token ≡ 0) where
+      join_dead : {words' : List ℕ} → p ≡ None → Joined s i false nums words'
       join_dead l = refused (join_is ∙ rw (eq-eqb token 0 free, place_dead s nums y.sessions.gathered n (sym isp ∙ l)))
 
-      module _ (live : p ≡ 0 → ⊥) (b : k < key_count) where
-        stands : Stands s nums n p
-        stands = rw isp (place_live s nums y.sessions.gathered n (λ e. live (isp ∙ e)))
+      module _ {q : ℕ} (live : p ≡ Some q) (b : k < key_count) where
+        stands : Stands s nums n q
+        stands = place_live s nums y.sessions.gathered n (sym isp ∙ live)
 
-        mine : P (row_session s i) ≡ p
-        mine = ap P (sym isn) ∙ sym isp
+        mine : P (row_session s i) ≡ Some q
+        mine = ap P (sym isn) ∙ (sym isp ∙ live)
 
         here : On s (i + 1) k i
         here = record { before = omega arith; used = λ z. used (isn ∙ z); key = sym isk }
@@ -136,10 +137,10 @@ module _ {s nums words : List ℕ} {i : ℕ} (y : Ready s i nums words) where
             let on-key : (v j : ℕ) → On s (i + 1) v j → j ≡ i → v ≡ k = λ v j o e. sym o.key ∙ (ap (row_key s) e ∙ sym isk) in
             record {
               wide = g.wide;
-              placed = λ v j o. ⊎_elim (λ e z. live (sym mine ∙ (ap (λ (x : ℕ). P (row_session s x)) (sym e) ∙ z))) (λ w. h.placed v j w) (on-last o);
-              set-by = λ v j q o l a. ⊎_elim (λ e. rw (on-key v j o e) (g.own q l (rw e at a))) (λ w. g.kept v q l (h.set-by v j q w l a)) (on-last o);
+              placed = λ v j o. ⊎_elim (λ e. (q, ap (λ (x : ℕ). P (row_session s x)) e ∙ mine)) (λ w. h.placed v j w) (on-last o);
+              set-by = λ v j x o l a. ⊎_elim (λ e. rw (on-key v j o e) (g.own x l (rw e at a))) (λ w. g.kept v x l (h.set-by v j x w l a)) (on-last o);
               found = λ v x l u. ⊎_elim (λ e. (i, rw e here)) (λ z. let w = h.found v x l z in (w.0, on-more w.1)) (g.word_back v x l u);
-              left = λ v q l e. ⊎_elim (λ z. (i, rw z.0 here, z.1)) (λ z. let w = h.left v q l z in (w.0, on-more w.1, w.2)) (g.back v q l e);
+              left = λ v x l e. ⊎_elim (λ z. (i, rw z.0 here, z.1)) (λ z. let w = h.left v x l z in (w.0, on-more w.1, w.2)) (g.back v x l e);
             }
 
         -- what is said of the row is what comparing it with each row before it says
@@ -157,30 +158,30 @@ module _ {s nums words : List ℕ} {i : ℕ} (y : Ready s i nums words) where
 
         module _ (kind : row_kind s i ≡ INVALIDATE) where
           -- the bit is that of a row of the session on the key, or of one of another kind
-          twice : holds words k (p - 1) ≡ true → every pairs i ≡ false
+          twice : holds words k q ≡ true → every pairs i ≡ false
           twice e =
-              let w = y.rows.left k (p - 1) stands.low e in
+              let w = y.rows.left k q stands.low e in
               let j : ℕ = w.0 in
               pair_fails j w.1
               (⊎_elim
-              (λ a. let o : row_session s j ≡ n = sym (placed_at k j w.1).here ∙ (ap (item nums) (w.2 a) ∙ stands.here) in rw (eq-eqb (row_session s j) n o))
+              (λ a. let o : row_session s j ≡ n = sym (placed_at j (w.2 a)).here ∙ stands.here in rw (eq-eqb (row_session s j) n o))
               (λ a. rw (ne_eqb (row_kind s j) INVALIDATE a) (and-false (not (eqb (row_session s j) n))))
               (same_or (row_kind s j) INVALIDATE))
 
           -- no such row: else the bit would be set
-          once : holds words k (p - 1) ≡ false → every pairs i ≡ true
+          once : holds words k q ≡ false → every pairs i ≡ true
           once e =
-              let no : (j : ℕ) → On s i k j → Holder s P j (p - 1) → ⊥ = λ j o a. clash (holds words k (p - 1)) (y.rows.set-by k j (p - 1) o stands.low a) e in
+              let no : (j : ℕ) → On s i k j → Holder s P j q → ⊥ = λ j o a. clash (holds words k q) (y.rows.set-by k j q o stands.low a) e in
               all-every pairs i
               (λ j l. pair_if s n k (row_kind s i) j i l
-              (λ o. ((λ a. no j o (λ t. ap (λ (x : ℕ). x - 1) (ap P a ∙ sym isp))), ⊎_elim (λ t. t) (λ t. absurd (no j o (λ u. absurd (t u)))) (same_or (row_kind s j) INVALIDATE), kind)))
+              (λ o. ((λ a. no j o (λ t. ap P a ∙ (sym isp ∙ live))), ⊎_elim (λ t. t) (λ t. absurd (no j o (λ u. absurd (t u)))) (same_or (row_kind s j) INVALIDATE), kind)))
 
-          join_beside : {r : Bool} {words' : List ℕ} → r ≡ not (holds words k (p - 1)) → words' ≡ with_holder words k (p - 1) → Joined s i r nums words'
+          join_beside : {r : Bool} {words' : List ℕ} → r ≡ not (holds words k q) → words' ≡ with_holder words k q → Joined s i r nums words'
           join_beside e o =
-              joined (e ∙ by (holds words k (p - 1)) refl)
-              (λ t. grown_one words y.rows.wide k b (p - 1) stands.low o (λ v a. sym (a kind) ∙ ap (λ (x : ℕ). x - 1) mine) (λ u. ap (λ (x : ℕ). x - 1) mine))
+              joined (e ∙ by (holds words k q) refl)
+              (λ t. grown_one words y.rows.wide k b q stands.low o (λ v a. same_Some v q (sym (a kind) ∙ mine)) (λ u. mine))
             where
-              by : (t : Bool) → holds words k (p - 1) ≡ t → not t ≡ every pairs i
+              by : (t : Bool) → holds words k q ≡ t → not t ≡ every pairs i
               by true a = sym (twice a)
               by false a = sym (once a)
 
@@ -190,9 +191,9 @@ module _ {s nums words : List ℕ} {i : ℕ} (y : Ready s i nums words) where
           -- no row is on a key without a bit
           no_row_lem : ((h : ℕ) → h < key_words → item words (k * key_words + h) ≡ 0) → (j : ℕ) → On s i k j → ⊥
           no_row_lem z j o =
-              let q : ℕ = P (row_session s j) - 1 in
-              let l = (placed_at k j o).low in
-              clash (holds words k q) (y.rows.set-by k j q o l (λ t. refl)) (no_bit words k q (z (q / word_bits) (omega (arith, l))))
+              let w = y.rows.placed k j o in
+              let l = (placed_at j w.1).low in
+              clash (holds words k w.0) (y.rows.set-by k j w.0 o l (λ t. w.1)) (no_bit words k w.0 (z (w.0 / word_bits) (omega (arith, l))))
 
           join_alone : {r : Bool} {words' : List ℕ} → Taken words k r words' → Joined s i r nums words'
           join_alone {r} {words'} t =

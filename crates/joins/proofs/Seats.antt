@@ -22,11 +22,15 @@ use Rattle.joins.specs.Joins.{seat_count, seat_of, seats_with, loose_with, sits_
 use Rattle.joins.proofs.Gathered.{gathered_none, gathered_more}
 use Rattle.joins.proofs.Loose.{stand_kept, loosened_none}
 
+-- where each seat is free
+pub small_none : {m : ℕ} → Small m (replicate seat_count 0)
+small_none = record { long = length-replicate {A = ℕ} seat_count 0; low = λ h. omega (arith, get_or-same {A = ℕ} seat_count h 0) }
+
 pub entered_none : (f : ℕ → ℕ) {nums seats : List ℕ} → nums ≡ replicate side 0 → seats ≡ replicate seat_count 0 → Entered f 0 nums seats (replicate side 0)
 entered_none f e o = rw (e, o) (record {
   gathered = gathered_none f;
   seated = record {
-    small = record { long = length-replicate {A = ℕ} seat_count 0; low = λ h. omega (arith, get_or-same {A = ℕ} seat_count h 0) };
+    small = small_none;
     held = λ j h. absurd (omega arith);
   };
   loosened = loosened_none;

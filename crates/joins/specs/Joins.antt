@@ -1,5 +1,5 @@
 -- The conditions that join records, as tests of the bytes where they lie.
-use Rattle.std.specs.Prelude.{ℕ, ◌+◌, ◌*◌, ◌-◌, ◌/◌, ◌%◌, ◌^◌, ◌≤◌, ◌<◌, ◌≡◌, Bool, true, false, not, ◌&&◌, List, length, get_or, set, eqb, if◌then◌else◌}
+use Rattle.std.specs.Prelude.{ℕ, ◌+◌, ◌*◌, ◌-◌, ◌/◌, ◌%◌, ◌^◌, ◌≤◌, ◌<◌, ◌≡◌, Option, Some, None, Bool, true, false, not, ◌&&◌, List, length, get_or, set, eqb, if◌then◌else◌}
 use Rattle.joins.specs.Bits.{word_bits, has_bit, with_bit}
 use Rattle.lent.specs.Bytes.{le32}
 use Rattle.lent.specs.Tables.{every, some, first}
@@ -62,9 +62,9 @@ pub record Gathered (f : ℕ → ℕ) (m : ℕ) (nums : List ℕ) : Type 0 where
 abbrev pub Alone : List ℕ → ℕ → Type 0
 Alone nums n = (j k : ℕ) → j < session_count → k < session_count → item nums j ≡ n → item nums k ≡ n → j ≡ k
 
--- its first place, plus 1; 0 where there is none
-abbrev pub first_place : List ℕ → ℕ → ℕ
-first_place nums n = first (λ j. eqb (item nums j) n) (λ j. j + 1) 0 0 session_count
+-- its first place
+abbrev pub first_place : List ℕ → ℕ → Option ℕ
+first_place nums n = first (λ j. eqb (item nums j) n) Some None 0 session_count
 
 -- Marks: a number has one bit, by its low twelve bits
 
@@ -210,11 +210,11 @@ pub record Taken (words : List ℕ) (k : ℕ) (r : Bool) (words' : List ℕ) : T
   pub then_all : r ≡ true → words' ≡ set (set words (k * key_words) all_bits) (k * key_words + 1) all_bits
   pub else_same : r ≡ false → words' ≡ words
 
--- r says that a row of this kind, of the session whose place plus 1 is p, may come to key k, and then it has its bits
-pub data Came (words : List ℕ) (k p kind : ℕ) (r : Bool) (words' : List ℕ) : Type 0 where
-  dead : p ≡ 0 → r ≡ false → words' ≡ words → Came words k p kind r words'
-  beside : (p ≡ 0 → ⊥) → kind ≡ INVALIDATE → r ≡ not (holds words k (p - 1)) → words' ≡ with_holder words k (p - 1) → Came words k p kind r words'
-  alone : (p ≡ 0 → ⊥) → (kind ≡ INVALIDATE → ⊥) → Taken words k r words' → Came words k p kind r words'
+-- r says that a row of this kind, of the session at place p, if there is one, may come to key k, and then it has its bits
+pub data Came (words : List ℕ) (k : ℕ) (p : Option ℕ) (kind : ℕ) (r : Bool) (words' : List ℕ) : Type 0 where
+  dead : p ≡ None → r ≡ false → words' ≡ words → Came words k p kind r words'
+  beside : {q : ℕ} → p ≡ Some q → kind ≡ INVALIDATE → r ≡ not (holds words k q) → words' ≡ with_holder words k q → Came words k p kind r words'
+  alone : {q : ℕ} → p ≡ Some q → (kind ≡ INVALIDATE → ⊥) → Taken words k r words' → Came words k p kind r words'
 
 -- row j is before row i, used, and on key k
 pub record On (s : List ℕ) (i k j : ℕ) : Type 0 where
@@ -222,14 +222,14 @@ pub record On (s : List ℕ) (i k j : ℕ) : Type 0 where
   pub used : row_session s j ≡ 0 → ⊥
   pub key : row_key s j ≡ k
 
--- q is the place of the session of row j, whose number has place P - 1; of a row that is not of kind INVALIDATE any place is
-abbrev pub Holder : List ℕ → (ℕ → ℕ) → ℕ → ℕ → Type 0
-Holder s P j q = row_kind s j ≡ INVALIDATE → P (row_session s j) - 1 ≡ q
+-- q is the place of the session of row j, where P has the places of numbers; of a row that is not of kind INVALIDATE any place is
+abbrev pub Holder : List ℕ → (ℕ → Option ℕ) → ℕ → ℕ → Type 0
+Holder s P j q = row_kind s j ≡ INVALIDATE → P (row_session s j) ≡ Some q
 
 -- what the bits say of the rows before i
-pub record Seen (s : List ℕ) (P : ℕ → ℕ) (i : ℕ) (words : List ℕ) : Type 0 where
+pub record Seen (s : List ℕ) (P : ℕ → Option ℕ) (i : ℕ) (words : List ℕ) : Type 0 where
   pub wide : length words ≡ holder_words
-  pub placed : (k j : ℕ) → On s i k j → P (row_session s j) ≡ 0 → ⊥
+  pub placed : (k j : ℕ) → On s i k j → (q : ℕ) × (P (row_session s j) ≡ Some q)
   pub set-by : (k j q : ℕ) → On s i k j → q < session_count → Holder s P j q → holds words k q ≡ true
   pub found : (k h : ℕ) → h < key_words → (item words (k * key_words + h) ≡ 0 → ⊥) → (j : ℕ) × On s i k j
   pub left : (k q : ℕ) → q < session_count → holds words k q ≡ true → (j : ℕ) × On s i k j × Holder s P j q

@@ -1,18 +1,21 @@
--- A table is looked through for an entry that passes a test, which may ask the state, whatever state the bytes hold: one that passes is a hit
--- for the whole, and where none did the whole has none. `any-hit` asks for a place within the list, not for a default that fails (as `any_at`
+-- A table is looked through for an entry that passes a test. `any-hit` asks for a place within the list, not for a default that fails (as `any_at`
 -- does), since a list of numbers has the default 0, which may pass.
 use Prim.Native.Nat.{ℕ, zero, suc, ◌+◌, ◌<◌}
 use mathlib.Core.Bool.{Bool, true, false, or-true}
-use mathlib.Core.Path.{◌≡◌, sym, ◌∙◌}
+use mathlib.Core.Path.{◌≡◌, refl, ap, ◌∙◌}
 use mathlib.Core.List.{List, [], ◌∷◌}
 use native.Mathlib.Omega.{arith}
-use native.Mathlib.Nat.{le_of_suc-le-suc, not-suc-le-zero}
+use native.Mathlib.Nat.{le_of_suc-le-suc, not-suc-le-zero, add-zero}
 use lib.ListN.{length, get_or}
-use borrow.Author.Count.{below_more}
+use denote.Param.Members.{Mut}
+use Rattle.std.specs.Fn.{Called}
+use Rattle.std.specs.Iterator.{ChecksAny}
+use Rattle.std.specs.List.{range_with_len, list_any}
+use Rattle.std.specs.declared.ops.Range.{Range}
+use Rattle.std.proofs.iter.Yields.{nat_range_steps}
+use Rattle.std.proofs.lemmas.Iterator.{YieldsList-from_range}
+use Rattle.std.proofs.lemmas.Iterator.Search.{any_from_yields_List}
 use Rattle.machine.specs.Tables.{any}
-use Rattle.machine.specs.State.{State}
-use Rattle.machine.proofs.Views.{none_any}
-use Rattle.layout.specs.Holds.{Holds}
 
 module _ {A : Type 0} (p : A → Bool) (d : A) where
   pub any-hit : (l : List A) (i : ℕ) → i < length l → p (get_or l i d) ≡ true → any p l ≡ true
@@ -20,25 +23,17 @@ module _ {A : Type 0} (p : A → Bool) (d : A) where
   any-hit (x ∷ l) zero h e = rw e
   any-hit (x ∷ l) (suc i) h e = rw (any-hit l i (le_of_suc-le-suc h) e) (or-true (p x))
 
-  -- no entry before place i passes
+  -- no entry of the list before place i passes
   abbrev pub NoneBelow : List A → ℕ → Type 0
   NoneBelow l i = (j : ℕ) → j < i → p (get_or l j d) ≡ false
 
--- no entry of the table before place i passes
-pub record Scanned {A : Type 0} (p : State → A → Bool) (d : A) (table : State → List A) (s : List ℕ) (i : ℕ) : Type 0 where
-  pub none : (σ : State) → Holds s σ → NoneBelow (p σ) d (table σ) i
+  -- a test of the numbers from a, which says of each what p says of the entry in its place
+  any-from : (q : ℕ → Bool) (a : ℕ) (l : List A) → ((i : ℕ) → q (a + i) ≡ p (get_or l i d)) → list_any q (range_with_len a (length l)) ≡ any p l
+  any-from q a [] e = refl
+  any-from q a (x ∷ l) e = rw (any-from q (a + 1) l (λ i. rw (← e (suc i)) (ap q (omega arith))), ← e 0, add-zero)
 
-module _ {A : Type 0} {p : State → A → Bool} {d : A} {table : State → List A} {s : List ℕ} where
-  pub scanned_none : Scanned p d table s 0
-  scanned_none = record { none = λ σ h j l. absurd (omega arith) }
-
-  -- r tells whether the entry at place i passes
-  module _ {i : ℕ} {r : Bool} (y : Scanned p d table s i) (tells : (σ : State) → Holds s σ → r ≡ p σ (get_or (table σ) i d)) where
-    pub scanned_more : r ≡ false → Scanned p d table s (i + 1)
-    scanned_more e = record { none = λ σ h. below_more (λ j. p σ (get_or (table σ) j d) ≡ false) i (y.none σ h) (sym (tells σ h) ∙ e) }
-
-    pub scanned_hit : {n : ℕ} → i < n → ((σ : State) → Holds s σ → length (table σ) ≡ n) → r ≡ true → (σ : State) → Holds s σ → true ≡ any (p σ) (table σ)
-    scanned_hit l w e σ h = sym (any-hit (p σ) d (table σ) i (omega (arith, w σ h)) (sym (tells σ h) ∙ e))
-
-  pub scanned_all : {i n : ℕ} → Scanned p d table s i → i ≡ n → ((σ : State) → Holds s σ → length (table σ) ≡ n) → (σ : State) → Holds s σ → false ≡ any (p σ) (table σ)
-  scanned_all y e w σ h = sym (none_any (p σ) d (table σ) (λ j l. y.none σ h j (omega (arith, w σ h, e))))
+  -- `any` over the n places of a table, where the closure says of each whether its entry passes
+  pub any_told : {F : Type 0} {g : Mut F (ℕ × Unit {0}) Bool} (l : List A) {n : ℕ} {u : Range ℕ} {f : F} {r : Bool} → length l ≡ n → ChecksAny nat_range_steps g (record { start = 0; end = n }) f r u
+      → ((x : ℕ) (b : Bool) (q : F) → Called g f (x, tt) b q → (q ≡ f) × (b ≡ p (get_or l x d))) → r ≡ any p l
+  any_told l {n = n} {f = f} w ran e =
+      any_from_yields_List (λ x. p (get_or l x d)) _ f _ ran (YieldsList-from_range 0 n _ refl (omega (arith, w))) e ∙ any-from (λ x. p (get_or l x d)) 0 l (λ i. ap (λ j. p (get_or l j d)) (omega arith))

@@ -1,16 +1,15 @@
 -- What a search of a table tells: the first place that passes, or nothing.
-use Rattle.std.specs.Prelude.{ℕ, ◌+◌, ◌*◌, ◌<◌, Bool, List, eqb, ltb, if◌then◌else◌}
+use Rattle.std.specs.Prelude.{ℕ, ◌+◌, ◌*◌, ◌<◌, Bool, List, eqb, ltb, if◌then◌else◌, Option, Some, None}
 use Rattle.lent.specs.Bytes.{le32}
-use Rattle.layout.specs.declared.Found.{Found}
 
 -- the place i, if it lies within a table of n
-abbrev pub found : ℕ → ℕ → Found
-found n i = if ltb i n then Found.At i else Found.Nothing
+abbrev pub found : ℕ → ℕ → Option ℕ
+found n i = if ltb i n then Some i else None
 
 -- a place that was found lies within the table
-abbrev pub Below : ℕ → Found → Type 0
-Below n (Found.At i) = i < n
-Below n Found.Nothing = Unit
+abbrev pub Below : ℕ → Option ℕ → Type 0
+Below n (Some i) = i < n
+Below n None = Unit
 
 -- record i of those of w bytes at `from` starts with the number n
 abbrev pub starts_with : List ℕ → ℕ → ℕ → ℕ → ℕ → Bool

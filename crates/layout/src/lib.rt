@@ -2,7 +2,7 @@
 // by the number that its records start with, and the writing of a value.
 #![tactic(auto)]
 
-ghost use Rattle.std.specs.Prelude.{◌≡◌, [], ◌∷◌, ◌+◌, ◌*◌, ◌≤◌, length};
+ghost use Rattle.std.specs.Prelude.{◌≡◌, [], ◌∷◌, ◌+◌, ◌*◌, ◌≤◌, length, Some, None};
 ghost use Rattle.lent.specs.Bytes.{splice};
 ghost use Rattle.lent.specs.Tables.{first};
 ghost use Rattle.machine.specs.Sizes.{value_max};
@@ -10,6 +10,9 @@ ghost use Rattle.layout.specs.Layout.{padded};
 ghost use Rattle.layout.specs.Search.{Below, starts_with};
 
 pub const STATE_SIZE: usize = 65536;
+
+// The lent state's bytes. The length is the type's, so that no function asks for it.
+pub type Buffer = [u8; STATE_SIZE];
 
 // The header: clock, read lifetime, write lifetime, next session, next token.
 pub const CLOCK: usize = 0;
@@ -60,6 +63,7 @@ pub const ROW_LENGTH: usize = 7;
 pub const ROW_VALUE: usize = 8;
 
 // The marks of a value that is there, cached or staged, and of DROP.
+// Kept: marks are bytes of a fixed layout.
 pub const VALUED: u8 = 1;
 
 pub const DROPPED: u8 = 2;
@@ -74,6 +78,7 @@ pub const SESSION_COUNT: usize = 128;
 pub const SESSION_LIFE: usize = 4;
 
 // The marks of a session's life.
+// Kept: they are bytes of a fixed layout.
 pub const OPEN: u8 = 1;
 
 pub const SEALED: u8 = 2;
@@ -88,25 +93,12 @@ pub const SESSION_UNTIL: usize = 8;
 // A value takes at most this many bytes.
 pub const VALUE_MAX: usize = 64;
 
-// The place of the first record that a search is for.
-#[derive(Clone, Copy)]
-pub enum Found {
-    At(usize),
-    Nothing,
-}
-
-// The first of the `count` records of `width` bytes at `from` that starts with the number n.
-pub fn find_number(s: &[u8], from: usize, width: usize, count: usize, n: u64) -> Found
+// The place of the first of the `count` records of `width` bytes at `from` that starts with the number n.
+pub fn find_number(s: &[u8], from: usize, width: usize, count: usize, n: u64) -> Option<usize>
     requires { (from + count * width ≤ length s.now) × (4 ≤ width) }
-    ensures { (result ≡ first (starts_with s.now from width n) Found.At Found.Nothing 0 count) × Below count result }
+    ensures { (result ≡ first (starts_with s.now from width n) Some None 0 count) × Below count result }
 {
-    for i in 0..count {
-        let at = from + i * width;
-        if lent::load_u32(s, at) as u64 == n {
-            return Found::At(i);
-        }
-    }
-    Found::Nothing
+    (0..count).find(|&i| lent::load_u32(s, from + i * width) as u64 == n)
 }
 
 // Two bytes.

@@ -1,5 +1,7 @@
 -- Numbers in bytes: the bytes of a number say it, and bytes are those of the number that they say. Both hold for any number of bytes by
 -- induction, with `digits`, `number` and `said`; the widths of `specs/` are two, four and eight digits.
+use Rattle.std.specs.Int.{from_le_bytes, to_le_bytes}
+use Rattle.std.proofs.Common.{w16, w32, w64}
 use mathlib.Core.Path.{◌≡◌, refl, sym, ap, ap₂, ◌∙◌}
 use mathlib.Core.Bool.{◌&&◌}
 use mathlib.Core.List.{List, [], ◌∷◌, ◌++◌}
@@ -119,3 +121,22 @@ module _ {m : ℕ} {le : List ℕ → ℕ → ℕ} {bytes : ℕ → List ℕ} (w
   -- bytes that say 0 are 0
   pub zero-le : (s : List ℕ) (a : ℕ) → a + m ≤ length s → all_zero (win s a m) ≡ eqb (le s a) 0
   zero-le s a h = zero_number (win s a m) ∙ rw (number-le s a h)
+
+-- ---- what std reads from a window, and what it writes
+
+module _ (s : List ℕ) (a : ℕ) where
+  pub le16_read : from_le_bytes w16 (win s a 2) ≡ le16 s a
+  le16_read = le_front width16 s a 2 (omega arith)
+
+  pub le32_read : from_le_bytes w32 (win s a 4) ≡ le32 s a
+  le32_read = le_front width32 s a 4 (omega arith)
+
+  pub le64_read : from_le_bytes w64 (win s a 8) ≡ le64 s a
+  le64_read =
+      let e : from_le_bytes w64 (win s a 8) ≡ le64 (win s a 8) 0 = omega arith in
+      e ∙ le_front width64 s a 8 (omega arith)
+
+pub bytes64_written : (v : ℕ) → to_le_bytes w64 v ≡ bytes64 v
+bytes64_written v =
+    let e : to_le_bytes w64 v ≡ digits 8 v = simp div-div-eq-div-mul in
+    e ∙ sym (width64.writes v)

@@ -4,7 +4,7 @@ use Rattle.std.specs.Prelude.{if◌then◌else◌}
 use mathlib.Core.Path.{◌≡◌, refl, sym, ap, ◌∙◌}
 use mathlib.Core.Logic.{⊎_elim}
 use mathlib.Core.Bool.{Bool, not-not, true, false, not, ◌&&◌, ◌||◌, and-true, and_assoc, or-true}
-use Prim.Native.Nat.{ℕ, zero, suc, ◌+◌, ◌-◌, ◌≤◌, ◌<◌}
+use Prim.Native.Nat.{ℕ, zero, suc, ◌+◌, ◌≤◌, ◌<◌}
 use native.Mathlib.Nat.{eq-or-lt_of_le, le_of_suc-le-suc, not-suc-le-zero}
 use native.Mathlib.Omega.{arith}
 use native.Mathlib.Numerals.{add-one}
@@ -97,19 +97,6 @@ some_cong p q n f =
 -- ---- the first index
 
 module _ {A : Type 0} (p : ℕ → Bool) (hit : ℕ → A) (miss : A) where
-  -- a turn of a loop that searches from i below n
-  pub first-hit : (n i : ℕ) → i < n → p i ≡ true → first p hit miss i (n - i) ≡ hit i
-  unfolding first
-  first-hit n i h e = let q : n - i ≡ suc (n - i - 1) = omega arith in rw (q, e)
-
-  pub first_miss : (n i : ℕ) → i < n → p i ≡ false → first p hit miss i (n - i) ≡ first p hit miss (i + 1) (n - (i + 1))
-  unfolding first
-  first_miss n i h e = let q : n - i ≡ suc (n - (i + 1)) = omega arith in rw (q, e, add-one)
-
-  pub first_end : (n i : ℕ) → n ≤ i → first p hit miss i (n - i) ≡ miss
-  unfolding first
-  first_end n i h = let q : n - i ≡ 0 = omega arith in rw q
-
   -- what a search of the n indices from i comes to: the first at which p holds, or none
   pub data Search (r : A) (i n : ℕ) : Type 0 where
     found : (k : ℕ) → r ≡ hit k → i ≤ k → k < i + n → p k ≡ true → ((j : ℕ) → i ≤ j → j < k → p j ≡ false) → Search r i n

@@ -1,13 +1,15 @@
 -- A line is cut at its spaces. As long as no byte passed is a space, the fields from a place on are those of the bytes left, with the bytes passed before the first of them.
-use Rattle.std.specs.Prelude.{if◌then◌else◌}
+use Rattle.std.specs.Prelude.{if◌then◌else◌, ◌≢◌}
+use Rattle.std.proofs.lemmas.List.{get_or-take, get_or-drop}
 use mathlib.Core.Path.{◌≡◌, refl, sym, ◌∙◌}
 use mathlib.Core.Bool.{Bool, true, false}
 use mathlib.Core.List.{List, [], ◌∷◌, ◌++◌, append_assoc, append-nil}
-use Prim.Native.Nat.{ℕ, ◌+◌, ◌-◌, ◌≤◌, ◌<◌}
+use Prim.Native.Nat.{ℕ, zero, suc, ◌+◌, ◌-◌, ◌≤◌, ◌<◌}
+use native.Mathlib.Nat.{add-zero}
 use native.Mathlib.Numerals.{add-one}
 use native.Mathlib.Omega.{arith}
 use lib.Dec.{eqb}
-use lib.ListN.{length, get_or, drop, drop_of_length-le}
+use lib.ListN.{length, get_or, take, drop, drop_of_length-le}
 use lib.Seq.{drop-cons}
 use borrow.Author.Tests.{le-leb, lt-leb, eq-eqb, ne_eqb}
 use Rattle.lent.specs.Bytes.{win}
@@ -73,3 +75,28 @@ module _ (t : List ℕ) where
 
     pub end_line : e ≤ length t → length t ≤ e → Ends t at e
     end_line h l = ends h (fields_end e l)
+
+  -- as many bytes as are no space are passed
+  module _ (at : ℕ) (a : at ≤ length t) where
+    passed-by : (n : ℕ) → at + n ≤ length t → ((k : ℕ) → k < n → get_or t (at + k) 0 ≢ space)
+        → fields_at t at ≡ prefixed (win t at (at + n - at)) (fields (drop (at + n) t))
+    passed-by zero h f = rw add-zero (end_start at a)
+    passed-by (suc n) h f =
+        let e : at + suc n ≡ at + n + 1 = omega arith in
+        rw e (end_turn at (at + n) (omega arith) (passed-by n (omega arith) (λ k l. f k (omega arith))) (omega arith) (f n (omega arith)))
+
+    -- what is left of the line, and its bytes
+    abbrev pub rest_of : List ℕ
+    rest_of = take (length t - at) (drop at t)
+
+    rest_at : (k : ℕ) → k < length t - at → get_or rest_of k 0 ≡ get_or t (at + k) 0
+    rest_at k h = get_or-take (length t - at) (drop at t) k 0 h ∙ get_or-drop at t k 0
+
+    pub end_found : (n : ℕ) → n < length t - at → get_or rest_of n 0 ≡ space → ((k : ℕ) → k < n → get_or rest_of k 0 ≢ space) → Ends t at (at + n)
+    end_found n h q f =
+        end_space at (at + n) (omega arith) (passed-by n (omega arith) (λ k l. rw (rest_at k (omega arith)) at (f k l))) (omega arith) (sym (rest_at n h) ∙ q)
+
+    pub end_none : ((k : ℕ) → k < length t - at → get_or rest_of k 0 ≢ space) → Ends t at (length t)
+    end_none f =
+        let e : at + (length t - at) ≡ length t = omega arith in
+        rw e at (end_line at (at + (length t - at)) (omega arith) (passed-by (length t - at) (omega arith) (λ k l. rw (rest_at k (omega arith)) at (f k l))) (omega arith) (omega arith))

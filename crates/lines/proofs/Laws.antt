@@ -1,5 +1,5 @@
 -- What callers cite of a line that is read, whatever it says: its length is that of its value, which are bytes that fit the buffer; a register write is in range. Each way to read a line ends in one of three forms, and each form has all of this.
-use Rattle.std.specs.Prelude.{if◌then◌else◌}
+use Rattle.std.specs.Prelude.{if◌then◌else◌, Some, None, Option as ProgramOption}
 use mathlib.Core.Path.{◌≡◌, refl}
 use mathlib.Core.Bool.{Bool, true, false}
 use mathlib.Core.List.{List, [], ◌∷◌}
@@ -100,13 +100,13 @@ write_fine fs =
     (λ v q. let s = value_fits value_max v n.rest q in
     record { size = refl; room = omega (arith, s.0); bytes = s.1; range = (ltb-false key_max n.b t, s.0) })))
 
-command_fine : (time : ℕ) (s : Shape) (fs : List Field) → Fine (command_line time s fs)
+command_fine : (time : ℕ) (s : ProgramOption Shape) (fs : List Field) → Fine (command_line time s fs)
 unfolding command_line
-command_fine time (Shape.Is place k valued) fs =
-    next_fine (numbers k fs) _
-    (λ n e. next_fine (ending valued n.rest) _
-    (λ v q. let s = ending-fits valued v n.rest q in record { size = refl; room = s.0; bytes = s.1; range = tt }))
-command_fine time Shape.Unknown fs = unreadable-sound
+command_fine time (Some s) fs =
+    next_fine (numbers s.numbers fs) _
+    (λ n e. next_fine (ending s.valued n.rest) _
+    (λ v q. let s = ending-fits s.valued v n.rest q in record { size = refl; room = s.0; bytes = s.1; range = tt }))
+command_fine time None fs = unreadable-sound
 
 timed_fine : (fs : List Field) → Fine (timed_line fs)
 unfolding timed_line

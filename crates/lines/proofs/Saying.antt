@@ -1,4 +1,5 @@
 -- What a field says where the code has found its end, and what is given once the value that may follow is read. Each law is a case of a definition.
+use Rattle.std.specs.Prelude.{Some, None, unwrap_or, Option as ProgramOption}
 use mathlib.Core.Path.{◌≡◌, refl, sym, ap, ◌∙◌}
 use mathlib.Core.Bool.{true}
 use mathlib.Core.List.{List, [], ◌∷◌}
@@ -6,16 +7,13 @@ use mathlib.Core.Option.{Option, none, some}
 use Prim.Native.Nat.{ℕ, ◌+◌, ◌-◌, ◌≤◌, ◌<◌}
 use native.Mathlib.Omega.{arith}
 use lib.ListN.{length, take, drop, get_or}
-use borrow.Author.Tests.{lt-ltb, le-ltb, le-leb, lt-leb, eq-eqb, ne_eqb}
+use borrow.Author.Tests.{lt-ltb, le-ltb}
 use Rattle.lent.specs.Bytes.{splice, win}
 use Rattle.lent.proofs.Splice.{win-one, length-win, splice-none}
 use Rattle.lent.proofs.Choices.{zero_one}
-use Rattle.counts.specs.Count.{read_count}
-use Rattle.counts.specs.declared.Count.{Count}
 use Rattle.hex_text.specs.Hex.{read_hex, length_read, value_read}
-use Rattle.hex_text.specs.declared.Hex.{Hex}
-use Rattle.lines.specs.Fields.{zero_digit, Field, fields, fields_at, Ends, ◌>>=◌, read_number, number_of, number, letter, up_to, last_value, at_end}
-use Rattle.lines.specs.Lines.{Read, unvalued, or_unreadable, Gives}
+use Rattle.lines.specs.Fields.{Field, fields, fields_at, Ends, ◌>>=◌, read_number, number_of, number, letter, up_to, last_value, at_end}
+use Rattle.lines.specs.Lines.{Read, or_unreadable, unvalued_any, Gives, GivesAny}
 use Rattle.lines.specs.declared.Line.{Line}
 use Rattle.lines.proofs.Cutting.{prefixed, prefixed-none, fields_in, fields_past}
 
@@ -34,24 +32,9 @@ module _ {A : Type 0} (t : List ℕ) (at : ℕ) (x : A) where
 
 -- ---- a field as a number
 
-pub number_cut : (t : List ℕ) (at e : ℕ) (n : Count) → Ends t at e → n ≡ read_number (take (e - at) (drop at t)) → number true (fields_at t at) ≡ number_of n (fields_at t (e + 1))
+pub number_cut : (t : List ℕ) (at e : ℕ) (n : ProgramOption ℕ) → Ends t at e → n ≡ read_number (take (e - at) (drop at t)) → number true (fields_at t at) ≡ number_of n (fields_at t (e + 1))
 unfolding win
 number_cut t at e n c q = rw (c.cut, q)
-
--- ---- a number's leading zero
-
-module _ (f : List ℕ) where
-  pub number_short : length f < 2 → read_number f ≡ read_count f
-  unfolding read_number
-  number_short h = rw (lt-leb 2 (length f) h)
-
-  pub number-zero : 2 ≤ length f → get_or f 0 0 ≡ zero_digit → read_number f ≡ Count.Not
-  unfolding read_number
-  number-zero h e = rw (le-leb 2 (length f) h, eq-eqb (get_or f 0 0) zero_digit e)
-
-  pub number_other : 2 ≤ length f → (get_or f 0 0 ≡ zero_digit → ⊥) → read_number f ≡ read_count f
-  unfolding read_number
-  number_other h n = rw (le-leb 2 (length f) h, ne_eqb (get_or f 0 0) zero_digit n)
 
 -- ---- a letter
 
@@ -87,19 +70,19 @@ module _ (most : ℕ) (t : List ℕ) (at : ℕ) where
     unfolding win
     value_last h = rw (c.cut, fields_past t (e + 1) (omega arith))
 
-length_read_not : (o : Option (List ℕ)) → length_read o ≡ Hex.Not → o ≡ none
+length_read_not : (o : Option (List ℕ)) → length_read o ≡ None → o ≡ none
 length_read_not none e = refl
 length_read_not (some v) e = zero_one cc
 
-length_read_is : (o : Option (List ℕ)) (n : ℕ) → length_read o ≡ Hex.Is n → (o ≡ some (value_read o)) × (length (value_read o) ≡ n)
+length_read_is : (o : Option (List ℕ)) (n : ℕ) → length_read o ≡ Some n → (o ≡ some (value_read o)) × (length (value_read o) ≡ n)
 length_read_is none n e = zero_one cc
 length_read_is (some v) n e = (refl, cc)
 
-module _ (most : ℕ) (o : Option (List ℕ)) (r : Hex) (a : r ≡ length_read o) where
-  pub up_to_not : r ≡ Hex.Not → up_to most o ≡ none
+module _ (most : ℕ) (o : Option (List ℕ)) (r : ProgramOption ℕ) (a : r ≡ length_read o) where
+  pub up_to_not : r ≡ None → up_to most o ≡ none
   up_to_not e = rw (length_read_not o (sym a ∙ e))
 
-  module _ (n : ℕ) (e : r ≡ Hex.Is n) where
+  module _ (n : ℕ) (e : r ≡ Some n) where
     pub up_to_long : most < n → up_to most o ≡ none
     up_to_long h =
         let p = length_read_is o n (sym a ∙ e) in
@@ -113,24 +96,31 @@ module _ (most : ℕ) (o : Option (List ℕ)) (r : Hex) (a : r ≡ length_read o
 -- ---- what is given
 
 -- no value is read, and the buffer stays
-pub unread : {o : Option (List ℕ)} {v : List ℕ} → o ≡ none → (Hex.Not ≡ length_read o) × (v ≡ splice v 0 (value_read o))
+pub unread : {o : Option (List ℕ)} {v : List ℕ} → o ≡ none → (None ≡ length_read o) × (v ≡ splice v 0 (value_read o))
 unread {v = v} e = rw e (refl, sym (splice-none v 0))
 
-pub gives_unvalued : (x : Read) (r : Line) (s : List ℕ) → x ≡ unvalued r → Gives x r s s
-gives_unvalued x r s e = rw e (record { line = refl; value = sym (splice-none s 0) })
+-- what reads no value leaves the buffer
+pub gives_unvalued : (o : Option Read) (r : ProgramOption Line) (s : List ℕ) → o ≡ unvalued_any r → GivesAny o r s s
+gives_unvalued o None s e = rw e (record { line = refl; value = sym (splice-none s 0) })
+gives_unvalued o (Some l) s e = rw e (record { line = refl; value = sym (splice-none s 0) })
 
-pub gives_none : (s : List ℕ) → Gives (unvalued Line.Unreadable) Line.Unreadable s s
-gives_none s = gives_unvalued _ _ s refl
+pub gives_none : (s : List ℕ) → GivesAny none None s s
+gives_none s = gives_unvalued none None s refl
 
 -- a line by the length of its value, where one is read
-abbrev pub valued_line : (ℕ → Line) → Hex → Line
-valued_line k Hex.Not = Line.Unreadable
-valued_line k (Hex.Is n) = k n
+abbrev pub valued_line : (ℕ → Line) → ProgramOption ℕ → ProgramOption Line
+valued_line k None = None
+valued_line k (Some n) = Some (k n)
 
 -- what is given by what may be read as a value, once it is read into the buffer
-abbrev pub GivesBy : Option (List ℕ) → Read → (ℕ → Line) → List ℕ → Type 0
-GivesBy o x k before = (y r : Hex) (after : List ℕ) → (y ≡ length_read o) × (after ≡ splice before 0 (value_read o)) → y ≡ r → Gives x (valued_line k r) before after
+abbrev pub GivesBy : Option (List ℕ) → Option Read → (ℕ → Line) → List ℕ → Type 0
+GivesBy o x k before = (y r : ProgramOption ℕ) (after : List ℕ) → (y ≡ length_read o) × (after ≡ splice before 0 (value_read o)) → y ≡ r → GivesAny x (valued_line k r) before after
 
-pub gives_valued : (o : Option (List ℕ)) (k : ℕ → Line) {before : List ℕ} → GivesBy o (or_unreadable (o >>= λ v. some (record { line = k (length v); value = v }))) k before
+pub gives_valued : (o : Option (List ℕ)) (k : ℕ → Line) {before : List ℕ} → GivesBy o (o >>= λ v. some (record { line = k (length v); value = v })) k before
 gives_valued none k y r after e q = record { line = ap (valued_line k) (sym q ∙ e.0); value = e.1 }
 gives_valued (some v) k y r after e q = record { line = ap (valued_line k) (sym q ∙ e.0); value = e.1 }
+
+-- a line that may not be read is read all the same
+pub gives_read : (o : Option Read) (r : ProgramOption Line) (before after : List ℕ) → GivesAny o r before after → Gives (or_unreadable o) (unwrap_or r Line.Unreadable) before after
+gives_read none r before after g = record { line = ap (λ (x : ProgramOption Line). unwrap_or x Line.Unreadable) g.line; value = g.value }
+gives_read (some x) r before after g = record { line = ap (λ (x : ProgramOption Line). unwrap_or x Line.Unreadable) g.line; value = g.value }

@@ -1,14 +1,10 @@
 -- A line as fields, and what fields say. 01, "The rehearsal": "time, letter, fields, single spaces between .. Numbers are decimal without leading zeros; values are lower-case hex, `-` for empty."
-use Rattle.std.specs.Prelude.{ℕ, ◌+◌, ◌-◌, ◌≤◌, ◌≡◌, Bool, true, false, ◌&&◌, List, [], ◌∷◌, length, drop, get_or, eqb, leb, ltb, if◌then◌else◌}
+use Rattle.std.specs.Prelude.{ℕ, ◌+◌, ◌-◌, ◌≤◌, ◌≡◌, Bool, true, false, ◌&&◌, List, [], ◌∷◌, length, drop, get_or, eqb, leb, ltb, if◌then◌else◌, Some, None, Option as ProgramOption}
 use Rattle.std.proofs.Math.Option.{Option, none, some}
 use Rattle.lent.specs.Bytes.{win}
 use Rattle.lent.specs.Text.{space, onto}
 use Rattle.counts.specs.Count.{read_count}
-use Rattle.counts.specs.declared.Count.{Count}
 use Rattle.hex_text.specs.Hex.{read_hex}
-use Rattle.lines.specs.declared.One.{One}
-use Rattle.lines.specs.declared.Four.{Four}
-use Rattle.lines.specs.declared.Letter.{Letter}
 
 -- the most bytes of a line; two digits a byte, the value of a line that has one has fewer bytes than there is room for
 abbrev pub line_max : ℕ
@@ -51,17 +47,17 @@ some x >>= f = f x
 -- ---- numbers
 
 -- a count without a leading zero
-unfoldable pub read_number : Field → Count
-read_number f = if leb 2 (length f) && eqb (get_or f 0 0) zero_digit then Count.Not else read_count f
+unfoldable pub read_number : Field → ProgramOption ℕ
+read_number f = if leb 2 (length f) && eqb (get_or f 0 0) zero_digit then None else read_count f
 
 -- a number, and the fields behind it
 pub record OneNumber : Type 0 where
   pub number : ℕ
   pub rest : List Field
 
-abbrev pub number_of : Count → List Field → Option OneNumber
-number_of (Count.Is n) fs = some (record { number = n; rest = fs })
-number_of Count.Not fs = none
+abbrev pub number_of : ProgramOption ℕ → List Field → Option OneNumber
+number_of (Some n) fs = some (record { number = n; rest = fs })
+number_of None fs = none
 
 -- the first field as a number, where one is wanted; where none is, 0 and all fields are left
 abbrev pub number : Bool → List Field → Option OneNumber
@@ -124,14 +120,15 @@ ending false fs = at_end fs []
 
 -- ---- what the code's answers say of a line t
 
-abbrev pub number_at : List ℕ → One → Option OneNumber
-number_at t (One.Is n next) = some (record { number = n; rest = fields_at t next })
-number_at t One.Not = none
+abbrev pub number_at : List ℕ → ProgramOption (ℕ × ℕ) → Option OneNumber
+number_at t (Some x) = some (record { number = x.0; rest = fields_at t x.1 })
+number_at t None = none
 
-abbrev pub numbers_at : List ℕ → Four → Option Numbers
-numbers_at t (Four.Are a b c d next) = some (record { a = a; b = b; c = c; d = d; rest = fields_at t next })
-numbers_at t Four.Not = none
+abbrev pub numbers_at : List ℕ → ProgramOption (List ℕ × ℕ) → Option Numbers
+numbers_at t (Some x) =
+    some (record { a = get_or x.0 0 0; b = get_or x.0 1 0; c = get_or x.0 2 0; d = get_or x.0 3 0; rest = fields_at t x.1 })
+numbers_at t None = none
 
-abbrev pub letter_at : List ℕ → Letter → Option Lettered
-letter_at t (Letter.Is b next) = some (record { letter = b; rest = fields_at t next })
-letter_at t Letter.Not = none
+abbrev pub letter_at : List ℕ → ProgramOption (ℕ × ℕ) → Option Lettered
+letter_at t (Some x) = some (record { letter = x.0; rest = fields_at t x.1 })
+letter_at t None = none

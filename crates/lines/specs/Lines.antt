@@ -1,6 +1,6 @@
 -- What a line of the rehearsal says. 01, "The rehearsal": "Letters in the order above, without SHOW: B, G, F, Q, S, D, V, X (DONE), U, E, T; `C s k v` is a register write; `A r w` (no time) starts."
 -- Whether an A line comes first and once is not decided here.
-use Rattle.std.specs.Prelude.{ℕ, ◌-◌, true, false, ◌≡◌, List, [], length, eqb, ltb, if◌then◌else◌}
+use Rattle.std.specs.Prelude.{ℕ, ◌-◌, true, false, ◌≡◌, List, [], length, eqb, ltb, if◌then◌else◌, Some, None, Option as ProgramOption}
 use Rattle.std.proofs.Math.Option.{Option, none, some}
 use Rattle.lent.specs.Bytes.{splice}
 use Rattle.machine.specs.Sizes.{key_count}
@@ -22,29 +22,38 @@ abbrev pub or_unreadable : Option Read → Read
 or_unreadable (some r) = r
 or_unreadable none = unvalued Line.Unreadable
 
+-- what the code's answers say: the line, if one is read, and one that carries no value
+abbrev pub line_in : Option Read → ProgramOption Line
+line_in (some r) = Some r.line
+line_in none = None
+
+abbrev pub unvalued_any : ProgramOption Line → Option Read
+unvalued_any (Some l) = some (unvalued l)
+unvalued_any None = none
+
 -- a letter's command, by its place in the document's list, how many numbers follow it, and whether a value does
-unfoldable pub shape_of : ℕ → Shape
+unfoldable pub shape_of : ℕ → ProgramOption Shape
 shape_of l =
-    if eqb l 66 then Shape.Is 1 0 false  -- B
-    else if eqb l 71 then Shape.Is 2 2 false  -- G session key
-    else if eqb l 70 then Shape.Is 3 2 true  -- F token key value
-    else if eqb l 81 then Shape.Is 4 3 false  -- Q session key kind
-    else if eqb l 83 then Shape.Is 5 3 true  -- S session step key value
-    else if eqb l 68 then Shape.Is 6 4 true  -- D session step key operation operand
-    else if eqb l 86 then Shape.Is 7 2 false  -- V session n
-    else if eqb l 88 then Shape.Is 8 1 false  -- X session
-    else if eqb l 85 then Shape.Is 9 1 false  -- U session
-    else if eqb l 69 then Shape.Is 10 1 false  -- E key
-    else if eqb l 84 then Shape.Is 11 0 false  -- T
-    else Shape.Unknown
+    if eqb l 66 then Some (record { number = 1; numbers = 0; valued = false })  -- B
+    else if eqb l 71 then Some (record { number = 2; numbers = 2; valued = false })  -- G session key
+    else if eqb l 70 then Some (record { number = 3; numbers = 2; valued = true })  -- F token key value
+    else if eqb l 81 then Some (record { number = 4; numbers = 3; valued = false })  -- Q session key kind
+    else if eqb l 83 then Some (record { number = 5; numbers = 3; valued = true })  -- S session step key value
+    else if eqb l 68 then Some (record { number = 6; numbers = 4; valued = true })  -- D session step key operation operand
+    else if eqb l 86 then Some (record { number = 7; numbers = 2; valued = false })  -- V session n
+    else if eqb l 88 then Some (record { number = 8; numbers = 1; valued = false })  -- X session
+    else if eqb l 85 then Some (record { number = 9; numbers = 1; valued = false })  -- U session
+    else if eqb l 69 then Some (record { number = 10; numbers = 1; valued = false })  -- E key
+    else if eqb l 84 then Some (record { number = 11; numbers = 0; valued = false })  -- T
+    else None
 
 -- what follows a command's letter: its numbers, the value if it has one, and nothing else
-unfoldable pub command_line : ℕ → Shape → List Field → Option Read
-command_line time (Shape.Is place k valued) fs =
-    numbers k fs >>= λ n.
-    ending valued n.rest >>= λ v.
-    some (record { line = Line.Command place time n.a n.b n.c n.d (length v); value = v })
-command_line time Shape.Unknown fs = none
+unfoldable pub command_line : ℕ → ProgramOption Shape → List Field → Option Read
+command_line time (Some s) fs =
+    numbers s.numbers fs >>= λ n.
+    ending s.valued n.rest >>= λ v.
+    some (record { line = Line.Command s.number time n.a n.b n.c n.d (length v); value = v })
+command_line time None fs = none
 
 -- `A` and `C`
 abbrev pub start_letter : ℕ
@@ -89,3 +98,8 @@ read_line t =
 pub record Gives (x : Read) (r : Line) (before after : List ℕ) : Type 0 where
   pub line : r ≡ x.line
   pub value : after ≡ splice before 0 x.value
+
+-- the same where a line may not be read
+pub record GivesAny (o : Option Read) (r : ProgramOption Line) (before after : List ℕ) : Type 0 where
+  pub line : r ≡ line_in o
+  pub value : after ≡ splice before 0 (or_unreadable o).value

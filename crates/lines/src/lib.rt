@@ -1,17 +1,15 @@
 // Lines of the rehearsal: what an input line says.
 #![tactic(auto)]
 
-ghost use Rattle.std.specs.Prelude.{◌≡◌, ◌≤◌, length};
+ghost use Rattle.std.specs.Prelude.{◌≡◌, ◌≤◌, length, Some};
 ghost use Rattle.lent.specs.Bytes.{splice};
 ghost use Rattle.hex_text.specs.Hex.{length_read, value_read};
-ghost use Rattle.lines.specs.Fields.{line_max, value_room, fields_at, Ends, read_number, number, number_at, numbers, numbers_at, letter, letter_at, last_value, ending};
-ghost use Rattle.lines.specs.Lines.{unvalued, or_unreadable, shape_of, command_line, start_line, write_line, timed_line, read_line, Gives};
-
-use counts::Count;
-use hex_text::Hex;
+ghost use Rattle.lines.specs.Fields.{line_max, value_room, fields, fields_at, Ends, read_number, number, number_at, numbers, numbers_at, letter, letter_at, last_value, ending};
+ghost use Rattle.lines.specs.Lines.{unvalued_any, shape_of, command_line, start_line, write_line, timed_line, line_by, read_line, Gives, GivesAny};
 
 // What a line says. The number of a command is its place in the document's list and a to d are its own numbers, 0 where it has fewer;
 // length is that of the value that stands at the front of the caller's buffer.
+// Kept: `Unreadable` is one of them, since it is answered as they are; `acted` of the crate `rehearsal` and `line_told` of `rehearsed` cite it.
 #[derive(Clone, Copy)]
 pub enum Line {
     Unreadable,
@@ -35,32 +33,12 @@ pub enum Line {
     },
 }
 
-// A number, and the place of the next field.
+// A command's place in the document's list, how many numbers follow its letter, and whether a value does.
 #[derive(Clone, Copy)]
-enum One {
-    Is(u64, usize),
-    Not,
-}
-
-// Four numbers, and the place of the next field.
-#[derive(Clone, Copy)]
-enum Four {
-    Are(u64, u64, u64, u64, usize),
-    Not,
-}
-
-// A letter, and the place of the next field.
-#[derive(Clone, Copy)]
-enum Letter {
-    Is(u8, usize),
-    Not,
-}
-
-// A letter's command, how many numbers follow it, and whether a value does.
-#[derive(Clone, Copy)]
-enum Shape {
-    Is(u64, u64, bool),
-    Unknown,
+struct Shape {
+    number: u64,
+    numbers: u64,
+    valued: bool,
 }
 
 // The most bytes of a line, and room for the value of any line.
@@ -85,105 +63,90 @@ fn field_end(line: &[u8], at: usize) -> usize
     requires { at ≤ length line.now }
     ensures { Ends line.now at result }
 {
-    let mut e = at;
-    while e < line.len() {
-        if line[e] == SPACE {
-            return e;
-        }
-        e += 1;
+    let rest = &line[at..];
+    match rest.iter().position(|&b| b == SPACE) {
+        Some(n) => at + n,
+        None => line.len(),
     }
-    e
 }
 
 // A number without a leading zero.
-fn count(text: &[u8]) -> Count
+#[tactic(auto, using(std::proofs::lemmas::Bool::Decides::nat_tests), unfolding(crate::specs::Fields::read_number))]
+fn count(text: &[u8]) -> Option<u64>
     ensures { result ≡ read_number text.now }
 {
-    if text.len() < 2 {
-        return counts::read(text);
-    }
-    if text[0] == ZERO {
-        return Count::Not;
+    if matches!(text, [ZERO, _, ..]) {
+        return None;
     }
     counts::read(text)
 }
 
-// The field at a place as a number, where one is wanted.
-fn number_at(line: &[u8], at: usize, wanted: bool) -> One
+// The field at a place as a number, where one is wanted, and the place of the next field.
+#[tactic(auto, using(crate::proofs::Cutting::fields_past))]
+fn number_at(line: &[u8], at: usize, wanted: bool) -> Option<(u64, usize)>
     requires { length line.now ≤ line_max }
     ensures { number wanted (fields_at line.now at) ≡ number_at line.now result }
 {
     if !wanted {
-        return One::Is(0, at);
+        return Some((0, at));
     }
     if line.len() < at {
-        return One::Not;
+        return None;
     }
     let e = field_end(line, at);
-    let Count::Is(n) = count(&line[at..e]) else {
-        return One::Not;
-    };
-    One::Is(n, e + 1)
+    let n = count(&line[at..e])?;
+    Some((n, e + 1))
 }
 
-// The k fields from a place on as numbers, at most four.
-fn numbers(line: &[u8], at: usize, k: u64) -> Four
+// The k fields from a place on as numbers, at most four, and the place of the next field.
+#[tactic(auto, unfolding(crate::specs::Fields::numbers))]
+fn numbers(line: &[u8], at: usize, k: u64) -> Option<([u64; 4], usize)>
     requires { length line.now ≤ line_max }
     ensures { numbers k (fields_at line.now at) ≡ numbers_at line.now result }
 {
-    let One::Is(a, second) = number_at(line, at, 0 < k) else {
-        return Four::Not;
-    };
-    let One::Is(b, third) = number_at(line, second, 1 < k) else {
-        return Four::Not;
-    };
-    let One::Is(c, fourth) = number_at(line, third, 2 < k) else {
-        return Four::Not;
-    };
-    let One::Is(d, next) = number_at(line, fourth, 3 < k) else {
-        return Four::Not;
-    };
-    Four::Are(a, b, c, d, next)
+    let (a, second) = number_at(line, at, 0 < k)?;
+    let (b, third) = number_at(line, second, 1 < k)?;
+    let (c, fourth) = number_at(line, third, 2 < k)?;
+    let (d, next) = number_at(line, fourth, 3 < k)?;
+    Some(([a, b, c, d], next))
 }
 
-// The field at a place as a letter.
-fn letter_at(line: &[u8], at: usize) -> Letter
+// The field at a place as a letter, and the place of the next field.
+fn letter_at(line: &[u8], at: usize) -> Option<(u8, usize)>
     requires { length line.now ≤ line_max }
     ensures { letter (fields_at line.now at) ≡ letter_at line.now result }
 {
     if line.len() < at {
-        return Letter::Not;
+        return None;
     }
     let e = field_end(line, at);
     if e - at != 1 {
-        return Letter::Not;
+        return None;
     }
-    Letter::Is(line[at], e + 1)
+    Some((line[at], e + 1))
 }
 
 // The last field, at a place, as a value of at most `most` bytes.
-fn last_value(line: &[u8], at: usize, most: usize, value: &mut [u8]) -> Hex
+fn last_value(line: &[u8], at: usize, most: usize, value: &mut [u8]) -> Option<usize>
     requires { (length line.now ≤ line_max) × (value_room ≤ length value.old) }
     ensures { (result ≡ length_read (last_value most (fields_at line.now at))) × (value.new ≡ splice value.old 0 (value_read (last_value most (fields_at line.now at)))) }
 {
     if line.len() < at {
-        return Hex::Not;
+        return None;
     }
     let e = field_end(line, at);
     if e < line.len() {
-        return Hex::Not;
+        return None;
     }
-    let Hex::Is(n) = hex_text::length(&line[at..e]) else {
-        return Hex::Not;
-    };
+    let n = hex_text::length(&line[at..e])?;
     if most < n {
-        return Hex::Not;
+        return None;
     }
     hex_text::read(&line[at..e], value)
 }
 
 // What follows a command's numbers, at a place: a value where one is wanted, and else nothing, which has no bytes.
-fn ending(line: &[u8], at: usize, valued: bool, value: &mut [u8]) -> Hex
+fn ending(line: &[u8], at: usize, valued: bool, value: &mut [u8]) -> Option<usize>
     requires { (length line.now ≤ line_max) × (value_room ≤ length value.old) }
     ensures { (result ≡ length_read (ending valued (fields_at line.now at))) × (value.new ≡ splice value.old 0 (value_read (ending valued (fields_at line.now at)))) }
 {
@@ -191,105 +154,115 @@ fn ending(line: &[u8], at: usize, valued: bool, value: &mut [u8]) -> Hex
         return last_value(line, at, VALUE_ROOM, value);
     }
     if at <= line.len() {
-        return Hex::Not;
+        return None;
     }
-    Hex::Is(0)
+    Some(0)
 }
 
-fn shape_of(letter: u8) -> Shape
+fn shaped(number: u64, numbers: u64, valued: bool) -> Option<Shape>
+    ensures { result ≡ Some (record { number = number; numbers = numbers; valued = valued }) }
+{
+    Some(Shape {
+        number,
+        numbers,
+        valued,
+    })
+}
+
+#[tactic(auto, using(std::proofs::lemmas::Bool::Decides::nat_tests), unfolding(crate::specs::Lines::shape_of))]
+fn shape_of(letter: u8) -> Option<Shape>
     ensures { result ≡ shape_of letter }
 {
     match letter {
-        b'B' => Shape::Is(1, 0, false),
-        b'G' => Shape::Is(2, 2, false),
-        b'F' => Shape::Is(3, 2, true),
-        b'Q' => Shape::Is(4, 3, false),
-        b'S' => Shape::Is(5, 3, true),
-        b'D' => Shape::Is(6, 4, true),
-        b'V' => Shape::Is(7, 2, false),
-        b'X' => Shape::Is(8, 1, false),
-        b'U' => Shape::Is(9, 1, false),
-        b'E' => Shape::Is(10, 1, false),
-        b'T' => Shape::Is(11, 0, false),
-        _ => Shape::Unknown,
+        b'B' => shaped(1, 0, false),
+        b'G' => shaped(2, 2, false),
+        b'F' => shaped(3, 2, true),
+        b'Q' => shaped(4, 3, false),
+        b'S' => shaped(5, 3, true),
+        b'D' => shaped(6, 4, true),
+        b'V' => shaped(7, 2, false),
+        b'X' => shaped(8, 1, false),
+        b'U' => shaped(9, 1, false),
+        b'E' => shaped(10, 1, false),
+        b'T' => shaped(11, 0, false),
+        _ => None,
     }
 }
 
 // A command: what follows its letter from a place on.
-fn command(line: &[u8], at: usize, time: u64, letter: u8, value: &mut [u8]) -> Line
+fn command(line: &[u8], at: usize, time: u64, letter: u8, value: &mut [u8]) -> Option<Line>
     requires { (length line.now ≤ line_max) × (value_room ≤ length value.old) }
-    ensures { Gives (or_unreadable (command_line time (shape_of letter) (fields_at line.now at))) result value.old value.new }
+    ensures { GivesAny (command_line time (shape_of letter) (fields_at line.now at)) result value.old value.new }
 {
-    let Shape::Is(number, k, valued) = shape_of(letter) else {
-        return Line::Unreadable;
-    };
-    let Four::Are(a, b, c, d, next) = numbers(line, at, k) else {
-        return Line::Unreadable;
-    };
-    let Hex::Is(length) = ending(line, next, valued, value) else {
-        return Line::Unreadable;
-    };
-    Line::Command {
-        number,
+    let shape = shape_of(letter)?;
+    let ([a, b, c, d], next) = numbers(line, at, shape.numbers)?;
+    let length = ending(line, next, shape.valued, value)?;
+    Some(Line::Command {
+        number: shape.number,
         time,
         a,
         b,
         c,
         d,
         length,
-    }
+    })
 }
 
 // A start: what follows its letter from a place on.
-fn start(line: &[u8], at: usize) -> Line
+#[tactic(auto, using(crate::proofs::Saying::at_end_in, crate::proofs::Saying::at_end_past), unfolding(crate::specs::Lines::start_line))]
+fn start(line: &[u8], at: usize) -> Option<Line>
     requires { length line.now ≤ line_max }
-    ensures { or_unreadable (start_line (fields_at line.now at)) ≡ unvalued result }
+    ensures { start_line (fields_at line.now at) ≡ unvalued_any result }
 {
-    let Four::Are(read, write, _, _, next) = numbers(line, at, 2) else {
-        return Line::Unreadable;
-    };
-    if line.len() < next {
-        return Line::Start { read, write };
+    let ([read, write, ..], next) = numbers(line, at, 2)?;
+    if next <= line.len() {
+        return None;
     }
-    Line::Unreadable
+    Some(Line::Start { read, write })
 }
 
 // A register write: what follows its letter from a place on.
-fn register_write(line: &[u8], at: usize, value: &mut [u8]) -> Line
+fn register_write(line: &[u8], at: usize, value: &mut [u8]) -> Option<Line>
     requires { (length line.now ≤ line_max) × (value_room ≤ length value.old) }
-    ensures { Gives (or_unreadable (write_line (fields_at line.now at))) result value.old value.new }
+    ensures { GivesAny (write_line (fields_at line.now at)) result value.old value.new }
 {
-    let Four::Are(session, key, _, _, next) = numbers(line, at, 2) else {
-        return Line::Unreadable;
-    };
+    let ([session, key, ..], next) = numbers(line, at, 2)?;
     if KEY_MAX < key {
-        return Line::Unreadable;
+        return None;
     }
-    let Hex::Is(length) = last_value(line, next, layout::VALUE_MAX, value) else {
-        return Line::Unreadable;
-    };
-    Line::Write {
+    let length = last_value(line, next, layout::VALUE_MAX, value)?;
+    Some(Line::Write {
         session,
         key,
         length,
-    }
+    })
 }
 
 // A line that begins with the time.
-fn timed(line: &[u8], value: &mut [u8]) -> Line
+fn timed(line: &[u8], value: &mut [u8]) -> Option<Line>
     requires { (length line.now ≤ line_max) × (value_room ≤ length value.old) }
-    ensures { Gives (or_unreadable (timed_line (fields_at line.now 0))) result value.old value.new }
+    ensures { GivesAny (timed_line (fields_at line.now 0)) result value.old value.new }
 {
-    let One::Is(time, second) = number_at(line, 0, true) else {
-        return Line::Unreadable;
-    };
-    let Letter::Is(letter, third) = letter_at(line, second) else {
-        return Line::Unreadable;
-    };
+    let (time, second) = number_at(line, 0, true)?;
+    let (letter, third) = letter_at(line, second)?;
     if letter == WRITE {
         return register_write(line, third, value);
     }
     command(line, third, time, letter, value)
+}
+
+// What a line says that is not too long.
+fn said(line: &[u8], value: &mut [u8]) -> Option<Line>
+    requires { (length line.now ≤ line_max) × (value_room ≤ length value.old) }
+    ensures { GivesAny (line_by (letter (fields line.now)) (fields line.now)) result value.old value.new }
+{
+    let Some((first, second)) = letter_at(line, 0) else {
+        return timed(line, value);
+    };
+    if first == START {
+        return start(line, second);
+    }
+    timed(line, value)
 }
 
 // What a line says; the bytes of its value stand at the front of the buffer, and the rest of it stays. Where the line can't be read or
@@ -301,11 +274,5 @@ pub fn read(line: &[u8], value: &mut [u8]) -> Line
     if LINE_MAX < line.len() {
         return Line::Unreadable;
     }
-    let Letter::Is(first, second) = letter_at(line, 0) else {
-        return timed(line, value);
-    };
-    if first == START {
-        return start(line, second);
-    }
-    timed(line, value)
+    said(line, value).unwrap_or(Line::Unreadable)
 }

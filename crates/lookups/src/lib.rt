@@ -2,25 +2,24 @@
 // bytes hold.
 #![tactic(auto)]
 
-ghost use Rattle.std.specs.Prelude.{◌≡◌, ◌<◌, length};
+ghost use Rattle.std.specs.Prelude.{◌≡◌, ◌<◌};
 ghost use Rattle.lent.specs.Tables.{first};
-ghost use Rattle.machine.specs.Sizes.{state_size, row_count};
+ghost use Rattle.machine.specs.Sizes.{row_count};
 ghost use Rattle.machine.specs.Tables.{place};
 ghost use Rattle.machine.specs.State.{State, free_row, on, row_place};
 ghost use Rattle.layout.specs.Holds.{Holds};
 ghost use Rattle.layout.specs.Search.{found, Below};
-ghost use Rattle.layout.specs.declared.Found.{Found};
 ghost use Rattle.lookups.specs.Test.{row_test};
 
-use layout::Found;
+use layout::Buffer;
 
 // Whether row i is on key k and of session n, or of any where n is 0.
-fn is_on(s: &[u8], i: usize, n: u64, k: usize) -> bool
-    requires { (length s.now ≡ state_size) × (i < row_count) }
+fn is_on(s: &Buffer, i: usize, n: u64, k: usize) -> bool
+    requires { i < row_count }
     ensures { result ≡ row_test s.now n k i }
 {
     let at = layout::ROWS_FROM + i * layout::ROW_WIDTH;
-    let m = lent::load_u32(s, at) as u64;
+    let m = u64::from(lent::load_u32(s, at));
     if m == 0 {
         return false;
     }
@@ -34,40 +33,31 @@ fn is_on(s: &[u8], i: usize, n: u64, k: usize) -> bool
     key == k
 }
 
-fn search(s: &[u8], n: u64, k: usize) -> Found
-    requires { length s.now ≡ state_size }
-    ensures { (result ≡ first (row_test s.now n k) Found.At Found.Nothing 0 row_count) × Below row_count result }
+fn search(s: &Buffer, n: u64, k: usize) -> Option<usize>
+    ensures { (result ≡ first (row_test s.now n k) Some None 0 row_count) × Below row_count result }
 {
-    for i in 0..layout::ROW_COUNT {
-        if is_on(s, i, n, k) {
-            return Found::At(i);
-        }
-    }
-    Found::Nothing
+    (0..layout::ROW_COUNT).find(|&i| is_on(s, i, n, k))
 }
 
 // The row of session n on key k.
-pub fn find(s: &[u8], n: u64, k: usize) -> Found
-    requires { length s.now ≡ state_size }
+pub fn find(s: &Buffer, n: u64, k: usize) -> Option<usize>
     ensures { ((σ : State) → Holds s.now σ → result ≡ found row_count (row_place σ n k)) × Below row_count result }
 {
     if n == 0 {
-        return Found::Nothing;
+        return None;
     }
     search(s, n, k)
 }
 
 // The first row on key k.
-pub fn first_on(s: &[u8], k: usize) -> Found
-    requires { length s.now ≡ state_size }
+pub fn first_on(s: &Buffer, k: usize) -> Option<usize>
     ensures { ((σ : State) → Holds s.now σ → result ≡ found row_count (place (on k) σ.rows)) × Below row_count result }
 {
     search(s, 0, k)
 }
 
 // The lowest free row; where there is none, the table is full.
-pub fn free_place(s: &[u8]) -> Found
-    requires { length s.now ≡ state_size }
+pub fn free_place(s: &Buffer) -> Option<usize>
     ensures { ((σ : State) → Holds s.now σ → result ≡ found row_count (place free_row σ.rows)) × Below row_count result }
 {
     layout::find_number(

@@ -13,7 +13,7 @@ use lib.ListN.{get_or}
 use Rattle.lent.proofs.Choices.{clash}
 use Rattle.machine.specs.Sizes.{number_max}
 use Rattle.machine.specs.Tables.{place, find}
-use Rattle.machine.specs.Words.{is_kind, INVALIDATE, INCREMENTAL}
+use Rattle.machine.specs.Words.{STATE, is_kind, INVALIDATE, INCREMENTAL}
 use Rattle.machine.specs.Decision.{decision, grants}
 use Rattle.machine.specs.State.{Value, Lease, Slot, no_session, session, Staged, Row, no_row, row, State, free, free_row, numbered, on, of_on, kind_of, session_place, session_of, row_place, row_of, session_at, row_at}
 use Rattle.machine.specs.Refusals.{decide, blocked, sight, would_lease, not_live, clock_refusal, refusals, refusal}
@@ -29,7 +29,7 @@ use Rattle.machine.proofs.Ranges.{within_means}
 use Rattle.machine.proofs.Table.{only_Q1_shares, quarantined_backs_off}
 
 -- each test of an accepted command was false: at place 0 the clock's, at place i the i-th of the command's list, in the order of specs/Refusals
-pub passed : (s : State) (now : ℕ) (c : Command) (v : Value) → refusal s now c v ≡ none → (i : ℕ) → (get_or (clock_refusal s now ∷ refusals s c v) i (false, 0)).0 ≡ false
+pub passed : (s : State) (now : ℕ) (c : Command) (v : Value) → refusal s now c v ≡ none → (i : ℕ) → (get_or (clock_refusal s now ∷ refusals s c v) i (false, STATE)).0 ≡ false
 unfolding refusal
 passed s now c v e = Views.first-none (clock_refusal s now ∷ refusals s c v) e
 

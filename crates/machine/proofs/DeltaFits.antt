@@ -1,6 +1,6 @@
 -- What DELTA stages fits an incremental row: an appended or prepended value was measured, a count has at most 20 digits, and where there is
 -- no result DROP is staged.
-use Rattle.std.specs.Prelude.{if◌then◌else◌}
+use Rattle.std.specs.Prelude.{if◌then◌else◌, Some, None, Option as ProgramOption}
 use mathlib.Core.Path.{refl, subst}
 use mathlib.Core.List.{[], ◌∷◌, ◌++◌}
 use mathlib.Core.Option.{Option, none, some}
@@ -12,7 +12,6 @@ use borrow.Author.Tests.{leb-true}
 use Rattle.lent.specs.Bytes.{Bytes}
 use Rattle.lent.proofs.Choices.{if_ind}
 use Rattle.counts.specs.Count.{decimal, read_count, raised, lowered}
-use Rattle.counts.specs.declared.Count.{Count}
 use Rattle.counts.proofs.Decimal.{decimal_most, decimal-digits, digits-byte}
 use Rattle.machine.specs.Sizes.{value_max}
 use Rattle.machine.specs.State.{Value, Staged, nothing, staged, DROP}
@@ -34,10 +33,10 @@ fits_fine : (v : Value) → Bytes v → FineIfAny (fits v)
 fits_fine v p = if_ind FineIfAny (leb (length v) value_max)
     (λ q u e. subst Fine (Views.some_eq v u e) (record { short = leb-true (length v) value_max q; bytes = p })) (λ q u e. Views.no_some u e)
 
-counts_fine : (operation : ℕ) (a b : Count) → FineIfAny (counts operation a b)
-counts_fine operation Count.Not b v e = Views.no_some v e
-counts_fine operation (Count.Is a) Count.Not v e = Views.no_some v e
-counts_fine operation (Count.Is a) (Count.Is b) v e = subst Fine (Views.some_eq _ v e) (decimal_fine (if eqb operation INCREMENT then raised a b else lowered a b))
+counts_fine : (operation : ℕ) (a b : ProgramOption ℕ) → FineIfAny (counts operation a b)
+counts_fine operation None b v e = Views.no_some v e
+counts_fine operation (Some a) None v e = Views.no_some v e
+counts_fine operation (Some a) (Some b) v e = subst Fine (Views.some_eq _ v e) (decimal_fine (if eqb operation INCREMENT then raised a b else lowered a b))
 
 operate_fine : (operation : ℕ) (x v : Value) → Bytes x → Fine v → FineIfAny (operate operation x v)
 unfolding operate

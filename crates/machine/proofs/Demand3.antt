@@ -18,6 +18,7 @@ use Rattle.machine.specs.Refusals.{blocked, Sight, cached_sight, row_sight, sigh
 use Rattle.machine.specs.Effects.{Outcome, told, wait, leased, missed, looked, effect}
 use Rattle.machine.specs.Step.{settled, step, showing, show}
 use Rattle.machine.specs.World.{Event, command, World, quarantined, fresh_world, commanded, next, run, AllKept, Consistent}
+use Rattle.machine.specs.declared.Refusal.{Refusal}
 use Rattle.machine.specs.declared.Answer.{Answer}
 use Rattle.machine.specs.declared.Command.TheVariants.{Get}
 use Rattle.machine.proofs.Views
@@ -51,7 +52,7 @@ looked-hit s now n k at size none p = if_ind (Handed n k at size) (free_row (row
     (λ q. if_ind (Handed n k at size) (blocked s k) (λ b. another n k at size (told (Answer.Backoff (wait s k now)) s) refl) (λ b. another n k at size (leased s now k) refl))
     (λ q. another n k at size (told Answer.Ask s) refl)
 
-settled-hit : (s t : State) (now n k at size : ℕ) (v : Value) (o : Option ℕ) → Handed n k at size (settled s now o (effect t now (Get n k) v))
+settled-hit : (s t : State) (now n k at size : ℕ) (v : Value) (o : Option Refusal) → Handed n k at size (settled s now o (effect t now (Get n k) v))
 unfolding Handed settled effect
 settled-hit s t now n k at size v (some c) = another n k at size (told (Answer.Refused c) s) refl
 settled-hit s t now n k at size v none = looked-hit t now n k at size (sight t n k) refl
@@ -62,7 +63,7 @@ get_hit s now n k at size v = settled-hit s (expire now s) now n k at size v (re
 
 -- SHOW: so does its stretch
 
-showing_value : (s : State) (n k size : ℕ) (r : Option ℕ) (o : Option Sight) → sight s n k ≡ o → (showing r o).answer ≡ Answer.Value size → row_of s n k ≡ no_row → cached s k ≡ some (showing r o).value
+showing_value : (s : State) (n k size : ℕ) (r : Option Refusal) (o : Option Sight) → sight s n k ≡ o → (showing r o).answer ≡ Answer.Value size → row_of s n k ≡ no_row → cached s k ≡ some (showing r o).value
 showing_value s n k size none (some x) p e f = sight-cached s n k x f p
 showing_value s n k size none none p e f = Views.answers_differ Answer.None (Answer.Value size) refl e
 showing_value s n k size (some c) o p e f = Views.answers_differ (Answer.Refused c) (Answer.Value size) refl e

@@ -24,6 +24,7 @@ use Rattle.machine.specs.Effects.{Outcome, looked, missed, matches, asks, change
 use Rattle.machine.specs.Step.{settled, step, started, start}
 use Rattle.machine.specs.World.{Event, command, write, World, fresh_world, commanded, written, next, run, EventBytes, AllBytes}
 use Rattle.machine.specs.WellFormed.{Fine, StagedFits, LiveAs, WellFormed, Within}
+use Rattle.machine.specs.declared.Refusal.{Refusal}
 use Rattle.machine.specs.declared.Session.{Session}
 use Rattle.machine.specs.declared.Answer.{Answer}
 use Rattle.machine.specs.declared.Command.{Command}
@@ -125,7 +126,7 @@ expire-sound s now h = means_sound (expire now s) (WellKept.well_expire s now s.
 pub well_expired : (s : State) (now : ℕ) (c : Command) (v : Value) → sound s ≡ true → refusal (expire now s) now c v ≡ none → WellFormed (expire now s) now
 well_expired s now c v h e = let t = expired_time s now c v e in WellKept.well_later (expire now s) s.head.clock now t.0 t.1 (WellKept.well_expire s now s.head.clock (sound_means s h))
 
-settled-sound : (s : State) (now : ℕ) (c : Command) (v : Value) → Bytes v → sound s ≡ true → (o : Option ℕ) → refusal (expire now s) now c v ≡ o → sound (settled s now o (effect (expire now s) now c v)).after ≡ true
+settled-sound : (s : State) (now : ℕ) (c : Command) (v : Value) → Bytes v → sound s ≡ true → (o : Option Refusal) → refusal (expire now s) now c v ≡ o → sound (settled s now o (effect (expire now s) now c v)).after ≡ true
 unfolding settled
 settled-sound s now c v b h (some e) p = h
 settled-sound s now c v b h none p = means_sound (with_clock t now) (WellKept.well_clock t now (well_effect (expire now s) now (well_expired s now c v h p) c v b p))
@@ -160,7 +161,7 @@ fresh-sound read_life write_life r w = means_sound (fresh read_life write_life) 
 })
 
 -- whatever the buffer held, READY leaves a sound state
-started-sound : (s : State) (read_life write_life : ℕ) (o : Option ℕ) → first (start_refusals read_life write_life) ≡ o → (started read_life write_life o s).answer ≡ Answer.Ready → sound (started read_life write_life o s).after ≡ true
+started-sound : (s : State) (read_life write_life : ℕ) (o : Option Refusal) → first (start_refusals read_life write_life) ≡ o → (started read_life write_life o s).answer ≡ Answer.Ready → sound (started read_life write_life o s).after ≡ true
 started-sound s read_life write_life (some e) p a = Views.answers_differ (Answer.Refused e) Answer.Ready refl a
 started-sound s read_life write_life none p a =
     let x : (not (lifetime read_life) || not (lifetime write_life)) ≡ false = Views.first-none (start_refusals read_life write_life) p 0 in
@@ -171,7 +172,7 @@ pub start_keeps_sound : (s : State) (read_life write_life : ℕ) → sound s ≡
 unfolding start
 start_keeps_sound s read_life write_life h = go (first (start_refusals read_life write_life)) refl
   where
-    go : (o : Option ℕ) → first (start_refusals read_life write_life) ≡ o → sound (started read_life write_life o s).after ≡ true
+    go : (o : Option Refusal) → first (start_refusals read_life write_life) ≡ o → sound (started read_life write_life o s).after ≡ true
     go (some e) p = h
     go none p = started-sound s read_life write_life none p refl
 

@@ -15,6 +15,7 @@ use Rattle.machine.specs.Refusals.{refusal}
 use Rattle.machine.specs.Effects.{effect}
 use Rattle.machine.specs.Step.{settled, step}
 use Rattle.machine.specs.World.{Event, command, write, World, quarantined, commanded, next, run, Rules, expired, Kept, AllKept}
+use Rattle.machine.specs.declared.Refusal.{Refusal}
 use Rattle.machine.specs.declared.Answer.{Answer}
 use Rattle.machine.specs.declared.Command.{Command}
 use Rattle.machine.proofs.OrderlyKept.{orderly_expire, orderly_clock}
@@ -35,7 +36,7 @@ began_as : (b : Bool) (r o v : Value) → (b ≡ true → v ≡ o) → (b ≡ fa
 began_as true r o v f h = f refl
 began_as false r o v f h = h refl
 
-commanded_good : (w : World) → Good w → (now : ℕ) (c : Command) (v : Value) (o : Option ℕ) → refusal (expire now w.state) now c v ≡ o
+commanded_good : (w : World) → Good w → (now : ℕ) (c : Command) (v : Value) (o : Option Refusal) → refusal (expire now w.state) now c v ≡ o
     → Rules (expired w now) c v (settled w.state now o (effect (expire now w.state) now c v)).answer
     → Good (commanded w (settled w.state now o (effect (expire now w.state) now c v)))
 unfolding commanded settled

@@ -19,6 +19,7 @@ use Rattle.machine.specs.Effects.{Outcome, missed, looked, matches, asks, change
 use Rattle.machine.specs.Step.{settled, step}
 use Rattle.machine.specs.World.{Event, command, write, World, commanded, written, next}
 use Rattle.machine.specs.WellFormed.{Orderly, Within}
+use Rattle.machine.specs.declared.Refusal.{Refusal}
 use Rattle.machine.specs.declared.Command.{Command}
 use Rattle.machine.specs.declared.Command.TheVariants.{Begin, Get, Fill, Quar, Stage, Delta, Validate, Done, Undo, Evict, Tick}
 use Rattle.machine.proofs.OrderlyKept
@@ -59,7 +60,7 @@ module _ (s : State) (h : Orderly s) where
   orderly_effect now (Evict k) v e = if_ind Keeps (is_none (cached s k)) (λ p. h) (λ p. OrderlyKept.orderly_evicted s k h)
   orderly_effect now Tick v e = h
 
-orderly_settled : (s : State) (now : ℕ) (o : Option ℕ) (r : Outcome) → Orderly s → (o ≡ none → Orderly r.after) → Orderly (settled s now o r).after
+orderly_settled : (s : State) (now : ℕ) (o : Option Refusal) (r : Outcome) → Orderly s → (o ≡ none → Orderly r.after) → Orderly (settled s now o r).after
 unfolding settled
 orderly_settled s now none r h f = OrderlyKept.orderly_clock r.after now (f refl)
 orderly_settled s now (some e) r h f = h

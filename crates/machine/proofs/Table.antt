@@ -8,6 +8,7 @@ use native.Mathlib.Omega.{arith}
 use lib.Dec.{eqb}
 use borrow.Author.Tests.{eqb-true, ne_eqb}
 use lib.ListN.{length, get_or, length-map, get_or-map}
+use Rattle.std.proofs.lemmas.List.{get_or_default}
 use Rattle.machine.specs.Words.{INVALIDATE}
 use Rattle.machine.specs.Decision.{held_count, asked_count, decisions, decision, grants}
 use Rattle.machine.specs.declared.Verdict.{Verdict}
@@ -40,14 +41,8 @@ row_by held = map (verdict_by held) (from 0 asked_count)
 computed : decisions ≡ map row_by (from 0 held_count)
 computed = refl
 
--- within a list the default does not matter
-get_or_any : {A : Type 0} (l : List A) (i : ℕ) (d e : A) → i < length l → get_or l i d ≡ get_or l i e
-get_or_any [] i d e h = absurd (omega arith)
-get_or_any (x ∷ l) zero d e h = refl
-get_or_any (x ∷ l) (suc i) d e h = get_or_any l i d e (omega arith)
-
-pub at_map : {A B : Type 0} (f : A → B) (l : List A) (i : ℕ) (d : A) (e : B) → i < length l → get_or (map f l) i e ≡ f (get_or l i d)
-at_map f l i d e h = get_or_any (map f l) i e (f d) (rw (length-map l f) h) ∙ get_or-map f l i d
+at_map : {A B : Type 0} (f : A → B) (l : List A) (i : ℕ) (d : A) (e : B) → i < length l → get_or (map f l) i e ≡ f (get_or l i d)
+at_map f l i d e h = get_or_default (map f l) i e (f d) (rw (length-map l f) h) ∙ get_or-map f l i d
 
 pub decision-by : (held asked : ℕ) → held < held_count → asked < asked_count → decision held asked ≡ verdict_by held asked
 unfolding decision

@@ -25,6 +25,7 @@ use Rattle.machine.specs.Step.{settled, step}
 use Rattle.machine.specs.World.{Event, command, write, World, next, HasRow, Sealed, Rules, expired, Kept, AllKept}
 use Rattle.machine.specs.Test.{differs, broken_by, broken, verdicts}
 use Rattle.machine.specs.WellFormed.{Orderly}
+use Rattle.machine.specs.declared.Refusal.{Refusal}
 use Rattle.machine.specs.declared.Life.{Life}
 use Rattle.machine.specs.declared.Answer.{Answer}
 use Rattle.machine.specs.declared.Command.{Command}
@@ -61,7 +62,7 @@ verdict_zero false c n f = refl
 Says : Answer → Outcome → Type 0
 Says a r = eqb (word_of r.answer) (word_of a) ≡ true → r.answer ≡ a
 
-says-settled : (a : Answer) (s : State) (now : ℕ) (o : Option ℕ) (r : Outcome) → eqb 0 (word_of a) ≡ false → Says a r → Says a (settled s now o r)
+says-settled : (a : Answer) (s : State) (now : ℕ) (o : Option Refusal) (r : Outcome) → eqb 0 (word_of a) ≡ false → Says a r → Says a (settled s now o r)
 unfolding Says settled
 says-settled a s now none r q f = f
 says-settled a s now (some e) r q f = λ p. clash (eqb 0 (word_of a)) p q

@@ -13,12 +13,13 @@ use borrow.Author.Tests.{eqb-true, eqb-false, eq-eqb, leb-false}
 use lib.ListN.{length, get_or, set, replicate}
 use Rattle.lent.proofs.Choices.{and_yes, case_of, clash, zero_one, if_ind, if_left}
 use Rattle.machine.specs.Sizes.{key_count, session_count, row_count}
-use Rattle.machine.specs.Words.{word_of}
+use Rattle.machine.specs.Words.{word_of, STATE}
 use Rattle.machine.specs.Tables.{place, find, any, first, mem}
 use Rattle.machine.specs.Session.{due_life}
 use Rattle.machine.specs.State.{Value, Lease, Key, blank, Slot, no_session, session, Staged, nothing, staged, DROP, Row, no_row, row, fresh, on, free, free_row, of_on, numbered, cached, lease_on, session_at, row_at}
 use Rattle.machine.specs.Expiry.{free_if_of, free_session, set_value, set_lease, settle, those, unlapsed}
 use Rattle.machine.specs.Effects.{to_cache}
+use Rattle.machine.specs.declared.Refusal.{Refusal}
 use Rattle.machine.specs.declared.Life.{Life}
 use Rattle.machine.specs.declared.Session.{Session}
 use Rattle.machine.specs.declared.Answer.{Answer}
@@ -43,7 +44,7 @@ some_eq a b e = cc
 
 -- Refusals: where none applies, each test is false
 
-pub first-none : (l : List (Bool × ℕ)) → first l ≡ none → (i : ℕ) → (get_or l i (false, 0)).0 ≡ false
+pub first-none : (l : List (Bool × Refusal)) → first l ≡ none → (i : ℕ) → (get_or l i (false, STATE)).0 ≡ false
 first-none [] e i = refl
 first-none (x ∷ l) e zero = elim (case_of x.0) [ inl p ↦ no_some x.1 (sym (rw p at e)) | inr p ↦ p ]
 first-none (x ∷ l) e (suc i) = elim (case_of x.0) [ inl p ↦ no_some x.1 (sym (rw p at e)) | inr p ↦ first-none l (rw p at e) i ]

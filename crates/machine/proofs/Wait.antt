@@ -23,6 +23,7 @@ use Rattle.machine.specs.Step.{settled, step}
 use Rattle.machine.specs.World.{HasRow, Sealed}
 use Rattle.machine.specs.WellFormed.{Within, WellFormed}
 use Rattle.machine.specs.Statements.{OpenUntil, Waits, for_lease, for_sealed, for_open}
+use Rattle.machine.specs.declared.Refusal.{Refusal}
 use Rattle.machine.specs.declared.Life.{Life}
 use Rattle.machine.specs.declared.Session.{Session}
 use Rattle.machine.specs.declared.Answer.{Answer}
@@ -178,7 +179,7 @@ looked_backoff t now n k w none e = go (case_of (free_row (row_of t n k))) (case
     go (inl p) (inr q) = Views.answers_differ (Answer.Lease t.head.next_token) (Answer.Backoff w) refl (rw (p, q) at e)
     go (inr p) q = Views.answers_differ Answer.Ask (Answer.Backoff w) refl (rw p at e)
 
-settled_backoff : (s : State) (now n k w : ℕ) (v : Value) → sound s ≡ true → (o : Option ℕ) → refusal (expire now s) now (Get n k) v ≡ o
+settled_backoff : (s : State) (now n k w : ℕ) (v : Value) → sound s ≡ true → (o : Option Refusal) → refusal (expire now s) now (Get n k) v ≡ o
     → (settled s now o (effect (expire now s) now (Get n k) v)).answer ≡ Answer.Backoff w → Waits (expire now s) now k w
 unfolding settled effect
 settled_backoff s now n k w v h (some c) p e = Views.answers_differ (Answer.Refused c) (Answer.Backoff w) refl e

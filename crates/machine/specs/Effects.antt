@@ -1,8 +1,7 @@
 -- 01, "The commands": what each accepted command answers and does, on the state after expiry.
-use Rattle.std.specs.Prelude.{Bool, false, List, [], ◌∷◌, ◌++◌, ℕ, suc, ◌+◌, ◌-◌, max, eqb, leb, ltb, length, set, if◌then◌else◌}
+use Rattle.std.specs.Prelude.{Bool, false, List, [], ◌∷◌, ◌++◌, ℕ, suc, ◌+◌, ◌-◌, max, eqb, leb, ltb, length, set, if◌then◌else◌, Some, None, Option as ProgramOption}
 use Rattle.std.proofs.Math.Option.{Option, none, some}
 use Rattle.counts.specs.Count.{read_count, decimal, raised, lowered}
-use Rattle.counts.specs.declared.Count.{Count}
 use Rattle.machine.specs.Sizes.{value_max}
 use Rattle.machine.specs.Words.{APPEND, PREPEND, INCREMENT}
 use Rattle.machine.specs.Tables.{put_at, is_none}
@@ -102,10 +101,10 @@ abbrev pub fits : Value → Option Value
 fits v = if leb (length v) value_max then some v else none
 
 -- 3 increment, 4 decrement
-abbrev pub counts : ℕ → Count → Count → Option Value
-counts operation Count.Not x = none
-counts operation (Count.Is a) Count.Not = none
-counts operation (Count.Is a) (Count.Is b) = some (decimal (if eqb operation INCREMENT then raised a b else lowered a b))
+abbrev pub counts : ℕ → ProgramOption ℕ → ProgramOption ℕ → Option Value
+counts operation None x = none
+counts operation (Some a) None = none
+counts operation (Some a) (Some b) = some (decimal (if eqb operation INCREMENT then raised a b else lowered a b))
 
 -- 1 append, 2 prepend; the operand x on the value v
 unfoldable pub operate : ℕ → Value → Value → Option Value

@@ -8,6 +8,7 @@ use Rattle.machine.specs.Session.{is_sealed}
 use Rattle.machine.specs.Decision.{decision, grants}
 use Rattle.machine.specs.Sound.{lifetime}
 use Rattle.machine.specs.State.{Value, Lease, Slot, no_session, session, nothing, staged, DROP, Row, no_row, row, State, free, free_row, on, kind_of, session_of, row_place, row_of, cached, lease_on}
+use Rattle.machine.specs.declared.Refusal.{Refusal}
 use Rattle.machine.specs.declared.Verdict.{Verdict}
 use Rattle.machine.specs.declared.Command.{Command}
 use Rattle.machine.specs.declared.Command.TheVariants.{Begin, Get, Fill, Quar, Stage, Delta, Validate, Done, Undo, Evict, Tick}
@@ -90,11 +91,11 @@ abbrev pub rows_full : State → Bool
 rows_full s = leb row_count (count (λ r. not (free_row r)) s.rows)
 
 -- CLOCK
-abbrev pub clock_refusal : State → ℕ → Bool × ℕ
+abbrev pub clock_refusal : State → ℕ → Bool × Refusal
 clock_refusal s now = (ltb now s.head.clock || ltb time_max now, CLOCK)
 
 -- NO SESSION to AHEAD, of STAGE and DELTA
-abbrev pub staging_refusals : State → ℕ → ℕ → ℕ → ℕ → List (Bool × ℕ)
+abbrev pub staging_refusals : State → ℕ → ℕ → ℕ → ℕ → List (Bool × Refusal)
 staging_refusals s n step k kind =
     (not_live s n, NO-SESSION)
     ∷ (sealed_in s n, SEALED)
@@ -104,7 +105,7 @@ staging_refusals s n step k kind =
     ∷ []
 
 -- s is the state after expiry
-unfoldable pub refusals : State → Command → Value → List (Bool × ℕ)
+unfoldable pub refusals : State → Command → Value → List (Bool × Refusal)
 refusals s Begin v =
     (sessions_full s, FULL)
     ∷ (leb number_max s.head.next_session, NUMBERS)
@@ -145,13 +146,13 @@ refusals s (Undo n) v = (not_live s n, NO-SESSION) ∷ []
 refusals s (Evict k) v = (bad_key k, ARG) ∷ []
 refusals s Tick v = []
 
-unfoldable pub refusal : State → ℕ → Command → Value → Option ℕ
+unfoldable pub refusal : State → ℕ → Command → Value → Option Refusal
 refusal s now c v = first (clock_refusal s now ∷ refusals s c v)
 
 -- START and SHOW
 
-abbrev pub start_refusals : ℕ → ℕ → List (Bool × ℕ)
+abbrev pub start_refusals : ℕ → ℕ → List (Bool × Refusal)
 start_refusals read_life write_life = (not (lifetime read_life) || not (lifetime write_life), ARG) ∷ []
 
-abbrev pub show_refusals : State → ℕ → ℕ → List (Bool × ℕ)
+abbrev pub show_refusals : State → ℕ → ℕ → List (Bool × Refusal)
 show_refusals s n k = (bad_key k, ARG) ∷ (not (eqb n 0) && not_live s n, NO-SESSION) ∷ []

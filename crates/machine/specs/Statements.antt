@@ -1,11 +1,13 @@
 -- Words of the theorems' own: what a theorem of `proofs/` says beyond the definitions of the machine.
 use Rattle.std.specs.Prelude.{◌≡◌, Bool, true, false, ◌&&◌, List, [], ◌∷◌, ℕ, ◌+◌, ◌≤◌, ◌<◌, eqb, ltb, get_or, if◌then◌else◌}
 use Rattle.std.proofs.Math.Option.{some}
+use Rattle.machine.specs.Words.{STATE}
 use Rattle.machine.specs.State.{Value, Lease, session, State, session_at, lease_on}
 use Rattle.machine.specs.WellFormed.{Within}
 use Rattle.machine.specs.Expiry.{expire}
 use Rattle.machine.specs.Refusals.{clock_refusal, refusals}
 use Rattle.machine.specs.World.{HasRow, Sealed}
+use Rattle.machine.specs.declared.Refusal.{Refusal}
 use Rattle.machine.specs.declared.Life.{Life}
 use Rattle.machine.specs.declared.Session.{Session}
 use Rattle.machine.specs.declared.Command.{Command}
@@ -27,15 +29,15 @@ verdict_by held asked =
 -- Refusals (`refused-first`, `first-refused`, `in_order`)
 
 -- the tests of a command, on the state after expiry, in order
-abbrev pub tests : State → ℕ → Command → Value → List (Bool × ℕ)
+abbrev pub tests : State → ℕ → Command → Value → List (Bool × Refusal)
 tests s now c v = clock_refusal (expire now s) now ∷ refusals (expire now s) c v
 
--- e is the number of the test at some place, which holds, and no test before it does
-pub record First (l : List (Bool × ℕ)) (e : ℕ) : Type 0 where
+-- e is the refusal of the test at some place, which holds, and no test before it does
+pub record First (l : List (Bool × Refusal)) (e : Refusal) : Type 0 where
   pub place : ℕ
-  pub holds : (get_or l place (false, 0)).0 ≡ true
-  pub number : (get_or l place (false, 0)).1 ≡ e
-  pub before : (j : ℕ) → j < place → (get_or l j (false, 0)).0 ≡ false
+  pub holds : (get_or l place (false, STATE)).0 ≡ true
+  pub number : (get_or l place (false, STATE)).1 ≡ e
+  pub before : (j : ℕ) → j < place → (get_or l j (false, STATE)).0 ≡ false
 
 -- each number is above the one before it, the first above n
 abbrev pub ascend : ℕ → List ℕ → Bool

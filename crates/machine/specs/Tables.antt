@@ -33,7 +33,7 @@ is_none (some a) = false
 abbrev pub mem : ℕ → List ℕ → Bool
 mem n l = any (λ m. eqb m n) l
 
--- the number of the first test that holds
-abbrev pub first : List (Bool × ℕ) → Option ℕ
+-- what goes with the first test that holds
+abbrev pub first : {A : Type 0} → List (Bool × A) → Option A
 first [] = none
 first (x ∷ xs) = let r = first xs in if x.0 then some x.1 else r

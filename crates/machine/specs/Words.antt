@@ -1,12 +1,13 @@
 -- The words of document 01: each answer's word by number and what goes with it; refusal numbers; kinds and operations.
 use Rattle.std.specs.Prelude.{Bool, ◌&&◌, List, [], ◌∷◌, ℕ, leb}
+use Rattle.machine.specs.declared.Refusal.{Refusal}
 use Rattle.machine.specs.declared.Answer.{Answer}
 use Rattle.machine.specs.declared.Command.{Command}
 use Rattle.machine.specs.declared.Command.TheVariants.{Begin, Get, Fill, Quar, Stage, Delta, Validate, Done, Undo, Evict, Tick}
 
 -- READY, then the words in the order of the commands, then SHOW's; 0 for a refusal
 abbrev pub word_of : Answer → ℕ
-word_of (Answer.Refused n) = 0
+word_of (Answer.Refused e) = 0
 word_of Answer.Ready = 1
 word_of (Answer.Session n) = 2
 word_of (Answer.Hit a n) = 3
@@ -56,9 +57,25 @@ DONE = 17
 abbrev pub UNDONE : ℕ
 UNDONE = 18
 
+-- 01, "Refusal numbers"
+abbrev pub refusal_number : Refusal → ℕ
+refusal_number Refusal.State = 1
+refusal_number Refusal.Clock = 2
+refusal_number Refusal.Arg = 3
+refusal_number Refusal.Long = 4
+refusal_number Refusal.NoSession = 5
+refusal_number Refusal.Sealed = 6
+refusal_number Refusal.NotSealed = 7
+refusal_number Refusal.NoLease = 8
+refusal_number Refusal.Kind = 9
+refusal_number Refusal.Ahead = 10
+refusal_number Refusal.Full = 11
+refusal_number Refusal.Room = 12
+refusal_number Refusal.Numbers = 13
+
 -- the session, token, wait, length or refusal number that goes with the word; 0 where nothing does
 abbrev pub detail_of : Answer → ℕ
-detail_of (Answer.Refused n) = n
+detail_of (Answer.Refused e) = refusal_number e
 detail_of Answer.Ready = 0
 detail_of (Answer.Session n) = n
 detail_of (Answer.Hit a n) = n
@@ -83,45 +100,45 @@ detail_of Answer.Ticked = 0
 detail_of (Answer.Value n) = n
 detail_of Answer.None = 0
 
--- 01, "Refusal numbers"
-abbrev pub STATE : ℕ
-STATE = 1
+-- the refusals by the names of the document's table
+abbrev pub STATE : Refusal
+STATE = Refusal.State
 
-abbrev pub CLOCK : ℕ
-CLOCK = 2
+abbrev pub CLOCK : Refusal
+CLOCK = Refusal.Clock
 
-abbrev pub ARG : ℕ
-ARG = 3
+abbrev pub ARG : Refusal
+ARG = Refusal.Arg
 
-abbrev pub LONG : ℕ
-LONG = 4
+abbrev pub LONG : Refusal
+LONG = Refusal.Long
 
-abbrev pub NO-SESSION : ℕ
-NO-SESSION = 5
+abbrev pub NO-SESSION : Refusal
+NO-SESSION = Refusal.NoSession
 
-abbrev pub SEALED : ℕ
-SEALED = 6
+abbrev pub SEALED : Refusal
+SEALED = Refusal.Sealed
 
-abbrev pub NOT-SEALED : ℕ
-NOT-SEALED = 7
+abbrev pub NOT-SEALED : Refusal
+NOT-SEALED = Refusal.NotSealed
 
-abbrev pub NO-LEASE : ℕ
-NO-LEASE = 8
+abbrev pub NO-LEASE : Refusal
+NO-LEASE = Refusal.NoLease
 
-abbrev pub KIND : ℕ
-KIND = 9
+abbrev pub KIND : Refusal
+KIND = Refusal.Kind
 
-abbrev pub AHEAD : ℕ
-AHEAD = 10
+abbrev pub AHEAD : Refusal
+AHEAD = Refusal.Ahead
 
-abbrev pub FULL : ℕ
-FULL = 11
+abbrev pub FULL : Refusal
+FULL = Refusal.Full
 
-abbrev pub ROOM : ℕ
-ROOM = 12
+abbrev pub ROOM : Refusal
+ROOM = Refusal.Room
 
-abbrev pub NUMBERS : ℕ
-NUMBERS = 13
+abbrev pub NUMBERS : Refusal
+NUMBERS = Refusal.Numbers
 
 -- the kinds of quarantine
 abbrev pub INVALIDATE : ℕ

@@ -4,33 +4,47 @@
 ghost use Rattle.std.specs.Prelude.{◌≡◌, ◌<◌};
 ghost use Rattle.machine.specs.Session.{opened, step_of, sealed, is_sealed, is_due, validation_of};
 ghost use Rattle.machine.specs.Sizes.{step_max};
+ghost use Rattle.machine.specs.Words.{refusal_number};
 
-// 01, "Refusal numbers".
-pub const STATE: u8 = 1;
+// 01, "Refusal numbers", in their order.
+#[derive(Clone, Copy, PartialEq, Eq, Debug)]
+pub enum Refusal {
+    State,
+    Clock,
+    Arg,
+    Long,
+    NoSession,
+    Sealed,
+    NotSealed,
+    NoLease,
+    Kind,
+    Ahead,
+    Full,
+    Room,
+    Numbers,
+}
 
-pub const CLOCK: u8 = 2;
-
-pub const ARG: u8 = 3;
-
-pub const LONG: u8 = 4;
-
-pub const NO_SESSION: u8 = 5;
-
-pub const SEALED: u8 = 6;
-
-pub const NOT_SEALED: u8 = 7;
-
-pub const NO_LEASE: u8 = 8;
-
-pub const KIND: u8 = 9;
-
-pub const AHEAD: u8 = 10;
-
-pub const FULL: u8 = 11;
-
-pub const ROOM: u8 = 12;
-
-pub const NUMBERS: u8 = 13;
+impl Refusal {
+    pub fn number(self) -> u8
+        ensures { result ≡ refusal_number self }
+    {
+        match self {
+            Refusal::State => 1,
+            Refusal::Clock => 2,
+            Refusal::Arg => 3,
+            Refusal::Long => 4,
+            Refusal::NoSession => 5,
+            Refusal::Sealed => 6,
+            Refusal::NotSealed => 7,
+            Refusal::NoLease => 8,
+            Refusal::Kind => 9,
+            Refusal::Ahead => 10,
+            Refusal::Full => 11,
+            Refusal::Room => 12,
+            Refusal::Numbers => 13,
+        }
+    }
+}
 
 // 01, "The state and its numbers": the most staging steps, a lifetime's ends in ms, the last time, the largest next number.
 pub const STEP_MAX: u64 = 1000;
@@ -44,6 +58,7 @@ pub const TIME_MAX: u64 = 281474976710655;
 pub const NUMBER_MAX: u32 = 4294967295;
 
 // Kinds of quarantine.
+// Kept: the document's rows and commands carry a kind as a number, and test it by a range.
 pub const INVALIDATE: u8 = 1;
 
 pub const REFRESH: u8 = 2;
@@ -120,10 +135,11 @@ pub enum Answer {
     Ticked,
     Value(usize),
     None,
-    Refused(u8),
+    Refused(Refusal),
 }
 
 // Open until a deadline, or sealed with none.
+// Kept: no `Option`, since the document asks for an enum of a session's life, with methods by value.
 #[derive(Clone, Copy)]
 pub enum Life {
     Open(u64),
@@ -169,18 +185,16 @@ impl Session {
         requires { step < step_max }
         ensures { result ≡ step_of self step }
     {
-        let count = self.count as u64;
+        let count = u64::from(self.count);
         if step < count {
             return Step::Repeats;
         }
         if count < step {
             return Step::Ahead;
         }
-        let life = self.life;
         Step::Acts(Session {
-            number: self.number,
-            life,
             count: self.count + 1,
+            ..self
         })
     }
 
@@ -188,28 +202,22 @@ impl Session {
         ensures { result ≡ sealed self }
     {
         Session {
-            number: self.number,
             life: Life::Sealed,
-            count: self.count,
+            ..self
         }
     }
 
     pub fn is_sealed(self) -> bool
         ensures { result ≡ is_sealed self }
     {
-        let life = self.life;
-        match life {
-            Life::Open(_) => false,
-            Life::Sealed => true,
-        }
+        matches!(self.life, Life::Sealed)
     }
 
     // Open with its deadline at or before now.
     pub fn due(self, now: u64) -> bool
         ensures { result ≡ is_due now self }
     {
-        let life = self.life;
-        match life {
+        match self.life {
             Life::Open(until) => until <= now,
             Life::Sealed => false,
         }
@@ -218,7 +226,7 @@ impl Session {
     pub fn validate(self, n: u64) -> Validation
         ensures { result ≡ validation_of self n }
     {
-        let count = self.count as u64;
+        let count = u64::from(self.count);
         if n == count {
             return Validation::Seals(self.seal());
         }

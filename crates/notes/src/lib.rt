@@ -4,7 +4,9 @@
 ghost use Rattle.std.specs.Prelude.{◌≡◌, ◌+◌, ◌≤◌, ◌<◌, min, length, get_or};
 ghost use Rattle.lent.specs.Tables.{same};
 ghost use Rattle.machine.specs.Sizes.{key_count, value_max};
-ghost use Rattle.book.specs.Book.{book_size, note_at, note, with_note, registered, granted, with_registered, with_granted};
+ghost use Rattle.book.specs.Book.{note_at, note, with_note, registered, granted, with_registered, with_granted};
+
+use book::Book;
 
 const NOTES_FROM: usize = 32;
 
@@ -13,11 +15,11 @@ const NOTE_WIDTH: usize = 65;
 const KEYS_END: u64 = layout::KEY_COUNT as u64;
 
 // The length of the value in note i.
-fn note_length(b: &[u8], i: usize) -> usize
-    requires { (length b.now ≡ book_size) × (i < key_count + key_count) }
+fn note_length(b: &Book, i: usize) -> usize
+    requires { i < key_count + key_count }
     ensures { (result ≡ min (get_or b.now (note_at i) 0) value_max) × (result ≤ value_max) }
 {
-    let n = lent::index(b[NOTES_FROM + i * NOTE_WIDTH]);
+    let n = usize::from(b[NOTES_FROM + i * NOTE_WIDTH]);
     if n <= layout::VALUE_MAX {
         return n;
     }
@@ -25,8 +27,8 @@ fn note_length(b: &[u8], i: usize) -> usize
 }
 
 // Whether note i is the value.
-fn note_is(b: &[u8], i: usize, v: &[u8]) -> bool
-    requires { (length b.now ≡ book_size) × (i < key_count + key_count) }
+fn note_is(b: &Book, i: usize, v: &[u8]) -> bool
+    requires { i < key_count + key_count }
     ensures { result ≡ same v.now (note b.now i) }
 {
     let n = note_length(b, i);
@@ -35,8 +37,8 @@ fn note_is(b: &[u8], i: usize, v: &[u8]) -> bool
     blocks::same(v, &b[at..end])
 }
 
-fn put_note(b: &mut [u8], i: usize, v: &[u8])
-    requires { (length b.old ≡ book_size) × ((i < key_count + key_count) × (length v.now ≤ value_max)) }
+fn put_note(b: &mut Book, i: usize, v: &[u8])
+    requires { (i < key_count + key_count) × (length v.now ≤ value_max) }
     ensures { b.new ≡ with_note b.old i v.now }
 {
     let at = NOTES_FROM + i * NOTE_WIDTH;
@@ -46,8 +48,8 @@ fn put_note(b: &mut [u8], i: usize, v: &[u8])
 }
 
 // Note i also as note j, behind it.
-fn copy_note(b: &mut [u8], i: usize, j: usize)
-    requires { (length b.old ≡ book_size) × ((i < j) × (j < key_count + key_count)) }
+fn copy_note(b: &mut Book, i: usize, j: usize)
+    requires { (i < j) × (j < key_count + key_count) }
     ensures { b.new ≡ with_note b.old j (note b.old i) }
 {
     let n = note_length(b, i);
@@ -58,8 +60,7 @@ fn copy_note(b: &mut [u8], i: usize, j: usize)
 }
 
 // Whether the value is the one that the register holds for the key; what is no key has none, which is empty.
-pub fn is_registered(b: &[u8], key: u64, v: &[u8]) -> bool
-    requires { length b.now ≡ book_size }
+pub fn is_registered(b: &Book, key: u64, v: &[u8]) -> bool
     ensures { result ≡ same v.now (registered b.now key) }
 {
     if KEYS_END <= key {
@@ -69,8 +70,7 @@ pub fn is_registered(b: &[u8], key: u64, v: &[u8]) -> bool
 }
 
 // Whether it is the one that the register held at the key's last grant.
-pub fn is_granted(b: &[u8], key: u64, v: &[u8]) -> bool
-    requires { length b.now ≡ book_size }
+pub fn is_granted(b: &Book, key: u64, v: &[u8]) -> bool
     ensures { result ≡ same v.now (granted b.now key) }
 {
     if KEYS_END <= key {
@@ -80,8 +80,8 @@ pub fn is_granted(b: &[u8], key: u64, v: &[u8]) -> bool
 }
 
 // The register writes the value to the key.
-pub fn write(b: &mut [u8], key: u64, v: &[u8])
-    requires { (length b.old ≡ book_size) × (length v.now ≤ value_max) }
+pub fn write(b: &mut Book, key: u64, v: &[u8])
+    requires { length v.now ≤ value_max }
     ensures { b.new ≡ with_registered b.old key v.now }
 {
     if KEYS_END <= key {
@@ -91,8 +91,7 @@ pub fn write(b: &mut [u8], key: u64, v: &[u8])
 }
 
 // A grant on the key is noted with what the register holds.
-pub fn grant(b: &mut [u8], key: u64)
-    requires { length b.old ≡ book_size }
+pub fn grant(b: &mut Book, key: u64)
     ensures { b.new ≡ with_granted b.old key (registered b.old key) }
 {
     if KEYS_END <= key {

@@ -4,48 +4,41 @@
 ghost use Rattle.std.specs.Prelude.{◌≡◌};
 ghost use Rattle.numbered.specs.Commands.{command_of, unknown, ran_by};
 
-use machine::{Answer, Command};
-
-// A command by its number, or none.
-#[derive(Clone, Copy)]
-pub enum Numbered {
-    Is(Command),
-    Unknown,
-}
+use machine::{Answer, Command, Refusal};
 
 // The command of a number, its place in the document's list, with its own numbers in their order.
-pub fn command_of(number: u64, a: u64, b: u64, c: u64, d: u64) -> Numbered
+pub fn command_of(number: u64, a: u64, b: u64, c: u64, d: u64) -> Option<Command>
     ensures { result ≡ command_of number a b c d }
 {
     match number {
-        1 => Numbered::Is(Command::Begin),
-        2 => Numbered::Is(Command::Get { session: a, key: b }),
-        3 => Numbered::Is(Command::Fill { token: a, key: b }),
-        4 => Numbered::Is(Command::Quar {
+        1 => Some(Command::Begin),
+        2 => Some(Command::Get { session: a, key: b }),
+        3 => Some(Command::Fill { token: a, key: b }),
+        4 => Some(Command::Quar {
             session: a,
             key: b,
             kind: c,
         }),
-        5 => Numbered::Is(Command::Stage {
+        5 => Some(Command::Stage {
             session: a,
             step: b,
             key: c,
         }),
-        6 => Numbered::Is(Command::Delta {
+        6 => Some(Command::Delta {
             session: a,
             step: b,
             key: c,
             operation: d,
         }),
-        7 => Numbered::Is(Command::Validate {
+        7 => Some(Command::Validate {
             session: a,
             count: b,
         }),
-        8 => Numbered::Is(Command::Done { session: a }),
-        9 => Numbered::Is(Command::Undo { session: a }),
-        10 => Numbered::Is(Command::Evict { key: a }),
-        11 => Numbered::Is(Command::Tick),
-        _ => Numbered::Unknown,
+        8 => Some(Command::Done { session: a }),
+        9 => Some(Command::Undo { session: a }),
+        10 => Some(Command::Evict { key: a }),
+        11 => Some(Command::Tick),
+        _ => None,
     }
 }
 
@@ -53,16 +46,16 @@ pub fn command_of(number: u64, a: u64, b: u64, c: u64, d: u64) -> Numbered
 fn refuse_unknown(state: &[u8], time: u64) -> Answer
     ensures { result ≡ unknown state.now time }
 {
-    if !state::well_formed(state) {
-        return Answer::Refused(machine::STATE);
-    }
-    if time < header::clock(state) {
-        return Answer::Refused(machine::CLOCK);
+    let Some(buffer) = state::opened(state) else {
+        return Answer::Refused(Refusal::State);
+    };
+    if time < header::clock(buffer) {
+        return Answer::Refused(Refusal::Clock);
     }
     if machine::TIME_MAX < time {
-        return Answer::Refused(machine::CLOCK);
+        return Answer::Refused(Refusal::Clock);
     }
-    Answer::Refused(machine::ARG)
+    Answer::Refused(Refusal::Arg)
 }
 
 // One command by its number and four numbers of its own.
@@ -78,9 +71,8 @@ pub fn run_numbered(
 ) -> Answer
     ensures { (result ≡ (ran_by state.old time value.now (command_of number a b c d)).answer) × (state.new ≡ (ran_by state.old time value.now (command_of number a b c d)).bytes) }
 {
-    let numbered = command_of(number, a, b, c, d);
-    match numbered {
-        Numbered::Is(command) => cache::run(state, time, command, value),
-        Numbered::Unknown => refuse_unknown(state, time),
+    match command_of(number, a, b, c, d) {
+        Some(command) => cache::run(state, time, command, value),
+        None => refuse_unknown(state, time),
     }
 }

@@ -1,4 +1,5 @@
 -- What BEGIN comes to, case by case: the table is full, the numbers are spent, or the session opens in the place that the search found.
+use Rattle.std.specs.Prelude.{None}
 use mathlib.Core.Path.{◌≡◌, sym, ap, ◌∙◌, subst}
 use mathlib.Core.Bool.{true, false}
 use mathlib.Core.List.{List, []}
@@ -22,12 +23,11 @@ use Rattle.machine.proofs.FirstRefusal
 use Rattle.machine.proofs.SoundMeans.{sessions_length}
 use Rattle.layout.specs.Holds.{Holds}
 use Rattle.layout.specs.Search.{found}
-use Rattle.layout.specs.declared.Found.{Found}
 use Rattle.layout.proofs.Search.{found_full, found_room}
 use Rattle.outcome.specs.Outcome.{tried, Gives}
 
 module _ (s : State) (ok : sound s ≡ true) (now : ℕ) where
-  pub begin_full : found session_count (place free s.sessions) ≡ Found.Nothing → tried s now Begin [] ≡ told (Answer.Refused FULL) s
+  pub begin_full : found session_count (place free s.sessions) ≡ None → tried s now Begin [] ≡ told (Answer.Refused FULL) s
   unfolding tried
   begin_full e = rw (FirstRefusal.begin_full s [] (found_full free no_session s.sessions session_count (sessions_length s ok) e))
 

@@ -1,5 +1,6 @@
 -- A step in the parts in which the code takes it: the clock's test, the command on a state on which nothing lapses, the clock.
 -- Where nothing lapses that is the whole step.
+use Rattle.machine.specs.declared.Refusal.{Refusal}
 use Rattle.std.specs.Prelude.{if◌then◌else◌}
 use Prim.Native.Nat.{ℕ}
 use mathlib.Core.Path.{◌≡◌, refl}
@@ -32,7 +33,7 @@ module _ (s : State) (now : ℕ) (c : Command) (v : Value) where
   unfolding acted refusal settled tried
   acted_in_time e q = rw (e, ← q) (go (first (refusals s c v)))
     where
-      go : (o : Option ℕ) → let u = unless o s (effect s now c v) in settled s now o (effect s now c v) ≡ (if is_refused u.answer then u else clocked now u)
+      go : (o : Option Refusal) → let u = unless o s (effect s now c v) in settled s now o (effect s now c v) ≡ (if is_refused u.answer then u else clocked now u)
       go (some d) = refl
       go none = rw (effect_accepts s now c v)
 

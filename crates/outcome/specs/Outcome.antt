@@ -1,4 +1,5 @@
 -- What the functions of the commands promise: the machine's outcome on a state on which nothing lapses, said of the lent bytes.
+use Rattle.machine.specs.declared.Refusal.{Refusal}
 use Rattle.std.specs.Prelude.{ℕ, ◌≡◌, Bool, true, List, eqb}
 use Rattle.std.proofs.Math.Option.{Option, none, some}
 use Rattle.machine.specs.Tables.{first}
@@ -13,7 +14,7 @@ use Rattle.machine.specs.declared.Command.{Command}
 use Rattle.layout.specs.Holds.{Holds}
 
 -- a refusal keeps the state
-abbrev pub unless : Option ℕ → State → Outcome → Outcome
+abbrev pub unless : Option Refusal → State → Outcome → Outcome
 unless none s r = r
 unless (some e) s r = told (Answer.Refused e) s
 

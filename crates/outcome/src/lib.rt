@@ -8,9 +8,5 @@ ghost use Rattle.outcome.specs.Outcome.{is_refused};
 pub fn is_refused(a: machine::Answer) -> bool
     ensures { result ≡ is_refused a }
 {
-    if let machine::Answer::Refused(_) = a {
-        true
-    } else {
-        false
-    }
+    matches!(a, machine::Answer::Refused(_))
 }

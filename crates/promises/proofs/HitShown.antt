@@ -1,5 +1,6 @@
 -- After a HIT, SHOW gives the value that it handed out, at the same place: a GET that hits leaves the state after expiry with its clock moved, the tests
 -- that it passed are those of SHOW, and what is in sight does not depend on the clock. Over bytes this is what the next SHOW on the buffer answers.
+use Rattle.machine.specs.declared.Refusal.{Refusal}
 use mathlib.Core.Path.{◌≡◌, refl, sym, ap, ◌∙◌}
 use mathlib.Core.Bool.{true, false}
 use mathlib.Core.Logic.{◌⊎◌, inl, inr}
@@ -44,7 +45,7 @@ unfolding show sight refusals
 show_accepted s now n k v e = rw (passed s now (Get n k) v e 1, passed s now (Get n k) v e 2)
 
 module _ (s : State) (now n k at size : ℕ) (v : Value) where
-  settled_shown : (o : Option ℕ) → refusal (expire now s) now (Get n k) v ≡ o → (settled s now o (effect (expire now s) now (Get n k) v)).answer ≡ Answer.Hit at size
+  settled_shown : (o : Option Refusal) → refusal (expire now s) now (Get n k) v ≡ o → (settled s now o (effect (expire now s) now (Get n k) v)).answer ≡ Answer.Hit at size
       → ShowsHit at size (settled s now o (effect (expire now s) now (Get n k) v)).handed (show (settled s now o (effect (expire now s) now (Get n k) v)).after n k)
   unfolding settled effect looked
   settled_shown (some e) p q = zero_one cc

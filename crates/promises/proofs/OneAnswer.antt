@@ -1,5 +1,6 @@
 -- One answer: each public contract says what is returned, and what the buffer then is, by an equation whose right side is fixed by what the caller
 -- lent. Two returns that satisfy a contract are equal to the same thing, so they are equal.
+use Rattle.std.specs.Prelude.{Option}
 use mathlib.Core.Path.{◌≡◌, sym, ◌∙◌}
 use mathlib.Core.Bool.{Bool}
 use mathlib.Core.List.{List}
@@ -14,7 +15,6 @@ use Rattle.stretches.specs.Stretch.{Stretch}
 use Rattle.show.specs.Show.{show_of}
 use Rattle.cache.specs.Run.{ran}
 use Rattle.numbered.specs.Commands.{ran_by}
-use Rattle.numbered.specs.declared.Numbered.{Numbered}
 use Rattle.promises.specs.OneAnswer.{OneGiven}
 
 pub one_answer : {A : Type 0} (f x y : A) → x ≡ f → y ≡ f → x ≡ y
@@ -39,5 +39,5 @@ one-show b n k = one_answer (show_of b n k).answer
 pub one_stretch : (s r t : Bor (List ℕ)) (n k : ℕ) → Stretch s r (show_of s.now n k) → Stretch s t (show_of s.now n k) → (r.ref_ptr ≡ t.ref_ptr) × (r.now ≡ t.now)
 one_stretch s r t n k p q = (one_answer _ r.ref_ptr t.ref_ptr p.place q.place, one_answer _ r.now t.now p.value q.value)
 
-pub one-numbered : (b : List ℕ) (time : ℕ) (v : Value) (n : Numbered) → OneGiven (ran_by b time v n)
+pub one-numbered : (b : List ℕ) (time : ℕ) (v : Value) (n : Option Command) → OneGiven (ran_by b time v n)
 one-numbered b time v n = one-reply (ran_by b time v n)

@@ -1,6 +1,7 @@
 -- Demands 1 and 2 over the lent bytes: on a buffer that is not well formed nothing happens, and a well-formed one is the encoding of a sound
 -- state. A refused command keeps that state, so its encoding is the same bytes; every command leaves a sound state, so its encoding is well formed
 -- and says that state. START is READY, or refuses and leaves the bytes.
+use Rattle.machine.specs.declared.Refusal.{Refusal}
 use mathlib.Core.Path.{◌≡◌, sym, ap, ◌∙◌}
 use mathlib.Core.Bool.{true, false}
 use mathlib.Core.Logic.{◌⊎◌, inl, inr}
@@ -31,7 +32,7 @@ use Rattle.cache.proofs.Taken.{ran_formed, ran_unformed}
 
 module _ (b : List ℕ) (now : ℕ) (c : Command) (v : Value) where
   -- demand 1: a refusal leaves every byte
-  pub refused_bytes : (e : ℕ) → (ran b now c v).answer ≡ Answer.Refused e → (ran b now c v).bytes ≡ b
+  pub refused_bytes : (e : Refusal) → (ran b now c v).answer ≡ Answer.Refused e → (ran b now c v).bytes ≡ b
   refused_bytes e p = go (case_of (well_formed b))
     where
       go : (well_formed b ≡ true) ⊎ (well_formed b ≡ false) → (ran b now c v).bytes ≡ b
@@ -53,8 +54,8 @@ module _ (b : List ℕ) (now : ℕ) (c : Command) (v : Value) where
 
 -- START refuses, and the buffer stands
 pub record StartRefused (b : List ℕ) (read_life write_life : ℕ) : Type 0 where
-  pub number : ℕ
-  pub is : start_of b read_life write_life ≡ record { answer = Answer.Refused number; bytes = b }
+  pub refusal : Refusal
+  pub is : start_of b read_life write_life ≡ record { answer = Answer.Refused refusal; bytes = b }
 
 pub ready_or_refused : (b : List ℕ) (read_life write_life : ℕ) → ((start_of b read_life write_life).answer ≡ Answer.Ready) ⊎ StartRefused b read_life write_life
 ready_or_refused b read_life write_life = sized (case_of (eqb (length b) state_size))
@@ -62,15 +63,15 @@ ready_or_refused b read_life write_life = sized (case_of (eqb (length b) state_s
     lives : length b ≡ state_size → (lifetime read_life ≡ true) ⊎ (lifetime read_life ≡ false) → (lifetime write_life ≡ true) ⊎ (lifetime write_life ≡ false)
         → ((start_of b read_life write_life).answer ≡ Answer.Ready) ⊎ StartRefused b read_life write_life
     lives l (inl r) (inl w) = inl (ap (λ (x : Reply). x.answer) (started-ready b read_life write_life l r w))
-    lives l (inl r) (inr w) = inr (record { number = ARG; is = started_write b read_life write_life l w })
-    lives l (inr r) w = inr (record { number = ARG; is = started_read b read_life write_life l r })
+    lives l (inl r) (inr w) = inr (record { refusal = ARG; is = started_write b read_life write_life l w })
+    lives l (inr r) w = inr (record { refusal = ARG; is = started_read b read_life write_life l r })
 
     sized : (eqb (length b) state_size ≡ true) ⊎ (eqb (length b) state_size ≡ false) → ((start_of b read_life write_life).answer ≡ Answer.Ready) ⊎ StartRefused b read_life write_life
     sized (inl l) = lives (eqb-true (length b) state_size l) (case_of (lifetime read_life)) (case_of (lifetime write_life))
-    sized (inr l) = inr (record { number = STATE; is = started_size b read_life write_life (eqb-false (length b) state_size l) })
+    sized (inr l) = inr (record { refusal = STATE; is = started_size b read_life write_life (eqb-false (length b) state_size l) })
 
 -- demand 1 of START
-pub refused-start : (b : List ℕ) (read_life write_life e : ℕ) → (start_of b read_life write_life).answer ≡ Answer.Refused e → (start_of b read_life write_life).bytes ≡ b
+pub refused-start : (b : List ℕ) (read_life write_life : ℕ) (e : Refusal) → (start_of b read_life write_life).answer ≡ Answer.Refused e → (start_of b read_life write_life).bytes ≡ b
 refused-start b read_life write_life e p = elim (ready_or_refused b read_life write_life) [
   | inl q ↦ (let z : Answer.Ready ≡ Answer.Refused e = sym q ∙ p in zero_one cc)
   | inr q ↦ ap (λ (x : Reply). x.bytes) q.is

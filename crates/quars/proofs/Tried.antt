@@ -1,6 +1,7 @@
 -- What QUAR answers and leaves, case by case in the code's order: its arguments, its session, a row that it has, the decision table, a free row.
 -- Each test of the definition's list is decided where the code decides it; ROOM, the last, only where a row would be taken.
-use Rattle.std.specs.Prelude.{if◌then◌else◌}
+use Rattle.machine.specs.declared.Refusal.{Refusal}
+use Rattle.std.specs.Prelude.{if◌then◌else◌, Some, None, Ok, Err}
 use mathlib.Core.Path.{◌≡◌, refl}
 use mathlib.Core.Bool.{Bool, true, false, not, ◌&&◌}
 use mathlib.Core.List.{[], ◌∷◌}
@@ -17,12 +18,10 @@ use Rattle.machine.specs.State.{no_row, row, nothing, State, free_row, kind_of, 
 use Rattle.machine.specs.Expiry.{with_keys, with_rows, set_lease}
 use Rattle.machine.specs.Refusals.{decide, rows_full, would_grant, refusals}
 use Rattle.machine.specs.Effects.{told, asks, effect}
-use Rattle.machine.specs.declared.Session.{Session}
 use Rattle.machine.specs.declared.Answer.{Answer}
 use Rattle.machine.specs.declared.Command.TheVariants.{Quar}
 use Rattle.machine.proofs.FirstRefusal
 use Rattle.layout.specs.Search.{found}
-use Rattle.layout.specs.declared.Found.{Found}
 use Rattle.layout.proofs.Search.{found-at, found_full, found_room}
 use Rattle.outcome.specs.Outcome.{unless, tried}
 use Rattle.askers.specs.Asker.{asker_of}
@@ -34,10 +33,10 @@ module _ (s : State) (n k kind : ℕ) where
   -- ---- a free row
 
   module _ (l : length s.rows ≡ row_count) where
-    pub grant_full : found row_count (place free_row s.rows) ≡ Found.Nothing → grant s n k kind ≡ told (Answer.Refused ROOM) s
+    pub grant_full : found row_count (place free_row s.rows) ≡ None → grant s n k kind ≡ told (Answer.Refused ROOM) s
     grant_full f = rw (found_full free_row no_row s.rows row_count l f)
 
-    pub grant_room : (i : ℕ) → found row_count (place free_row s.rows) ≡ Found.At i
+    pub grant_room : (i : ℕ) → found row_count (place free_row s.rows) ≡ Some i
         → grant s n k kind ≡ told Answer.Granted (with_keys (with_rows s (set s.rows i (row n k kind nothing))) (set_lease s.keys k none))
     grant_room i f = rw (found_room free_row no_row s.rows row_count i l f, (found-at row_count (place free_row s.rows) i f).0)
 
@@ -70,13 +69,13 @@ module _ (s : State) (n k kind : ℕ) where
   quar_kind e = rw (FirstRefusal.quar_kind s n k kind [] e)
 
   module _ (a : k < key_count) (d : is_kind kind ≡ true) where
-    pub quar_refused : (e : ℕ) → asker_of s n ≡ Asker.Refused e → tried s 0 (Quar n k kind) [] ≡ told (Answer.Refused e) s
+    pub quar_refused : (e : Refusal) → asker_of s n ≡ Err e → tried s 0 (Quar n k kind) [] ≡ told (Answer.Refused e) s
     unfolding tried refusals
     quar_refused e q = rw (lt-leb key_count k a, d, first_asker s n ((would_grant s n k kind && rows_full s, ROOM) ∷ []), q)
 
-    pub quar_open : (i : ℕ) (x : Session) → asker_of s n ≡ Asker.Open i x → tried s 0 (Quar n k kind) [] ≡ hold s n k kind
+    pub quar_open : (x : Asker) → asker_of s n ≡ Ok x → tried s 0 (Quar n k kind) [] ≡ hold s n k kind
     unfolding tried refusals effect hold ask would_grant asks
-    quar_open i x q =
+    quar_open x q =
         rw (lt-leb key_count k a, d, first_asker s n ((would_grant s n k kind && rows_full s, ROOM) ∷ []), q)
         (go (eqb (kind_of (row_of s n k)) kind) (grants (decide s k kind)) (rows_full s))
       where

@@ -1,8 +1,8 @@
 // QUAR: a session asks for a quarantine of a key, and the decision table answers.
 #![tactic(auto)]
 
-ghost use Rattle.std.specs.Prelude.{◌≡◌, true, [], ◌≤◌, ◌<◌, eqb, length};
-ghost use Rattle.machine.specs.Sizes.{state_size, session_count};
+ghost use Rattle.std.specs.Prelude.{◌≡◌, true, [], ◌≤◌, ◌<◌, eqb};
+ghost use Rattle.machine.specs.Sizes.{session_count};
 ghost use Rattle.machine.specs.Words.{INVALIDATE};
 ghost use Rattle.machine.specs.Decision.{asked_count};
 ghost use Rattle.machine.specs.State.{State, kind_of, row_of, numbered, session_at};
@@ -13,47 +13,45 @@ ghost use Rattle.layout.specs.Holds.{Holds};
 ghost use Rattle.outcome.specs.Outcome.{tried, Gives, Does};
 ghost use Rattle.quars.specs.Asking.{grant, abort, ask, hold};
 
-use askers::Asker;
-use layout::Found;
-use machine::Answer;
+use layout::Buffer;
+use machine::{Answer, Refusal};
 
 // Whether session n has a row of this kind on key k.
-fn holds(s: &[u8], n: u32, k: u8, kind: u8) -> bool
-    requires { (length s.now ≡ state_size) × (1 ≤ kind) }
+fn holds(s: &Buffer, n: u32, k: u8, kind: u8) -> bool
+    requires { 1 ≤ kind }
     ensures { (σ : State) → Holds s.now σ → result ≡ eqb (kind_of (row_of σ n k)) kind }
 {
-    let Found::At(i) = lookups::find(s, n as u64, k as usize) else {
+    let Some(i) = lookups::find(s, u64::from(n), usize::from(k)) else {
         return false;
     };
     rows::kind(s, i) == kind
 }
 
 // Whether a QUAR by session n would be answered GRANTED, if there is room.
-pub fn would_grant(s: &[u8], n: u32, k: u8, kind: u8) -> bool
-    requires { (length s.now ≡ state_size) × ((INVALIDATE ≤ kind) × (kind < asked_count)) }
+pub fn would_grant(s: &Buffer, n: u32, k: u8, kind: u8) -> bool
+    requires { (INVALIDATE ≤ kind) × (kind < asked_count) }
     ensures { (σ : State) → Holds s.now σ → sound σ ≡ true → result ≡ would_grant σ n k kind }
 {
     if holds(s, n, k, kind) {
         return false;
     }
-    holdings::grants(s, k as usize, kind as usize)
+    holdings::grants(s, usize::from(k), usize::from(kind))
 }
 
 // The lowest free row is taken and the I lease voided; where there is none, the refusal is ROOM.
-fn grant(s: &mut [u8], n: u32, k: u8, kind: u8) -> Answer
-    requires { length s.old ≡ state_size }
+fn grant(s: &mut Buffer, n: u32, k: u8, kind: u8) -> Answer
     ensures { (σ : State) → Holds s.old σ → 1 ≤ n → Gives (grant σ n k kind) result s.new }
 {
-    let Found::At(i) = lookups::free_place(s) else {
-        return Answer::Refused(machine::ROOM);
+    let Some(i) = lookups::free_place(s) else {
+        return Answer::Refused(Refusal::Room);
     };
     stagings::put(s, i, n, k, kind);
-    drops::drop_lease(s, k as usize);
+    drops::drop_lease(s, usize::from(k));
     Answer::Granted
 }
 
-fn abort(s: &mut [u8], n: u32, place: usize) -> Answer
-    requires { (length s.old ≡ state_size) × (place < session_count) }
+fn abort(s: &mut Buffer, n: u32, place: usize) -> Answer
+    requires { place < session_count }
     ensures { (σ : State) → Holds s.old σ → sound σ ≡ true → numbered n (session_at σ place) ≡ true → Gives (abort σ n) result s.new }
 {
     endings::leave(s, n, place);
@@ -61,19 +59,19 @@ fn abort(s: &mut [u8], n: u32, place: usize) -> Answer
 }
 
 // The decision table answers session n, which stands at this place.
-fn ask(s: &mut [u8], n: u32, place: usize, k: u8, kind: u8) -> Answer
-    requires { (length s.old ≡ state_size) × ((place < session_count) × (kind < asked_count)) }
+fn ask(s: &mut Buffer, n: u32, place: usize, k: u8, kind: u8) -> Answer
+    requires { (place < session_count) × (kind < asked_count) }
     ensures { (σ : State) → Holds s.old σ → sound σ ≡ true → numbered n (session_at σ place) ≡ true → Gives (ask σ n k kind) result s.new }
 {
-    if holdings::grants(s, k as usize, kind as usize) {
+    if holdings::grants(s, usize::from(k), usize::from(kind)) {
         return grant(s, n, k, kind);
     }
     abort(s, n, place)
 }
 
 // HELD if session n has such a row already.
-fn hold(s: &mut [u8], n: u32, place: usize, k: u8, kind: u8) -> Answer
-    requires { (length s.old ≡ state_size) × ((place < session_count) × ((INVALIDATE ≤ kind) × (kind < asked_count))) }
+fn hold(s: &mut Buffer, n: u32, place: usize, k: u8, kind: u8) -> Answer
+    requires { (place < session_count) × ((INVALIDATE ≤ kind) × (kind < asked_count)) }
     ensures { (σ : State) → Holds s.old σ → sound σ ≡ true → numbered n (session_at σ place) ≡ true → Gives (hold σ n k kind) result s.new }
 {
     if holds(s, n, k, kind) {
@@ -82,21 +80,17 @@ fn hold(s: &mut [u8], n: u32, place: usize, k: u8, kind: u8) -> Answer
     ask(s, n, place, k, kind)
 }
 
-pub fn quar(s: &mut [u8], session: u64, key: u64, kind: u64) -> Answer
-    requires { length s.old ≡ state_size }
+pub fn quar(s: &mut Buffer, session: u64, key: u64, kind: u64) -> Answer
     ensures { Does s.old (λ σ. tried σ 0 (Quar session key kind) []) result s.new }
 {
     if layout::KEY_COUNT as u64 <= key {
-        return Answer::Refused(machine::ARG);
+        return Answer::Refused(Refusal::Arg);
     }
     if !decisions::is_kind(kind) {
-        return Answer::Refused(machine::ARG);
+        return Answer::Refused(Refusal::Arg);
     }
     match askers::find(s, session) {
-        Asker::Refused(e) => Answer::Refused(e),
-        Asker::Open {
-            place,
-            session: asker,
-        } => hold(s, asker.number, place, key as u8, kind as u8),
+        Err(refusal) => Answer::Refused(refusal),
+        Ok(asker) => hold(s, asker.session.number, asker.place, key as u8, kind as u8),
     }
 }

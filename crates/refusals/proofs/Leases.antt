@@ -8,7 +8,7 @@ use mathlib.Core.List.{List, [], ◌∷◌, map}
 use mathlib.Core.Option.{Option, none, some}
 use Prim.Native.Nat.{ℕ}
 use native.Mathlib.Omega.{arith}
-use lib.Dec.{eqb, leb}
+use lib.Dec.{eqb}
 use lib.ListN.{get_or, get_or-map}
 use borrow.Author.Tests.{eq-eqb, ne_eqb}
 use Rattle.lent.proofs.Choices.{and_yes}
@@ -20,10 +20,10 @@ use Rattle.machine.specs.Sound.{sound, token_in}
 use Rattle.machine.specs.Refusals.{decide, blocked, cached_sight, sight, would_lease}
 use Rattle.machine.proofs.Views.{AfterSet, other, here, out, after-set, find_passes, any_place, on_row, settle_lease, any_mapped, any_same}
 use Rattle.machine.proofs.Table.{free-grants, held_blocks}
-use Rattle.layout.specs.Fields.{row_session, row_key}
+use Rattle.layout.specs.Fields.{row_session}
 use Rattle.layout.specs.Holds.{LeaseFits, RowFits}
 use Rattle.layout.proofs.Records.{lease_none, row_none}
-use Rattle.deadlines.specs.Deadlines.{lapsed, due_slot}
+use Rattle.deadlines.specs.Deadlines.{due_slot}
 use Rattle.refusals.specs.Left.{goes, stays_on}
 use Rattle.refusals.proofs.Searches.{any_both, find_none}
 use Rattle.refusals.proofs.Expired.{due, rows_expired, due_is}
@@ -133,22 +133,5 @@ module _ (now : ℕ) where
   pub leaseless-none : (o : Option Lease) → LeaseFits o → token_in o ≡ 0 → is_none (unlapsed now o) ≡ true
   leaseless-none o f e = rw (lease_none o f e)
 
-  pub leaseless-by : (o : Option Lease) → (token_in o ≡ 0 → ⊥) → is_none (unlapsed now o) ≡ lapsed now o
-  leaseless-by none e = absurd (e refl)
-  leaseless-by (some l) e = go (leb l.until now)
-    where
-      go : (t : Bool) → is_none (if t then none else some l) ≡ t
-      go true = refl
-      go false = refl
-
-  module _ (s : State) (k : ℕ) where
-    pub stays_free : (r : Row) → RowFits r → row_session r ≡ 0 → stays_on now s k r ≡ false
-    stays_free r f e = rw (row_none r f e)
-
-    pub stays_other : (r : Row) → (row_key r ≡ k → ⊥) → stays_on now s k r ≡ false
-    stays_other no_row e = refl
-    stays_other (row n j d u) e = rw (ne_eqb j k e)
-
-    pub stays_on_lem : (r : Row) → (row_session r ≡ 0 → ⊥) → row_key r ≡ k → stays_on now s k r ≡ not (goes now s r)
-    stays_on_lem no_row z e = absurd (z refl)
-    stays_on_lem (row n j d u) z e = rw (eq-eqb j k e)
+  pub stays_free : (s : State) (k : ℕ) (r : Row) → RowFits r → row_session r ≡ 0 → stays_on now s k r ≡ false
+  stays_free s k r f e = rw (row_none r f e)

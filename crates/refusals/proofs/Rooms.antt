@@ -1,6 +1,6 @@
 -- A table is full after expiry exactly if it is full and nothing of it goes. Where the rows are, they are as they were, and what QUAR would be
 -- granted is as it was: of the rest only an I lease may have lapsed, and a quarantine is granted over one as over nothing.
-use Rattle.std.specs.Prelude.{if◌then◌else◌}
+use Rattle.std.specs.Prelude.{if◌then◌else◌, Option as Found, is_some}
 use mathlib.Core.Path.{◌≡◌, refl, sym, ap, ◌∙◌}
 use mathlib.Core.Bool.{Bool, true, false, not, ◌&&◌, ◌||◌}
 use mathlib.Core.List.{[]}
@@ -27,12 +27,11 @@ use Rattle.machine.proofs.FirstRefusal.{quar_full}
 use Rattle.machine.proofs.Table.{free-grants, Q-voids-I}
 use Rattle.machine.proofs.SoundMeans.{sessions_length, rows_length}
 use Rattle.layout.specs.Search.{found}
-use Rattle.layout.specs.declared.Found.{Found}
 use Rattle.deadlines.specs.Deadlines.{due_slot}
 use Rattle.sweep.specs.Lapsing.{free_due}
 use Rattle.sweep.proofs.Lapsing.{unmapped}
 use Rattle.refusals.specs.Left.{goes}
-use Rattle.refusals.proofs.Searches.{is_at, found-any, full_mapped}
+use Rattle.refusals.proofs.Searches.{found-any, full_mapped}
 use Rattle.refusals.proofs.Expired.{due, rows_expired, sessions_expired, due_is}
 
 grants_over_lease : (kind : ℕ) → Within INVALIDATE INCREMENTAL kind → (o : Option Lease) → grants (decision (held_by no_row o) kind) ≡ true
@@ -72,11 +71,11 @@ module _ (s : State) (ok : sound s ≡ true) (now : ℕ) where
           go false = refl
 
   -- by the search for a free one
-  pub sessions_full_told : {f g : Found} {t : Bool} → f ≡ found session_count (place free s.sessions) → f ≡ g → t ≡ any (due_slot now) s.sessions → not (is_at g || t) ≡ sessions_full (expire now s)
-  sessions_full_told p q r = rw (r, ← found-any free no_session s.sessions session_count (sessions_length s ok) p q) (sym sessions_full_expired)
+  pub sessions_full_told : (f : Found ℕ) {r t : Bool} → f ≡ found session_count (place free s.sessions) → is_some f ≡ r → t ≡ any (due_slot now) s.sessions → not (r || t) ≡ sessions_full (expire now s)
+  sessions_full_told f p q e = rw (e, ← q, ← found-any free no_session s.sessions session_count (sessions_length s ok) f p) (sym sessions_full_expired)
 
-  pub rows_full_told : {f g : Found} {t : Bool} → f ≡ found row_count (place free_row s.rows) → f ≡ g → t ≡ any (goes now s) s.rows → not (is_at g || t) ≡ rows_full (expire now s)
-  rows_full_told p q r = rw (r, ← found-any free_row no_row s.rows row_count (rows_length s ok) p q) (sym rows_full_expired)
+  pub rows_full_told : (f : Found ℕ) {r t : Bool} → f ≡ found row_count (place free_row s.rows) → is_some f ≡ r → t ≡ any (goes now s) s.rows → not (r || t) ≡ rows_full (expire now s)
+  rows_full_told f p q e = rw (e, ← q, ← found-any free_row no_row s.rows row_count (rows_length s ok) f p) (sym rows_full_expired)
 
   module _ (full : rows_full (expire now s) ≡ true) where
     rows_stay : (expire now s).rows ≡ s.rows

@@ -1,6 +1,6 @@
 -- Whether a table has an entry that passes a test: told by the search for its place and by the count of the others, and of two tests. By
 -- induction on the table.
-use Rattle.std.specs.Prelude.{if◌then◌else◌}
+use Rattle.std.specs.Prelude.{if◌then◌else◌, Option, Some, None, is_some}
 use mathlib.Core.Path.{◌≡◌, refl, sym, ap, ap₂, ◌∙◌}
 use mathlib.Core.Bool.{Bool, true, false, not, ◌&&◌, ◌||◌}
 use mathlib.Core.List.{List, [], ◌∷◌, map}
@@ -14,14 +14,8 @@ use Rattle.lent.proofs.Choices.{clash, or_no, or_swap}
 use Rattle.machine.specs.Tables.{place, any, count, find}
 use Rattle.machine.proofs.Views.{find_test, any_at, any_mapped}
 use Rattle.layout.specs.Search.{found}
-use Rattle.layout.specs.declared.Found.{Found}
 use Rattle.layout.proofs.Search.{found-at, found_passes, found_full, count_most}
 use Rattle.layout.proofs.Scans.{any-hit}
-
--- a search has found something
-abbrev pub is_at : Found → Bool
-is_at (Found.At i) = true
-is_at Found.Nothing = false
 
 module _ {A : Type 0} (p : A → Bool) where
   -- ---- by the count of the others
@@ -43,12 +37,13 @@ module _ {A : Type 0} (p : A → Bool) where
   -- ---- by the search for its place
 
   module _ (d : A) (l : List A) (n : ℕ) (e : length l ≡ n) where
-    pub found-any : {f g : Found} → f ≡ found n (place p l) → f ≡ g → any p l ≡ is_at g
-    found-any a b = go _ (sym a ∙ b)
+    -- a search has found something exactly if an entry passes
+    pub found-any : (f : Option ℕ) → f ≡ found n (place p l) → any p l ≡ is_some f
+    found-any f a = go f (sym a)
       where
-        go : (g : Found) → found n (place p l) ≡ g → any p l ≡ is_at g
-        go (Found.At i) f = let q = found-at n (place p l) i f in any-hit p d l i (omega arith) (found_passes p d l n i e f)
-        go Found.Nothing f = not-true (any p l) (sym (full_any l n e) ∙ found_full p d l n e f)
+        go : (g : Option ℕ) → found n (place p l) ≡ g → any p l ≡ is_some g
+        go (Some i) f = let q = found-at n (place p l) i f in any-hit p d l i (omega arith) (found_passes p d l n i e f)
+        go None f = not-true (any p l) (sym (full_any l n e) ∙ found_full p d l n e f)
 
   -- ---- two tests
 

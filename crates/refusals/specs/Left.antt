@@ -1,13 +1,13 @@
 -- What a state before expiry tells of the state after it: who is left, which rows go with their sessions and which stay.
-use Rattle.std.specs.Prelude.{ℕ, Bool, not, ◌&&◌}
+use Rattle.std.specs.Prelude.{ℕ, Bool, not, ◌&&◌, Option, Some, None}
 use Rattle.machine.specs.State.{Slot, no_session, session, Row, State, on, session_of}
 use Rattle.layout.specs.Fields.{row_session}
 use Rattle.deadlines.specs.Deadlines.{due_slot}
-use Rattle.refusals.specs.declared.after.Left.{Left}
+use Rattle.machine.specs.declared.Session.{Session}
 
-abbrev pub left_of : Slot → Left
-left_of no_session = Left.Nobody
-left_of (session x) = Left.Is x
+abbrev pub left_of : Slot → Option Session
+left_of no_session = None
+left_of (session x) = Some x
 
 -- the row's session is due
 abbrev pub goes : ℕ → State → Row → Bool

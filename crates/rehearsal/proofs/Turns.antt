@@ -1,14 +1,15 @@
 -- A line by its cases, and its printing. A line that is not taken changes nothing; a HIT comes only from a cache of 65,536 bytes, so its value can be
 -- printed from them; and the text depends on a value only where the word is HIT.
+use Rattle.std.specs.Prelude.{Option, Some, None}
 use Prim.Native.Nat.{ℕ, ◌≤◌}
 use mathlib.Core.Path.{◌≡◌, refl, sym, ◌∙◌}
-use mathlib.Core.Bool.{Bool, true, false}
+use mathlib.Core.Bool.{Bool, true, false, and-false}
 use mathlib.Core.Logic.{◌⊎◌, inl, inr}
 use mathlib.Core.List.{List, []}
 use native.Mathlib.Omega.{arith}
 use lib.Dec.{eqb, leb}
 use lib.ListN.{length, take}
-use borrow.Author.Tests.{eqb-true, leb-true, eq-eqb}
+use borrow.Author.Tests.{eqb-true, leb-true, eq-eqb, ne_eqb}
 use Rattle.lent.specs.Bytes.{win, splice}
 use Rattle.lent.proofs.Choices.{and_yes, case_of, if_ind}
 use Rattle.lent.proofs.Splice.{take-splice}
@@ -22,7 +23,6 @@ use Rattle.layout.proofs.Formed.{formed}
 use Rattle.startup.specs.Start.{replied}
 use Rattle.cache.specs.Run.{ran}
 use Rattle.numbered.specs.Commands.{command_of}
-use Rattle.numbered.specs.declared.Numbered.{Numbered}
 use Rattle.book.specs.Book as book
 use Rattle.book.specs.Book.{book_size, lines_in, counted}
 use Rattle.rules.specs.Rules as rules
@@ -69,13 +69,13 @@ module _ (x b : List ℕ) where
   unfolding acted
   write_started n k l v e = rw e
 
-  pub command_early : (time : ℕ) (c : Numbered) (v : Value) → book.started b ≡ false → commanded x b time c v ≡ unreadable x b
+  pub command_early : (time : ℕ) (c : Option Command) (v : Value) → book.started b ≡ false → commanded x b time c v ≡ unreadable x b
   command_early time c v e = rw e
 
-  pub command_is : (time : ℕ) (q : Numbered) (c : Command) (v : Value) → q ≡ Numbered.Is c → book.started b ≡ true → commanded x b time q v ≡ commands x b time c v
+  pub command_is : (time : ℕ) (q : Option Command) (c : Command) (v : Value) → q ≡ Some c → book.started b ≡ true → commanded x b time q v ≡ commands x b time c v
   command_is time q c v p e = rw (e, p)
 
-  pub command_unknown : (time : ℕ) (q : Numbered) (v : Value) → q ≡ Numbered.Unknown → book.started b ≡ true → commanded x b time q v ≡ unreadable x b
+  pub command_unknown : (time : ℕ) (q : Option Command) (v : Value) → q ≡ None → book.started b ≡ true → commanded x b time q v ≡ unreadable x b
   command_unknown time q v p e = rw (e, p)
 
 -- ---- a line by what is read
@@ -108,7 +108,7 @@ module _ (x b t : List ℕ) (r : Line) (is : r ≡ (read_line t).line) where
   unfolding said_of
   said_write n k l e buf buf' q = rw (q, take-splice buf (read_line t).value l (sym (write_size t r is n k l e).0), ← is, e)
 
-  pub said_command : (p time a₁ a₂ a₃ a₄ l : ℕ) → r ≡ Line.Command p time a₁ a₂ a₃ a₄ l → (buf buf' : List ℕ) (c : Numbered) → buf' ≡ splice buf 0 (read_line t).value → c ≡ command_of p a₁ a₂ a₃ a₄
+  pub said_command : (p time a₁ a₂ a₃ a₄ l : ℕ) → r ≡ Line.Command p time a₁ a₂ a₃ a₄ l → (buf buf' : List ℕ) (c : Option Command) → buf' ≡ splice buf 0 (read_line t).value → c ≡ command_of p a₁ a₂ a₃ a₄
       → said_of x b t ≡ commanded x b time c (take l buf')
   unfolding said_of acted
   said_command p time a₁ a₂ a₃ a₄ l e buf buf' c q d = rw (q, take-splice buf (read_line t).value l (sym (command_size t r is p time a₁ a₂ a₃ a₄ l e).0), ← is, e, d)
@@ -138,10 +138,10 @@ module _ (x b : List ℕ) where
   unfolding writes
   writes-sized n k v w = absurd (omega arith)
 
-  command_sized : (time : ℕ) (q : Numbered) (v : Value) → HitSized x (command_said x b time q v).word
+  command_sized : (time : ℕ) (q : Option Command) (v : Value) → HitSized x (command_said x b time q v).word
   unfolding commands
-  command_sized time (Numbered.Is c) v = ran-sized x time c v
-  command_sized time Numbered.Unknown v = unreadable-sized
+  command_sized time (Some c) v = ran-sized x time c v
+  command_sized time None v = unreadable-sized
 
   acted-sized : (l : Line) (v : Value) → HitSized x (acted x b l v).word
   unfolding acted
@@ -194,6 +194,16 @@ prints_text r x b o n m b' o' v h f k e =
 module _ (b out : List ℕ) where
   pub lent_sizes : lent_right b out ≡ true → (length b ≡ book_size) × (line_room ≤ length out)
   lent_sizes e = let p = and_yes (eqb (length b) book_size) (leb line_room (length out)) e in (eqb-true (length b) book_size p.0, leb-true line_room (length out) p.1)
+
+  -- the book has its size, and there is room
+  pub lent_right_by : length b ≡ book_size → leb line_room (length out) ≡ true → lent_right b out ≡ true
+  lent_right_by e f = rw (eq-eqb (length b) book_size e, f)
+
+  pub no_book : (length b ≡ book_size → ⊥) → lent_right b out ≡ false
+  no_book e = rw (ne_eqb (length b) book_size e)
+
+  pub no_room : leb line_room (length out) ≡ false → lent_right b out ≡ false
+  no_room e = rw e (and-false (eqb (length b) book_size))
 
   pub end_idle : lent_right b out ≡ false → (0 ≡ (end_of b out).length) × (out ≡ (end_of b out).out)
   unfolding end_of

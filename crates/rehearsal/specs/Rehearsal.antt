@@ -1,9 +1,9 @@
 -- The rehearsal: the cache beside a model of the register, one line at a time. What is printed of a line, and the cache's bytes and the book after it.
-use Rattle.std.specs.Prelude.{ℕ, Bool, ◌&&◌, List, [], ◌≡◌, eqb, leb, length, if◌then◌else◌}
+use Rattle.machine.specs.declared.Command.{Command}
+use Rattle.std.specs.Prelude.{ℕ, Bool, ◌&&◌, List, [], ◌≡◌, eqb, leb, length, if◌then◌else◌, Option, Some, None}
 use Rattle.lent.specs.Bytes.{splice}
 use Rattle.machine.specs.State.{Value}
 use Rattle.numbered.specs.Commands.{command_of}
-use Rattle.numbered.specs.declared.Numbered.{Numbered}
 use Rattle.book.specs.Book.{book_size, started, lines_in, broken_in, counted}
 use Rattle.rules.specs.Rules.{Said, unreadable, begins, commands}
 use Rattle.writes.specs.Writes.{writes}
@@ -13,11 +13,11 @@ use Rattle.replies.specs.Replies.{line_room, replied, ended}
 
 -- "until an A line has answered READY each line that isn't an A line, and after it each A line" is UNREADABLE
 
-abbrev pub command_said : List ℕ → List ℕ → ℕ → Numbered → Value → Said
-command_said x b time (Numbered.Is c) v = commands x b time c v
-command_said x b time Numbered.Unknown v = unreadable x b
+abbrev pub command_said : List ℕ → List ℕ → ℕ → Option Command → Value → Said
+command_said x b time (Some c) v = commands x b time c v
+command_said x b time None v = unreadable x b
 
-abbrev pub commanded : List ℕ → List ℕ → ℕ → Numbered → Value → Said
+abbrev pub commanded : List ℕ → List ℕ → ℕ → Option Command → Value → Said
 commanded x b time c v = if started b then command_said x b time c v else unreadable x b
 
 unfoldable pub acted : List ℕ → List ℕ → Line → Value → Said

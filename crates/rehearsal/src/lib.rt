@@ -1,22 +1,21 @@
 // The rehearsal: one line of input on the cache's bytes and the book, and the line that is printed of it.
 #![tactic(auto)]
 
-ghost use Rattle.std.specs.Prelude.{◌≡◌, [], ℕ, ◌≤◌, length};
+ghost use Rattle.std.specs.Prelude.{◌≡◌, [], ℕ, ◌≤◌, leb, length};
 ghost use Rattle.machine.specs.Sizes.{value_max};
 ghost use Rattle.words.specs.Numbers.{place_of};
 ghost use Rattle.cache.specs.Run.{ran};
-ghost use Rattle.book.specs.Book.{book_size};
 ghost use Rattle.rules.specs.Rules.{commands};
 ghost use Rattle.rules.specs.Says.{Says};
 ghost use Rattle.lines.specs.Fields.{line_max};
 ghost use Rattle.lines.specs.declared.Line.{Line};
 ghost use Rattle.replies.specs.Replies.{line_room};
-ghost use Rattle.rehearsal.specs.Rehearsal.{lent_right, commanded, acted, said_of, line_of, end_of, Leaves};
+ghost use Rattle.rehearsal.specs.Rehearsal.{commanded, acted, said_of, line_of, end_of, Leaves};
 ghost use Rattle.rehearsal.specs.Saying.{not_read, Within, Prints};
 
+use book::Book;
 use lines::Line;
 use machine::Command;
-use numbered::Numbered;
 use rules::Said;
 
 // Room for the value of any line.
@@ -35,8 +34,7 @@ fn unreadable() -> Said
 }
 
 // An A line, which comes first and once.
-fn start(cache: &mut [u8], book: &mut [u8], read: u64, write: u64) -> Said
-    requires { length book.old ≡ book_size }
+fn start(cache: &mut [u8], book: &mut Book, read: u64, write: u64) -> Said
     ensures { Says (acted cache.old book.old (Line.Start read write) []) result.at result cache.new book.new }
 {
     if book::started(book) {
@@ -46,8 +44,8 @@ fn start(cache: &mut [u8], book: &mut [u8], read: u64, write: u64) -> Said
 }
 
 // A C line.
-fn write(cache: &mut [u8], book: &mut [u8], session: u64, key: u64, value: &[u8]) -> Said
-    requires { (length book.old ≡ book_size) × (length value.now ≤ value_max) }
+fn write(cache: &mut [u8], book: &mut Book, session: u64, key: u64, value: &[u8]) -> Said
+    requires { length value.now ≤ value_max }
     ensures { (l : ℕ) → Says (acted cache.old book.old (Line.Write session key l) value.now) result.at result cache.new book.new }
 {
     if !book::started(book) {
@@ -57,8 +55,7 @@ fn write(cache: &mut [u8], book: &mut [u8], session: u64, key: u64, value: &[u8]
 }
 
 // A command at its time, with its value. What rules 3 and 4 look at is read before the command changes it.
-fn run(cache: &mut [u8], book: &mut [u8], time: u64, command: Command, value: &[u8]) -> Said
-    requires { length book.old ≡ book_size }
+fn run(cache: &mut [u8], book: &mut Book, time: u64, command: Command, value: &[u8]) -> Said
     ensures { Says (commands cache.old book.old time command value.now) (place_of (ran cache.old time command value.now).answer) result cache.new book.new }
 {
     let risk = risks::risk(cache, book, command, value);
@@ -67,22 +64,27 @@ fn run(cache: &mut [u8], book: &mut [u8], time: u64, command: Command, value: &[
 }
 
 // A command's line.
-fn command(cache: &mut [u8], book: &mut [u8], time: u64, numbered: Numbered, value: &[u8]) -> Said
-    requires { length book.old ≡ book_size }
-    ensures { Says (commanded cache.old book.old time numbered value.now) result.at result cache.new book.new }
+fn command(
+    cache: &mut [u8],
+    book: &mut Book,
+    time: u64,
+    command: Option<Command>,
+    value: &[u8],
+) -> Said
+    ensures { Says (commanded cache.old book.old time command value.now) result.at result cache.new book.new }
 {
     if !book::started(book) {
         return unreadable();
     }
-    match numbered {
-        Numbered::Is(command) => run(cache, book, time, command, value),
-        Numbered::Unknown => unreadable(),
+    match command {
+        Some(command) => run(cache, book, time, command, value),
+        None => unreadable(),
     }
 }
 
 // What the line does, and what is said of it.
-fn act(cache: &mut [u8], book: &mut [u8], line: &[u8], value: &mut [u8]) -> Said
-    requires { (length book.old ≡ book_size) × (length value.old ≡ line_max) }
+fn act(cache: &mut [u8], book: &mut Book, line: &[u8], value: &mut [u8]) -> Said
+    requires { length value.old ≡ line_max }
     ensures { Says (said_of cache.old book.old line.now) result.at result cache.new book.new }
 {
     let read = lines::read(line, value);
@@ -113,8 +115,8 @@ fn act(cache: &mut [u8], book: &mut [u8], line: &[u8], value: &mut [u8]) -> Said
 }
 
 // The line is counted, and what is said of it printed.
-fn say(cache: &[u8], book: &mut [u8], said: Said, out: &mut [u8]) -> usize
-    requires { (length book.old ≡ book_size) × ((line_room ≤ length out.old) × Within said cache.now) }
+fn say(cache: &[u8], book: &mut Book, said: Said, out: &mut [u8]) -> usize
+    requires { (line_room ≤ length out.old) × Within said cache.now }
     ensures { Prints said cache.now book.old out.old result book.new out.new }
 {
     book::count(book, said.rule);
@@ -128,13 +130,10 @@ fn say(cache: &[u8], book: &mut [u8], said: Said, out: &mut [u8]) -> usize
     replies::reply(out, n, word, said.detail, &cache[at..end], said.rule)
 }
 
-// A book of its size, and room for an output line.
-fn lent_right(book: &[u8], out: &[u8]) -> bool
-    ensures { result ≡ lent_right book.now out.now }
+// Room for an output line.
+fn has_room(out: &[u8]) -> bool
+    ensures { result ≡ leb line_room (length out.now) }
 {
-    if book.len() != book::BOOK_SIZE {
-        return false;
-    }
     replies::LINE_ROOM <= out.len()
 }
 
@@ -143,7 +142,10 @@ fn lent_right(book: &[u8], out: &[u8]) -> bool
 pub fn line(cache: &mut [u8], book: &mut [u8], line: &[u8], out: &mut [u8]) -> usize
     ensures { Leaves (line_of cache.old book.old line.now out.old) result cache.new book.new out.new }
 {
-    if !lent_right(book, out) {
+    let Some(book) = book.as_mut_array() else {
+        return 0;
+    };
+    if !has_room(out) {
         return 0;
     }
     let mut value: [u8; VALUE_ROOM] = [0; VALUE_ROOM];
@@ -155,7 +157,10 @@ pub fn line(cache: &mut [u8], book: &mut [u8], line: &[u8], out: &mut [u8]) -> u
 pub fn end(book: &[u8], out: &mut [u8]) -> usize
     ensures { (result ≡ (end_of book.now out.old).length) × (out.new ≡ (end_of book.now out.old).out) }
 {
-    if !lent_right(book, out) {
+    let Some(book) = book.as_array() else {
+        return 0;
+    };
+    if !has_room(out) {
         return 0;
     }
     let lines = book::lines(book);

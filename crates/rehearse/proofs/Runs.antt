@@ -1,4 +1,5 @@
 -- Chunks one behind the other are one input, and at its end the world and what was written are those of its rehearsal.
+use Rattle.std.specs.Prelude.{Option, Some, None, Result, Ok}
 use Rattle.std.proofs.Common.{ℕ, ◌≡◌, ◌++◌, ◌∙◌, ◌≤◌, ap, Bool, true, false, List, length, take, arith}
 use Rattle.lent.proofs.Splice.{take-splice}
 use Rattle.feed.specs.Lines.{held_max}
@@ -8,20 +9,14 @@ use Rattle.book.specs.Memory.{Memory}
 use Rattle.script.specs.Input.{answer_line, finished, rehearsed, nothing_read}
 use Rattle.script.specs.Buffers.{Printed, Delivered}
 use Rattle.script.proofs.Whole.{fed-ended}
-use Rattle.rehearse.specs.Turns.{Poured, Turned, Rehearsed}
-use Rattle.rehearse.specs.declared.Went.{Went}
+use Rattle.rehearse.specs.Turns.{Turned, Rehearsed}
 
--- what `pour` says of the front of a chunk is what `turn` says of the chunk
-pub poured_turned : (o : Open Memory) (before n : ℕ) (chunk : List ℕ) (now : ℕ → Open Memory) (r : Went) → Poured o (take n chunk) now r → Turned o before chunk now r
-poured_turned o before n chunk now (Went.On held) p = (n, p)
-poured_turned o before n chunk now Went.Ended p = absurd p
-poured_turned o before n chunk now Went.Failed p = tt
-
-pub turned_on : (o : Open Memory) (before n : ℕ) (chunk : List ℕ) (now : ℕ → Open Memory) (r : Went) → r ≡ Went.On n → Turned o before chunk now r
+-- what `turn` told, of a turn that goes on and of one that ends the input
+pub turned_on : {E : Type 0} (o : Open Memory) (before n : ℕ) (chunk : List ℕ) (now : ℕ → Open Memory) (r : Result (Option ℕ) E) → r ≡ Ok (Some n) → Turned o before chunk now r
     → (k : ℕ) × ((now n ≡ (fed answer_line o (take k chunk)).world) × (n ≤ held_max))
 turned_on o before n chunk now r e t = rw e at t
 
-pub turned_ended : (o : Open Memory) (before : ℕ) (chunk : List ℕ) (now : ℕ → Open Memory) (r : Went) → r ≡ Went.Ended → Turned o before chunk now r → now before ≡ o
+pub turned_ended : {E : Type 0} (o : Open Memory) (before : ℕ) (chunk : List ℕ) (now : ℕ → Open Memory) (r : Result (Option ℕ) E) → r ≡ Ok None → Turned o before chunk now r → now before ≡ o
 turned_ended o before chunk now r e t = rw e at t
 
 -- what has been read so far

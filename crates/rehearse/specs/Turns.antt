@@ -1,22 +1,20 @@
 -- What a read and its answers come to.
-use Rattle.std.specs.Prelude.{ℕ, ◌≤◌, ◌≡◌, Bool, true, false, List, ◌++◌, take}
+use Rattle.std.specs.Prelude.{ℕ, ◌≤◌, ◌≡◌, Bool, true, false, List, ◌++◌, take, Option, Some, None, Result, Ok, Err}
 use Rattle.feed.specs.Lines.{held_max}
 use Rattle.feed.specs.Answers.{Open, fed}
 use Rattle.book.specs.Memory.{Memory}
 use Rattle.script.specs.Input.{answer_line, rehearsed}
-use Rattle.rehearse.specs.declared.Went.{Went}
 
 -- a chunk is answered and written, or a write has failed
-abbrev pub Poured : Open Memory → List ℕ → (ℕ → Open Memory) → Went → Type 0
-Poured o chunk now (Went.On held) = (now held ≡ (fed answer_line o chunk).world) × (held ≤ held_max)
-Poured o chunk now Went.Ended = ⊥
-Poured o chunk now Went.Failed = Unit
+abbrev pub Poured : {E : Type 0} → Open Memory → List ℕ → (ℕ → Open Memory) → Result ℕ E → Type 0
+Poured o chunk now (Ok held) = (now held ≡ (fed answer_line o chunk).world) × (held ≤ held_max)
+Poured o chunk now (Err e) = Unit
 
 -- what was read, the front of the chunk, is answered and written; or the input has ended; or a read or a write has failed
-abbrev pub Turned : Open Memory → ℕ → List ℕ → (ℕ → Open Memory) → Went → Type 0
-Turned o before chunk now (Went.On held) = (n : ℕ) × ((now held ≡ (fed answer_line o (take n chunk)).world) × (held ≤ held_max))
-Turned o before chunk now Went.Ended = now before ≡ o
-Turned o before chunk now Went.Failed = Unit
+abbrev pub Turned : {E : Type 0} → Open Memory → ℕ → List ℕ → (ℕ → Open Memory) → Result (Option ℕ) E → Type 0
+Turned o before chunk now (Ok (Some held)) = (n : ℕ) × ((now held ≡ (fed answer_line o (take n chunk)).world) × (held ≤ held_max))
+Turned o before chunk now (Ok None) = now before ≡ o
+Turned o before chunk now (Err e) = Unit
 
 -- the end of an input is reached: the world is that of its rehearsal, whose text is what was handed to writes before and the front of `out`
 abbrev pub Rehearsed : Memory → Memory → List ℕ → Bool → Type 0

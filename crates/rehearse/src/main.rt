@@ -24,14 +24,6 @@ const CHUNK: usize = 32768;
 
 const OUT: usize = 32768;
 
-// After a read: so many bytes of a line are held, the input has ended, or a read or a write has failed.
-#[derive(Clone, Copy)]
-enum Went {
-    On(usize),
-    Ended,
-    Failed,
-}
-
 // Writes a text, and sends on what the writer holds back.
 fn write_out<W: Write>(writer: &mut W, text: &[u8]) -> io::Result<()>
     ensures { OnOk result (Appends (W.contents writer.old) (W.contents writer.new) text.now) }
@@ -40,7 +32,7 @@ fn write_out<W: Write>(writer: &mut W, text: &[u8]) -> io::Result<()>
     writer.flush()
 }
 
-// Answers a chunk. Each answer is written before more is read.
+// Answers a chunk: so many bytes of a line are held then. Each answer is written before more is read.
 fn pour<W: Write>(
     writer: &mut W,
     cache: &mut [u8],
@@ -49,25 +41,23 @@ fn pour<W: Write>(
     held: usize,
     chunk: &[u8],
     out: &mut [u8],
-) -> Went
+) -> io::Result<usize>
     requires { (line_room ≤ length out.old) × HeldFits line.old held }
     ensures { Poured (opened cache.old book.old line.old held) chunk.now (opened cache.new book.new line.new) result }
 {
     let mut held = held;
     let mut from = 0;
+    // Kept: a round takes as much of the chunk as there is room for.
     while from < chunk.len() {
         let at = script::stretch(cache, book, line, held, chunk, from, out);
-        let put = at.put;
-        if write_out(writer, &out[..put]).is_err() {
-            return Went::Failed;
-        }
+        write_out(writer, &out[..at.put])?;
         held = at.held;
         from = at.from;
     }
-    Went::On(held)
+    Ok(held)
 }
 
-// Reads once and answers what came.
+// Reads once and answers what came: so many bytes of a line are held then, or the input has ended.
 fn turn<R: Read, W: Write>(
     reader: &mut R,
     writer: &mut W,
@@ -77,21 +67,20 @@ fn turn<R: Read, W: Write>(
     held: usize,
     chunk: &mut [u8],
     out: &mut [u8],
-) -> Went
+) -> io::Result<Option<usize>>
     requires { (line_room ≤ length out.old) × HeldFits line.old held }
     ensures { Turned (opened cache.old book.old line.old held) held chunk.new (opened cache.new book.new line.new) result }
 {
-    let n = match reader.read(chunk) {
-        Ok(n) => n,
-        Err(_) => return Went::Failed,
-    };
+    let n = reader.read(chunk)?;
     if n == 0 {
-        return Went::Ended;
+        return Ok(None);
     }
-    pour(writer, cache, book, line, held, &chunk[..n], out)
+    let held = pour(writer, cache, book, line, held, &chunk[..n], out)?;
+    Ok(Some(held))
 }
 
 // Reads to the end of the input, and writes the end line. False where a read or a write has failed.
+// Kept: a bool, since after as many turns as a u64 counts there is no error to hand on.
 fn rehearse<R: Read, W: Write>(
     reader: &mut R,
     writer: &mut W,
@@ -106,16 +95,15 @@ fn rehearse<R: Read, W: Write>(
 {
     let mut held = 0;
     for _ in 0..u64::MAX {
-        let went = turn(reader, writer, cache, book, line, held, chunk, out);
-        match went {
-            Went::On(n) => {
-                held = n;
+        match turn(reader, writer, cache, book, line, held, chunk, out) {
+            Ok(Some(next)) => {
+                held = next;
             }
-            Went::Ended => {
+            Ok(None) => {
                 let put = script::finish(cache, book, line, held, out);
                 return write_out(writer, &out[..put]).is_ok();
             }
-            Went::Failed => {
+            Err(_) => {
                 return false;
             }
         }

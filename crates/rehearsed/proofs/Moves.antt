@@ -1,5 +1,6 @@
 -- What every command does to leases and sessions, under no rule of the clients: a lease stood before on its key, or it is the one that a GET was
 -- answered with; a session stands at its place with its number, or its number is new. Each effect reads its tables back to those before it.
+use Rattle.machine.specs.declared.Refusal.{Refusal}
 use mathlib.Core.Path.{◌≡◌, refl, sym, ap, ◌∙◌}
 use mathlib.Core.Bool.{false}
 use mathlib.Core.Logic.{◌⊎◌, inl, inr}
@@ -131,7 +132,7 @@ moves_expired s now c r m = record {
     back (quiet q f) = quiet q (λ k l e. expire_lease now s k l (f k l e))
     back (grant n k p q f) = grant n k p q (λ j l e. elim (f j l e) [ inl y ↦ inl (y.0, expire_lease now s j l y.1) | inr y ↦ inr y ])
 
-moves_settled : (s : State) (now : ℕ) (c : Command) (o : Option ℕ) (r : Outcome) → Moves s c r → Moves s c (settled s now o r)
+moves_settled : (s : State) (now : ℕ) (c : Command) (o : Option Refusal) (r : Outcome) → Moves s c r → Moves s c (settled s now o r)
 unfolding settled
 moves_settled s now c (some e) r m = moves_still s c (Answer.Refused e) [] refl
 moves_settled s now c none r m = record { leases = clocked m.leases; places = m.places; grows = m.grows }

@@ -1,5 +1,6 @@
 -- What expiry leaves of a session that is live after it: it was not due, so it was live before, and its rows stand. So what a command's rule reads of
 -- it before expiry is what the machine reads after.
+use Rattle.machine.specs.declared.Refusal.{Refusal}
 use mathlib.Core.Path.{◌≡◌, refl, sym, ap, ◌∙◌}
 use mathlib.Core.Bool.{true, false, not, ◌&&◌}
 use mathlib.Core.Logic.{◌⊎◌, inl, inr}
@@ -12,7 +13,7 @@ use lib.ListN.{get_or}
 use Rattle.lent.specs.Tables.{same}
 use Rattle.lent.proofs.Choices.{case_of, clash, if_ind}
 use Rattle.machine.specs.Tables.{any, mem}
-use Rattle.machine.specs.Words.{word_of, DONE, UNDONE}
+use Rattle.machine.specs.Words.{word_of, STATE, DONE, UNDONE}
 use Rattle.machine.specs.Session.{is_due}
 use Rattle.machine.specs.State.{Value, nothing, staged, DROP, Row, no_row, row, State, session_place}
 use Rattle.machine.specs.Expiry.{free_if_of, leave, finish, those, expire}
@@ -32,11 +33,11 @@ use Rattle.rehearsed.proofs.Moves.{expire_session}
 
 module _ (s : State) (now : ℕ) (c : Command) (v : Value) (word : ℕ) (some_word : eqb REFUSED word ≡ false) where
   -- so each test of the command's list was false
-  accepted_passed : eqb (word_of (step s now c v).answer) word ≡ true → (i : ℕ) → (get_or (clock_refusal (expire now s) now ∷ refusals (expire now s) c v) i (false, 0)).0 ≡ false
+  accepted_passed : eqb (word_of (step s now c v).answer) word ≡ true → (i : ℕ) → (get_or (clock_refusal (expire now s) now ∷ refusals (expire now s) c v) i (false, STATE)).0 ≡ false
   unfolding step settled
   accepted_passed p = passed (expire now s) now c v (go (refusal (expire now s) now c v) p)
     where
-      go : (o : Option ℕ) → eqb (word_of (settled s now o (effect (expire now s) now c v)).answer) word ≡ true → o ≡ none
+      go : (o : Option Refusal) → eqb (word_of (settled s now o (effect (expire now s) now c v)).answer) word ≡ true → o ≡ none
       go none p = refl
       go (some e) p = clash (eqb REFUSED word) p some_word
 

@@ -1,6 +1,7 @@
 -- The column over lines of text: until an A line answers READY the cache's bytes stand and the book is new but for its counts; from then on each line is an event
 -- of the machine or only counted, so both buffers stay tied to the world of the events told. The column is the machine's verdicts of them.
 -- What is read of any line is in range, so nothing is asked of the lines.
+use Rattle.std.specs.Prelude.{Option as Named, Some, None}
 use mathlib.Core.Path.{◌≡◌, refl, sym, ap, subst, ◌∙◌}
 use mathlib.Core.Bool.{Bool, true, false, ◌&&◌}
 use mathlib.Core.Logic.{inl, inr}
@@ -27,7 +28,6 @@ use Rattle.layout.specs.WellFormed.{well_formed}
 use Rattle.startup.specs.Start.{start_of}
 use Rattle.cache.specs.Run.{ran}
 use Rattle.numbered.specs.Commands.{command_of}
-use Rattle.numbered.specs.declared.Numbered.{Numbered}
 use Rattle.promises.proofs.Ran.{StartRefused, ready_or_refused}
 use Rattle.book.specs.Memory.{Memory, memory_of}
 use Rattle.book.specs.Book.{book_size, started, with_started, registered, counted}
@@ -52,9 +52,9 @@ abbrev pub said_by : Memory → Option Event → Said
 said_by p none = unreadable p.cache p.book
 said_by p (some e) = act_of p e
 
-command_said_lem : (p : Memory) (time : ℕ) (c : Numbered) (v : Value) → command_said p.cache p.book time c v ≡ said_by p (command_told time c v)
-command_said_lem p time (Numbered.Is c) v = refl
-command_said_lem p time Numbered.Unknown v = refl
+command_said_lem : (p : Memory) (time : ℕ) (c : Named Command) (v : Value) → command_said p.cache p.book time c v ≡ said_by p (command_told time c v)
+command_said_lem p time (Some c) v = refl
+command_said_lem p time None v = refl
 
 acted-told : (p : Memory) → started p.book ≡ true → (l : Line) (v : Value) → acted p.cache p.book l v ≡ said_by p (line_told l v)
 unfolding acted
@@ -105,9 +105,9 @@ abbrev InRange : Option Event → Type 0
 InRange none = Unit {0}
 InRange (some e) = EventBytes e × Readable e
 
-command_in_range : (time : ℕ) (c : Numbered) (v : Value) → Bytes v → InRange (command_told time c v)
-command_in_range time (Numbered.Is c) v h = (h, tt)
-command_in_range time Numbered.Unknown v h = tt
+command_in_range : (time : ℕ) (c : Named Command) (v : Value) → Bytes v → InRange (command_told time c v)
+command_in_range time (Some c) v h = (h, tt)
+command_in_range time None v h = tt
 
 line_in_range : (l : Line) (v : Value) → size_of l ≡ length v → Bytes v → Ranged l → InRange (line_told l v)
 line_in_range Line.Unreadable v e h r = tt

@@ -1,6 +1,7 @@
 -- Rule 1 in its two-value form. Its test is right, since it is the test of the rules in a world that remembers only two values. Where rule 2 was kept
 -- by every write so far, all that the register has held since a live lease's grant is what it holds now: a leased key has no row, and rule 2 writes
 -- only a key with one. So both forms then say the same of every event.
+use Rattle.machine.specs.declared.Refusal.{Refusal}
 use Rattle.std.specs.Prelude.{if◌then◌else◌}
 use mathlib.Core.Path.{◌≡◌, refl, sym, ap, ◌∙◌}
 use mathlib.Core.Bool.{Bool, true, false, not, ◌&&◌, or-false, or_self}
@@ -71,7 +72,7 @@ level_any v r (x ∷ (y ∷ l)) h f = rw (f x (Memᴰ.head refl), level_any v r 
 Stores : State → ℕ → ℕ → Outcome → Type 0
 Stores s t k r = eqb (word_of r.answer) STORED ≡ true → (l : Lease) × (lease_on s k ≡ some l) × (l.token ≡ t)
 
-stores_settled : (s : State) (now t k : ℕ) (v : Value) (o : Option ℕ) → Stores (expire now s) t k (settled s now o (effect (expire now s) now (Fill t k) v))
+stores_settled : (s : State) (now t k : ℕ) (v : Value) (o : Option Refusal) → Stores (expire now s) t k (settled s now o (effect (expire now s) now (Fill t k) v))
 unfolding Stores settled effect fills
 stores_settled s now t k v (some e) = λ p. clash false p refl
 stores_settled s now t k v none = if_ind (Stores (expire now s) t k) (matches t (lease_on (expire now s) k))

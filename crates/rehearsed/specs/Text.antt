@@ -1,12 +1,12 @@
 -- The rehearsal's run over lines of text: both buffers and the column of the rules through them, and the run of the machine beside the register that the lines tell.
-use Rattle.std.specs.Prelude.{◌≡◌, Bool, false, List, [], ◌∷◌, ◌++◌, ℕ, eqb, if◌then◌else◌}
+use Rattle.machine.specs.declared.Command.{Command}
+use Rattle.std.specs.Prelude.{◌≡◌, Bool, false, List, [], ◌∷◌, ◌++◌, ℕ, eqb, if◌then◌else◌, Option as Named, Some, None}
 use Rattle.std.proofs.Math.Option.{Option, none, some}
 use Rattle.machine.specs.Words.{word_of, READY}
 use Rattle.machine.specs.State.{Value}
 use Rattle.machine.specs.World.{Event, command, write, World, fresh_world, run, AllKept}
 use Rattle.startup.specs.Start.{start_of}
 use Rattle.numbered.specs.Commands.{command_of}
-use Rattle.numbered.specs.declared.Numbered.{Numbered}
 use Rattle.book.specs.Memory.{Memory}
 use Rattle.book.specs.Book.{started, lines_in}
 use Rattle.replies.specs.Replies.{replied}
@@ -46,9 +46,9 @@ text_printed p (t ∷ ts) =
 -- What the lines tell
 
 -- after READY: a command with its value at its time, or a write of the register; a line that is UNREADABLE tells nothing, and so does an A line
-abbrev pub command_told : ℕ → Numbered → Value → Option Event
-command_told time (Numbered.Is c) v = some (command time c v)
-command_told time Numbered.Unknown v = none
+abbrev pub command_told : ℕ → Named Command → Value → Option Event
+command_told time (Some c) v = some (command time c v)
+command_told time None v = none
 
 abbrev pub line_told : Line → Value → Option Event
 line_told Line.Unreadable v = none

@@ -1,4 +1,5 @@
 -- What callers cite of the lines: each fits in its room, a printed number reads back, and the definitions print the output of 01's worked example.
+use Rattle.std.specs.Prelude.{Some}
 use mathlib.Core.Path.{◌≡◌, refl}
 use mathlib.Core.List.{List, [], ◌++◌}
 use Prim.Native.Nat.{ℕ, ◌≤◌}
@@ -9,7 +10,6 @@ use Rattle.machine.specs.Words.{word_of, detail_of, HIT}
 use Rattle.machine.specs.declared.Answer.{Answer}
 use Rattle.hex_text.specs.Hex.{hex_of}
 use Rattle.counts.specs.Count.{count_max, read_count}
-use Rattle.counts.specs.declared.Count.TheVariants.{Is}
 use Rattle.counts.proofs.Laws.{read_decimal}
 use Rattle.replies.specs.Text.{ascii}
 use Rattle.replies.specs.Replies.{line_room, WRITTEN, words, name_of, printed, detailed, replied, ended}
@@ -29,7 +29,7 @@ ended_most lines broken = simp length-append (omega (arith, printed_most lines, 
 
 -- ---- a printed number reads back as that number
 
-pub read_printed : (n : ℕ) → n ≤ count_max → read_count (printed n) ≡ Is n
+pub read_printed : (n : ℕ) → n ≤ count_max → read_count (printed n) ≡ Some n
 unfolding printed
 read_printed n h = read_decimal n h
 

@@ -1,7 +1,6 @@
 -- The lines that the rehearsal prints. 01, "The rehearsal": "Each output line is line number, word, detail (`-` if none), number of the rule
 -- broken or 0. A refusal prints REFUSED and its number .. The end line has lines read, and lines with a rule broken."
-use Rattle.std.specs.Prelude.{ℕ, ◌+◌, ◌≡◌, Bool, ◌||◌, List, [], ◌∷◌, ◌++◌, eqb, length, get_or, if◌then◌else◌}
-use Rattle.lent.specs.Bytes.{splice}
+use Rattle.std.specs.Prelude.{ℕ, Bool, ◌||◌, List, [], ◌∷◌, ◌++◌, eqb, get_or, if◌then◌else◌}
 use Rattle.lent.specs.Text.{space, newline}
 use Rattle.counts.specs.Count.{decimal}
 use Rattle.hex_text.specs.Hex.{hex_of}
@@ -101,8 +100,3 @@ replied line word detail value rule =
 -- the end line
 unfoldable pub ended : ℕ → ℕ → List ℕ
 ended lines broken = field (ascii "end") space ++ field (printed lines) space ++ field (printed broken) newline
-
--- s with x at place `at` is t, and the place behind it is `next`
-pub record Put (s : List ℕ) (at : ℕ) (x : List ℕ) (next : ℕ) (t : List ℕ) : Type 0 where
-  pub place : next ≡ at + length x
-  pub bytes : t ≡ splice s at x

@@ -1,13 +1,14 @@
 // The rehearsal's output lines.
 #![tactic(auto)]
 
-ghost use Rattle.std.specs.Prelude.{◌≡◌, [], ◌∷◌, ◌+◌, ◌≤◌, ◌<◌, length, take};
+ghost use Rattle.std.specs.Prelude.{◌≡◌, [], ◌∷◌, ◌+◌, ◌≤◌, length};
 ghost use Rattle.lent.specs.Bytes.{splice};
 ghost use Rattle.lent.specs.Text.{space};
 ghost use Rattle.counts.specs.Count.{digits_max};
 ghost use Rattle.hex_text.specs.Hex.{hex_of};
 ghost use Rattle.machine.specs.Sizes.{value_max};
-ghost use Rattle.replies.specs.Replies.{line_room, word_count, word_max, detail_max, name_of, printed, numbered, detailed, field, replied, ended, Put};
+ghost use Rattle.replies.specs.Replies.{line_room, word_max, detail_max, name_of, printed, numbered, detailed, field, replied, ended};
+ghost use Rattle.replies.specs.Puts.{Room, Put};
 
 const SPACE: u8 = b' ';
 
@@ -16,6 +17,7 @@ const NEWLINE: u8 = b'\n';
 const DASH: u8 = b'-';
 
 // The rehearsal's own words, behind the cache's: a register write, and a line that can't be read.
+// Kept: numbers, as the cache's words are.
 pub const WRITTEN: u64 = 24;
 
 pub const UNREADABLE: u64 = 25;
@@ -23,156 +25,133 @@ pub const UNREADABLE: u64 = 25;
 // The room that an output line is given; none takes more.
 pub const LINE_ROOM: usize = 256;
 
-// How many words there are.
-const WORDS: usize = 26;
-
-// The words by number, each in ten bytes, and their lengths.
-const NAMES: [[u8; 10]; WORDS] = [
-    *b"REFUSED   ",
-    *b"READY     ",
-    *b"SESSION   ",
-    *b"HIT       ",
-    *b"ASK       ",
-    *b"BACKOFF   ",
-    *b"LEASE     ",
-    *b"STORED    ",
-    *b"IGNORED   ",
-    *b"HELD      ",
-    *b"GRANTED   ",
-    *b"ABORTED   ",
-    *b"STAGED    ",
-    *b"REPEATED  ",
-    *b"DROPPED   ",
-    *b"VALIDATED ",
-    *b"LOST      ",
-    *b"DONE      ",
-    *b"UNDONE    ",
-    *b"EVICTED   ",
-    *b"EMPTY     ",
-    *b"TICKED    ",
-    *b"VALUE     ",
-    *b"NONE      ",
-    *b"WRITTEN   ",
-    *b"UNREADABLE",
-];
-
-const LENGTHS: [usize; WORDS] = [
-    7, 5, 7, 3, 3, 7, 5, 6, 7, 4, 7, 7, 6, 8, 7, 9, 4, 4, 6, 7, 5, 6, 5, 4, 7, 10,
-];
-
-// One byte at a place; the next place.
-fn byte(out: &mut [u8], at: usize, b: u8) -> usize
-    requires { at < length out.old }
-    ensures { Put out.old at (b ∷ []) result out.new }
+// A word by its number; a number that has none is as the last.
+#[tactic(auto, using(crate::proofs::Names::name_rest), unfolding(crate::specs::Replies::name_of, crate::specs::Replies::words))]
+fn text_of(word: u64) -> &'static [u8]
+    ensures { result.now ≡ name_of word }
 {
-    out[at] = b;
-    at + 1
-}
-
-// v and a byte behind it, at a place; the next place.
-fn text(out: &mut [u8], at: usize, v: &[u8], after: u8) -> usize
-    requires { at + length v.now + 1 ≤ length out.old }
-    ensures { Put out.old at (field v.now after) result out.new }
-{
-    let last = at + v.len();
-    blocks::copy_in(out, at, v);
-    byte(out, last, after)
-}
-
-// A number at a place; the next place.
-fn decimal(out: &mut [u8], at: usize, n: u64) -> usize
-    requires { at + digits_max ≤ length out.old }
-    ensures { Put out.old at (printed n) result out.new }
-{
-    let w = counts::write(n, &mut out[at..]);
-    at + w
-}
-
-// A number and a byte behind it.
-fn number(out: &mut [u8], at: usize, n: u64, after: u8) -> usize
-    requires { at + digits_max + 1 ≤ length out.old }
-    ensures { Put out.old at (field (printed n) after) result out.new }
-{
-    let last = decimal(out, at, n);
-    byte(out, last, after)
-}
-
-// A word's place in the table.
-fn listed(word: u64) -> usize
-    ensures { (result < word_count) × (name_of result ≡ name_of word) }
-{
-    if word < WORDS as u64 {
-        return word as usize;
+    match word {
+        words::REFUSED => b"REFUSED",
+        words::READY => b"READY",
+        words::SESSION => b"SESSION",
+        words::HIT => b"HIT",
+        words::ASK => b"ASK",
+        words::BACKOFF => b"BACKOFF",
+        words::LEASE => b"LEASE",
+        words::STORED => b"STORED",
+        words::IGNORED => b"IGNORED",
+        words::HELD => b"HELD",
+        words::GRANTED => b"GRANTED",
+        words::ABORTED => b"ABORTED",
+        words::STAGED => b"STAGED",
+        words::REPEATED => b"REPEATED",
+        words::DROPPED => b"DROPPED",
+        words::VALIDATED => b"VALIDATED",
+        words::LOST => b"LOST",
+        words::DONE => b"DONE",
+        words::UNDONE => b"UNDONE",
+        words::EVICTED => b"EVICTED",
+        words::EMPTY => b"EMPTY",
+        words::TICKED => b"TICKED",
+        words::VALUE => b"VALUE",
+        words::NONE => b"NONE",
+        WRITTEN => b"WRITTEN",
+        _ => b"UNREADABLE",
     }
-    UNREADABLE as usize
-}
-
-// The word of a place, in ten bytes, and its length.
-fn padded(w: usize) -> [u8; 10]
-    requires { w < word_count }
-    ensures { take (length (name_of w)) result ≡ name_of w }
-{
-    NAMES[w]
-}
-
-fn name_length(w: usize) -> usize
-    requires { w < word_count }
-    ensures { (result ≡ length (name_of w)) × (result ≤ word_max) }
-{
-    LENGTHS[w]
-}
-
-// A word and a space.
-fn name(out: &mut [u8], at: usize, word: u64) -> usize
-    requires { at + word_max + 1 ≤ length out.old }
-    ensures { Put out.old at (field (name_of word) space) result out.new }
-{
-    let w = listed(word);
-    let word = padded(w);
-    let n = name_length(w);
-    text(out, at, &word[..n], SPACE)
-}
-
-// A value in hex at a place; the next place.
-fn hexed(out: &mut [u8], at: usize, value: &[u8]) -> usize
-    requires { at + length (hex_of value.now) ≤ length out.old }
-    ensures { Put out.old at (hex_of value.now) result out.new }
-{
-    let w = hex_text::write(value, &mut out[at..]);
-    at + w
 }
 
 // Whether a number goes with a word.
 fn numbered(word: u64) -> bool
     ensures { result ≡ numbered word }
 {
-    match word {
-        words::REFUSED | words::SESSION | words::BACKOFF | words::LEASE => true,
-        _ => false,
-    }
+    matches!(
+        word,
+        words::REFUSED | words::SESSION | words::BACKOFF | words::LEASE
+    )
 }
 
-// What goes with a word, at a place; the next place.
-fn details(out: &mut [u8], at: usize, word: u64, detail: u64, value: &[u8]) -> usize
-    requires { (at + detail_max ≤ length out.old) × (length value.now ≤ value_max) }
-    ensures { Put out.old at (detailed word detail value.now) result out.new }
-{
-    if numbered(word) {
-        return decimal(out, at, detail);
-    }
-    if word == words::HIT {
-        return hexed(out, at, value);
-    }
-    byte(out, at, DASH)
+// Where the next byte of a line goes.
+#[derive(Drop)]
+struct Cursor<'a> {
+    out: &'a mut [u8],
+    at: usize,
 }
 
-// What goes with a word, and a space.
-fn detail_field(out: &mut [u8], at: usize, word: u64, detail: u64, value: &[u8]) -> usize
-    requires { (at + detail_max + 1 ≤ length out.old) × (length value.now ≤ value_max) }
-    ensures { Put out.old at (field (detailed word detail value.now) space) result out.new }
-{
-    let last = details(out, at, word, detail, value);
-    byte(out, last, SPACE)
+impl<'a> Cursor<'a> {
+    // One byte.
+    fn byte(&mut self, b: u8)
+        requires { Room self.old 1 }
+        ensures { Put self.old (b ∷ []) self.new }
+    {
+        self.out[self.at] = b;
+        self.at += 1;
+    }
+
+    // v and a byte behind it.
+    fn text(&mut self, v: &[u8], after: u8)
+        requires { Room self.old (length v.now + 1) }
+        ensures { Put self.old (field v.now after) self.new }
+    {
+        blocks::copy_in(self.out, self.at, v);
+        self.at += v.len();
+        self.byte(after);
+    }
+
+    // A number.
+    fn decimal(&mut self, n: u64)
+        requires { Room self.old digits_max }
+        ensures { Put self.old (printed n) self.new }
+    {
+        self.at += counts::write(n, &mut self.out[self.at..]);
+    }
+
+    // A number and a byte behind it.
+    fn number(&mut self, n: u64, after: u8)
+        requires { Room self.old (digits_max + 1) }
+        ensures { Put self.old (field (printed n) after) self.new }
+    {
+        self.decimal(n);
+        self.byte(after);
+    }
+
+    // A word and a space.
+    fn name(&mut self, word: u64)
+        requires { Room self.old (word_max + 1) }
+        ensures { Put self.old (field (name_of word) space) self.new }
+    {
+        self.text(text_of(word), SPACE);
+    }
+
+    // A value in hex.
+    fn hexed(&mut self, value: &[u8])
+        requires { Room self.old (length (hex_of value.now)) }
+        ensures { Put self.old (hex_of value.now) self.new }
+    {
+        self.at += hex_text::write(value, &mut self.out[self.at..]);
+    }
+
+    // What goes with a word.
+    fn details(&mut self, word: u64, detail: u64, value: &[u8])
+        requires { Room self.old detail_max × (length value.now ≤ value_max) }
+        ensures { Put self.old (detailed word detail value.now) self.new }
+    {
+        if numbered(word) {
+            self.decimal(detail);
+        } else if word == words::HIT {
+            self.hexed(value);
+        } else {
+            self.byte(DASH);
+        }
+    }
+
+    // What goes with a word, and a space.
+    fn detail_field(&mut self, word: u64, detail: u64, value: &[u8])
+        requires { Room self.old (detail_max + 1) × (length value.now ≤ value_max) }
+        ensures { Put self.old (field (detailed word detail value.now) space) self.new }
+    {
+        self.details(word, detail, value);
+        self.byte(SPACE);
+    }
 }
 
 // An output line at the front of out; its length.
@@ -180,10 +159,12 @@ pub fn reply(out: &mut [u8], line: u64, word: u64, detail: u64, value: &[u8], ru
     requires { (line_room ≤ length out.old) × (length value.now ≤ value_max) }
     ensures { (result ≡ length (replied line word detail value.now rule)) × (out.new ≡ splice out.old 0 (replied line word detail value.now rule)) }
 {
-    let a = number(out, 0, line, SPACE);
-    let b = name(out, a, word);
-    let c = detail_field(out, b, word, detail, value);
-    number(out, c, rule, NEWLINE)
+    let mut cursor = Cursor { out, at: 0 };
+    cursor.number(line, SPACE);
+    cursor.name(word);
+    cursor.detail_field(word, detail, value);
+    cursor.number(rule, NEWLINE);
+    cursor.at
 }
 
 // The end line at the front of out; its length.
@@ -191,7 +172,9 @@ pub fn end(out: &mut [u8], lines: u64, broken: u64) -> usize
     requires { line_room ≤ length out.old }
     ensures { (result ≡ length (ended lines broken)) × (out.new ≡ splice out.old 0 (ended lines broken)) }
 {
-    let a = text(out, 0, b"end", SPACE);
-    let b = number(out, a, lines, SPACE);
-    number(out, b, broken, NEWLINE)
+    let mut cursor = Cursor { out, at: 0 };
+    cursor.text(b"end", SPACE);
+    cursor.number(lines, SPACE);
+    cursor.number(broken, NEWLINE);
+    cursor.at
 }

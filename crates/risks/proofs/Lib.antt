@@ -1,2 +1,1 @@
 pub mod Stale
-pub mod Wrote

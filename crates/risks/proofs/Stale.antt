@@ -1,10 +1,10 @@
 -- A row breaks rule 4 for n where it is n's, has a staged value, and that value is not the register's; each test is read from the row's fields.
 use Prim.Native.Nat.{ℕ, ◌<◌}
 use mathlib.Core.Path.{◌≡◌, refl, ap, ◌∙◌}
-use mathlib.Core.Bool.{false, not}
+use mathlib.Core.Bool.{not}
 use mathlib.Core.List.{List}
 use native.Mathlib.Omega.{arith}
-use borrow.Author.Tests.{eq-eqb, ne_eqb}
+use borrow.Author.Tests.{eq-eqb}
 use Rattle.lent.specs.Bytes.{win}
 use Rattle.lent.specs.Tables.{same}
 use Rattle.machine.specs.Sizes.{row_count, staged_at}
@@ -15,18 +15,6 @@ use Rattle.layout.specs.Holds.{Holds}
 use Rattle.layout.proofs.Held.{staged_stands}
 
 module _ (register : ℕ → Value) (n : ℕ) where
-  pub differs_other : (r : Row) → (row_session r ≡ n → ⊥) → differs register n r ≡ false
-  differs_other no_row f = refl
-  differs_other (row m k d nothing) f = refl
-  differs_other (row m k d (staged u)) f = rw (ne_eqb m n f)
-  differs_other (row m k d DROP) f = refl
-
-  pub differs_unstaged : (r : Row) → (staged_mark (staged_in r) ≡ VALUED → ⊥) → differs register n r ≡ false
-  differs_unstaged no_row f = refl
-  differs_unstaged (row m k d nothing) f = refl
-  differs_unstaged (row m k d (staged u)) f = absurd (f refl)
-  differs_unstaged (row m k d DROP) f = refl
-
   differs_staged : (r : Row) (v : Value) → row_session r ≡ n → staged_mark (staged_in r) ≡ VALUED → ((u : Value) → staged_in r ≡ staged u → v ≡ u)
       → differs register n r ≡ not (same v (register (row_key r)))
   differs_staged no_row v e m f = absurd (omega arith)

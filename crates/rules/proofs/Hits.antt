@@ -1,5 +1,6 @@
 -- What a HIT hands out stands within the cache's bytes and has at most 64: it is the value of a key or one staged in a row of a sound state, and no
 -- other command is answered HIT. START never is.
+use Rattle.machine.specs.declared.Refusal.{Refusal}
 use Prim.Native.Nat.{ℕ, ◌+◌, ◌≤◌, ◌<◌}
 use mathlib.Core.Path.{◌≡◌, refl}
 use mathlib.Core.Bool.{Bool, true, false}
@@ -66,7 +67,7 @@ no_hit : (s : State) (now : ℕ) (c : Command) (v : Value) → refusal (expire n
 unfolding refusal
 no_hit s now c v e f w = clash (mem HIT (words_of c)) (rw w at (accepted_word s now c v e)) f
 
-refused_inside : (s : State) (now : ℕ) (c : Command) (v : Value) (m : ℕ) → refusal (expire now s) now c v ≡ some m → HitInside (step s now c v).answer
+refused_inside : (s : State) (now : ℕ) (c : Command) (v : Value) (m : Refusal) → refusal (expire now s) now c v ≡ some m → HitInside (step s now c v).answer
 unfolding step settled
 refused_inside s now c v m e = rw e (λ w. absurd (omega arith))
 
@@ -88,7 +89,7 @@ module _ (s : State) (now : ℕ) (v : Value) (ok : sound s ≡ true) where
   step_inside : (c : Command) → HitInside (step s now c v).answer
   step_inside c = go (refusal (expire now s) now c v) refl
     where
-      go : (o : Option ℕ) → refusal (expire now s) now c v ≡ o → HitInside (step s now c v).answer
+      go : (o : Option Refusal) → refusal (expire now s) now c v ≡ o → HitInside (step s now c v).answer
       go none e = accepted_inside c e
       go (some m) e = refused_inside s now c v m e
 
@@ -105,7 +106,7 @@ pub start_no_hit : (x : List ℕ) (read_life write_life : ℕ) → word_of (star
 unfolding start_of start
 start_no_hit x read_life write_life = go (start_refusal x read_life write_life) (first (start_refusals read_life write_life))
   where
-    go : (o p : Option ℕ) → word_of (replied x o (started read_life write_life p (decode x))).answer ≡ HIT → ⊥
+    go : (o p : Option Refusal) → word_of (replied x o (started read_life write_life p (decode x))).answer ≡ HIT → ⊥
     go none none w = omega arith
     go none (some e) w = omega arith
     go (some e) p w = omega arith

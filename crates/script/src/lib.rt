@@ -89,21 +89,18 @@ pub fn stretch(
     ensures held_after { buffer line.new result.held ≡ pushed_all (buffer line.old held) (win chunk.now from (result.from - from)) }
 {
     let mut at = Place { held, put: 0 };
-    let mut i = from;
-    while i < chunk.len() {
-        let put = at.put;
-        if out.len() - put < replies::LINE_ROOM {
+    for i in from..chunk.len() {
+        if out.len() - at.put < replies::LINE_ROOM {
             return Reached {
                 from: i,
                 held: at.held,
-                put,
+                put: at.put,
             };
         }
         at = step(cache, book, line, chunk[i], out, at);
-        i += 1;
     }
     Reached {
-        from: i,
+        from: chunk.len(),
         held: at.held,
         put: at.put,
     }

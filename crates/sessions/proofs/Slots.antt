@@ -1,5 +1,6 @@
 -- A place of the session table in the bytes: its fields where they stand, and its number, which tells a free place and a session apart since no
 -- session has the number 0. So a search of the bytes by a number is a search of the table.
+use Rattle.std.specs.Prelude.{Some, None}
 use mathlib.Core.Path.{◌≡◌, refl, sym, ◌∙◌}
 use mathlib.Core.Bool.{Bool, false}
 use mathlib.Core.List.{List, [], ◌∷◌, ◌++◌}
@@ -22,7 +23,6 @@ use Rattle.machine.specs.Expiry.{with_sessions}
 use Rattle.layout.specs.Layout.{enc_session, life_mark, life_time, dec_life, session_from}
 use Rattle.layout.specs.Holds.{Live, SlotFits, Holds}
 use Rattle.layout.specs.Search.{found, starts_with}
-use Rattle.layout.specs.declared.Found.{Found}
 use Rattle.layout.proofs.Held.{number_held, session_stands}
 use Rattle.layout.proofs.Formed.{holds_size}
 use Rattle.layout.proofs.Search.{first_held, found_none}
@@ -77,16 +77,16 @@ numbered-zero (session x) f = ne_eqb x.number 0 (λ q. omega (arith, q, f.given)
 module _ {b : List ℕ} {s : State} (h : Holds b s) where
   -- by a test of a place that its number decides
   number_search : (p : Slot → Bool) (n : ℕ) → ((e : Slot) → SlotFits e → eqb (number_in e) n ≡ p e)
-      → first (starts_with b sessions_from session_width n) Found.At Found.Nothing 0 session_count ≡ found session_count (place p s.sessions)
+      → first (starts_with b sessions_from session_width n) Some None 0 session_count ≡ found session_count (place p s.sessions)
   number_search p n q =
       first_held p no_session (starts_with b sessions_from session_width n) s.sessions session_count h.fits.sessions (λ i l.
       rw (number_held h i l) (q (session_at s i) (session_stands h i l).fits))
 
-  pub session_search : (n : ℕ) → (n ≡ 0 → ⊥) → first (starts_with b sessions_from session_width n) Found.At Found.Nothing 0 session_count ≡ found session_count (session_place s n)
+  pub session_search : (n : ℕ) → (n ≡ 0 → ⊥) → first (starts_with b sessions_from session_width n) Some None 0 session_count ≡ found session_count (session_place s n)
   session_search n z = number_search (numbered n) n (λ e f. numbered_is n e z)
 
-  pub free_search : first (starts_with b sessions_from session_width 0) Found.At Found.Nothing 0 session_count ≡ found session_count (place free s.sessions)
+  pub free_search : first (starts_with b sessions_from session_width 0) Some None 0 session_count ≡ found session_count (place free s.sessions)
   free_search = number_search free 0 number-free
 
-  pub none-zero : found session_count (session_place s 0) ≡ Found.Nothing
+  pub none-zero : found session_count (session_place s 0) ≡ None
   none-zero = found_none (numbered 0) no_session s.sessions session_count h.fits.sessions (λ i l. numbered-zero (session_at s i) (session_stands h i l).fits)

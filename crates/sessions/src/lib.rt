@@ -4,7 +4,7 @@
 
 ghost use Rattle.std.specs.Prelude.{◌≡◌, ◌+◌, ◌≤◌, ◌<◌, ◌^◌, length, set};
 ghost use Rattle.lent.specs.Bytes.{win};
-ghost use Rattle.machine.specs.Sizes.{state_size, session_count, session_width};
+ghost use Rattle.machine.specs.Sizes.{session_count, session_width};
 ghost use Rattle.machine.specs.Tables.{place};
 ghost use Rattle.machine.specs.State.{State, no_session, session, free, session_at, session_place};
 ghost use Rattle.machine.specs.Expiry.{with_sessions};
@@ -14,9 +14,10 @@ ghost use Rattle.layout.specs.Fields.{session_in};
 ghost use Rattle.layout.specs.Holds.{Holds};
 ghost use Rattle.layout.specs.Search.{found, Below};
 
-use layout::Found;
+use layout::Buffer;
 use machine::{Life, Session};
 
+// Kept: mark and deadline are two fields of a record, so neither is what a life converts to.
 fn mark_of(l: Life) -> u8
     ensures { result ≡ life_mark l }
 {
@@ -46,16 +47,17 @@ fn load_life(s: &[u8], at: usize) -> Life
 }
 
 // The number of the session in place i, 0 if it is free.
-pub fn number(s: &[u8], i: usize) -> u32
-    requires { (length s.now ≡ state_size) × (i < session_count) }
+// Kept: 0 is what the bytes of a free place hold; `number_in` says so.
+pub fn number(s: &Buffer, i: usize) -> u32
+    requires { i < session_count }
     ensures { (σ : State) → Holds s.now σ → result ≡ number_in (session_at σ i) }
 {
     lent::load_u32(s, layout::SESSIONS_FROM + i * layout::SESSION_WIDTH)
 }
 
 // The session in place i, all zero if it is free.
-pub fn load(s: &[u8], i: usize) -> Session
-    requires { (length s.now ≡ state_size) × (i < session_count) }
+pub fn load(s: &Buffer, i: usize) -> Session
+    requires { i < session_count }
     ensures { (σ : State) → Holds s.now σ → result ≡ session_in (session_at σ i) }
 {
     let at = layout::SESSIONS_FROM + i * layout::SESSION_WIDTH;
@@ -70,8 +72,8 @@ pub fn load(s: &[u8], i: usize) -> Session
 }
 
 // A number that is not 0, and a count within two bytes.
-pub fn store(s: &mut [u8], i: usize, x: Session)
-    requires { (length s.old ≡ state_size) × (i < session_count) }
+pub fn store(s: &mut Buffer, i: usize, x: Session)
+    requires { i < session_count }
     ensures { (σ : State) → Holds s.old σ → 0 < x.number → x.count < 2 ^ 16 → Holds s.new (with_sessions σ (set σ.sessions i (session x))) }
 {
     let at = layout::SESSIONS_FROM + i * layout::SESSION_WIDTH;
@@ -82,8 +84,8 @@ pub fn store(s: &mut [u8], i: usize, x: Session)
     lent::store_u64(s, at + layout::SESSION_UNTIL, until_of(life));
 }
 
-pub fn free(s: &mut [u8], i: usize)
-    requires { (length s.old ≡ state_size) × (i < session_count) }
+pub fn free(s: &mut Buffer, i: usize)
+    requires { i < session_count }
     ensures { (σ : State) → Holds s.old σ → Holds s.new (with_sessions σ (set σ.sessions i no_session)) }
 {
     blocks::clear(
@@ -94,12 +96,11 @@ pub fn free(s: &mut [u8], i: usize)
 }
 
 // The place of the session of number n. A free place has the number 0, which is no session's; a number over 32 bits is in no place.
-pub fn find(s: &[u8], n: u64) -> Found
-    requires { length s.now ≡ state_size }
+pub fn find(s: &Buffer, n: u64) -> Option<usize>
     ensures { ((σ : State) → Holds s.now σ → result ≡ found session_count (session_place σ n)) × Below session_count result }
 {
     if n == 0 {
-        return Found::Nothing;
+        return None;
     }
     layout::find_number(
         s,
@@ -111,8 +112,7 @@ pub fn find(s: &[u8], n: u64) -> Found
 }
 
 // The lowest free place; where there is none, the table is full.
-pub fn free_place(s: &[u8]) -> Found
-    requires { length s.now ≡ state_size }
+pub fn free_place(s: &Buffer) -> Option<usize>
     ensures { ((σ : State) → Holds s.now σ → result ≡ found session_count (place free σ.sessions)) × Below session_count result }
 {
     layout::find_number(

@@ -5,17 +5,17 @@ ghost use Rattle.std.specs.Prelude.{◌≡◌};
 ghost use Rattle.stretches.specs.Stretch.{span_of, Stretch};
 ghost use Rattle.show.specs.Show.{show_of};
 
-use machine::Answer;
-use stretches::Span;
+use machine::{Answer, Refusal};
+use sights::Span;
 
 // VALUE with the length, NONE, or the refusal.
 pub fn show(s: &[u8], session: u64, key: u64) -> Answer
     ensures { result ≡ (show_of s.now session key).answer }
 {
-    if !state::well_formed(s) {
-        return Answer::Refused(machine::STATE);
-    }
-    stretches::show(s, session, key)
+    let Some(buffer) = state::opened(s) else {
+        return Answer::Refused(Refusal::State);
+    };
+    stretches::show(buffer, session, key)
 }
 
 // The part of the lent state that holds the value; for NONE and on a refusal the empty one at its first byte.
@@ -32,8 +32,8 @@ pub fn stretch(s: &[u8], session: u64, key: u64) -> &[u8]
 pub fn part(s: &[u8], session: u64, key: u64) -> Span
     ensures { result ≡ span_of (show_of s.now session key) }
 {
-    if !state::well_formed(s) {
+    let Some(buffer) = state::opened(s) else {
         return Span { at: 0, length: 0 };
-    }
-    stretches::part(s, session, key)
+    };
+    stretches::part(buffer, session, key)
 }

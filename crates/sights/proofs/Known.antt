@@ -1,5 +1,6 @@
 -- A number other than 0 is live where a place has it; 0 is asked by anyone, and known.
-use mathlib.Core.Path.{◌≡◌}
+use Rattle.std.specs.Prelude.{Option, Some, None, is_none}
+use mathlib.Core.Path.{◌≡◌, refl}
 use mathlib.Core.Bool.{false, not, ◌&&◌}
 use Prim.Native.Nat.{ℕ}
 use lib.Dec.{eqb}
@@ -9,7 +10,6 @@ use Rattle.machine.specs.Sizes.{session_count}
 use Rattle.machine.specs.State.{State, free, session_place}
 use Rattle.machine.specs.Refusals.{not_live}
 use Rattle.layout.specs.Search.{found}
-use Rattle.layout.specs.declared.Found.{Found}
 use Rattle.layout.proofs.Slots.{slot_by, session_by}
 
 module _ (s : State) (n : ℕ) where
@@ -17,5 +17,10 @@ module _ (s : State) (n : ℕ) where
   known_zero e = rw (eq-eqb n 0 e)
 
   -- by what the search for the number told
-  pub known_by : (n ≡ 0 → ⊥) → length s.sessions ≡ session_count → {r : Found} → found session_count (session_place s n) ≡ r → (not (eqb n 0) && not_live s n) ≡ free (slot_by s r)
+  pub known_by : (n ≡ 0 → ⊥) → length s.sessions ≡ session_count → {r : Option ℕ} → found session_count (session_place s n) ≡ r → (not (eqb n 0) && not_live s n) ≡ free (slot_by s r)
   known_by z l f = rw (ne_eqb n 0 z, session_by s n l f)
+
+-- what the search told is nothing where no session has the number
+pub none_free : (s : State) (r : Option ℕ) → is_none r ≡ free (slot_by s r)
+none_free s (Some i) = refl
+none_free s None = refl

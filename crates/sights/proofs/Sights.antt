@@ -1,6 +1,6 @@
 -- What is seen on a key, by the marks in the bytes: a row's mark and kind decide between its staged value, nothing and the cached value, and
 -- a lookup decides between a row of one's own and none.
-use Rattle.std.specs.Prelude.{if◌then◌else◌}
+use Rattle.std.specs.Prelude.{if◌then◌else◌, Option as Found, Some, None}
 use mathlib.Core.Path.{◌≡◌, refl}
 use mathlib.Core.Bool.{Bool, true, false}
 use mathlib.Core.Option.{Option, none, some}
@@ -17,10 +17,8 @@ use Rattle.machine.specs.Words.{INVALIDATE}
 use Rattle.machine.proofs.Views.{of-on-taken}
 use Rattle.layout.specs.Fields.{VALUED, DROPPED, value_length, staged_mark, staged_length}
 use Rattle.layout.specs.Search.{found}
-use Rattle.layout.specs.declared.Found.{Found}
 use Rattle.layout.proofs.Search.{found-at, found_entry, found_passes, nothing_entry}
 use Rattle.sights.specs.Sights.{placed}
-use Rattle.sights.specs.declared.Sight.{Sight}
 
 -- ---- the cached value
 
@@ -29,14 +27,14 @@ module _ (k : ℕ) where
   cached-absent none e = refl
   cached-absent (some v) e = clash false e refl
 
-  pub cached_there : (o : Option Value) → is_none o ≡ false → placed (cached_sight k o) ≡ Sight.At (value_at k) (value_length o)
+  pub cached_there : (o : Option Value) → is_none o ≡ false → placed (cached_sight k o) ≡ Some (record { at = value_at k; length = value_length o })
   cached_there none e = clash true refl e
   cached_there (some v) e = refl
 
 -- ---- one's own row
 
 module _ (i k : ℕ) (c : Option Value) where
-  pub row_staged : (r : Row) → staged_mark (staged_in r) ≡ VALUED → placed (row_sight i k r c) ≡ Sight.At (staged_at i) (staged_length (staged_in r))
+  pub row_staged : (r : Row) → staged_mark (staged_in r) ≡ VALUED → placed (row_sight i k r c) ≡ Some (record { at = staged_at i; length = staged_length (staged_in r) })
   row_staged no_row e = absurd (omega arith)
   row_staged (row n j d nothing) e = absurd (omega arith)
   row_staged (row n j d (staged v)) e = refl
@@ -58,24 +56,24 @@ module _ (i k : ℕ) (c : Option Value) where
 
 -- ---- a lookup
 
-abbrev pub sight_by : State → ℕ → Found → Option Seen
-sight_by s k (Found.At i) = row_sight i k (row_at s i) (cached s k)
-sight_by s k Found.Nothing = cached_sight k (cached s k)
+abbrev pub sight_by : State → ℕ → Found ℕ → Option Seen
+sight_by s k (Some i) = row_sight i k (row_at s i) (cached s k)
+sight_by s k None = cached_sight k (cached s k)
 
 module _ (s : State) (n k : ℕ) where
-  pub row_taken : (i : ℕ) → length s.rows ≡ row_count → found row_count (row_place s n k) ≡ Found.At i → free_row (row_of s n k) ≡ false
+  pub row_taken : (i : ℕ) → length s.rows ≡ row_count → found row_count (row_place s n k) ≡ Some i → free_row (row_of s n k) ≡ false
   row_taken i l f =
       rw (found_entry (of_on n k) no_row s.rows row_count i f)
       (of-on-taken n k (row_at s i) (found_passes (of_on n k) no_row s.rows row_count i l f))
 
-  pub row_missing : length s.rows ≡ row_count → found row_count (row_place s n k) ≡ Found.Nothing → row_of s n k ≡ no_row
+  pub row_missing : length s.rows ≡ row_count → found row_count (row_place s n k) ≡ None → row_of s n k ≡ no_row
   row_missing l e = nothing_entry (of_on n k) no_row s.rows row_count l e
 
   -- by what the search for the row told
-  pub sight-by : length s.rows ≡ row_count → {r : Found} → found row_count (row_place s n k) ≡ r → sight s n k ≡ sight_by s k r
+  pub sight-by : length s.rows ≡ row_count → {r : Found ℕ} → found row_count (row_place s n k) ≡ r → sight s n k ≡ sight_by s k r
   unfolding sight
   sight-by l e = go _ e
     where
-      go : (r : Found) → found row_count (row_place s n k) ≡ r → row_sight (row_place s n k) k (row_of s n k) (cached s k) ≡ sight_by s k r
-      go (Found.At i) e = rw (found-at row_count (row_place s n k) i e).0
-      go Found.Nothing e = rw (row_missing l e)
+      go : (r : Found ℕ) → found row_count (row_place s n k) ≡ r → row_sight (row_place s n k) k (row_of s n k) (cached s k) ≡ sight_by s k r
+      go (Some i) e = rw (found-at row_count (row_place s n k) i e).0
+      go None e = rw (row_missing l e)

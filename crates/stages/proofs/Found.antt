@@ -1,6 +1,7 @@
 -- What a session finds that stages, case by case in the order of the refusals: the asker, its row on the key, the row's kind, the step.
 -- Each test of the definition's list is decided by what the searches found.
-use Rattle.std.specs.Prelude.{if◌then◌else◌}
+use Rattle.machine.specs.declared.Refusal.{Refusal}
+use Rattle.std.specs.Prelude.{if◌then◌else◌, Some, None, Result, Ok, Err}
 use mathlib.Core.Path.{◌≡◌, refl}
 use mathlib.Core.Bool.{Bool, true, false, not}
 use mathlib.Core.List.{List, [], ◌∷◌}
@@ -19,7 +20,6 @@ use Rattle.machine.specs.declared.Session.{Session}
 use Rattle.machine.specs.declared.Step.{Step}
 use Rattle.machine.proofs.Views.{of-on-taken}
 use Rattle.layout.specs.Search.{found}
-use Rattle.layout.specs.declared.Found.{Found}
 use Rattle.layout.proofs.Search.{found-at, found_passes, nothing_entry}
 use Rattle.askers.specs.Asker.{asker_of}
 use Rattle.askers.specs.declared.Asker.{Asker}
@@ -28,14 +28,14 @@ use Rattle.stages.specs.Staging.{or_else, staging_of}
 use Rattle.stages.specs.declared.Staging.{Staging}
 
 -- the tests of the row, of its kind and of the step
-abbrev row_tests : State → ℕ → ℕ → ℕ → ℕ → List (Bool × ℕ)
+abbrev row_tests : State → ℕ → ℕ → ℕ → ℕ → List (Bool × Refusal)
 row_tests s n step k kind = (free_row (row_of s n k), NO-LEASE) ∷ (not (eqb (kind_of (row_of s n k)) kind), KIND) ∷ (ltb (count_of s n) step, AHEAD) ∷ []
 
 -- the step of the session at place i, in the row at place j
-abbrev pub stepped : ℕ → ℕ → Step → Staging
-stepped i j Step.Repeats = Staging.Repeated
-stepped i j Step.Ahead = Staging.Refused AHEAD
-stepped i j (Step.Acts x) = Staging.At i j x
+abbrev pub stepped : ℕ → ℕ → Step → Result Staging Refusal
+stepped i j Step.Repeats = Ok Staging.Repeated
+stepped i j Step.Ahead = Err AHEAD
+stepped i j (Step.Acts x) = Ok (Staging.At i j x)
 
 step_decides : (x : Session) (step i j : ℕ) → or_else (if ltb x.count step then some AHEAD else none) (if ltb step x.count then Staging.Repeated else Staging.At i j (advanced x)) ≡ stepped i j (step_of x step)
 step_decides x step i j = go (ltb x.count step) (ltb step x.count) refl refl
@@ -48,28 +48,28 @@ step_decides x step i j = go (ltb x.count step) (ltb step x.count) refl refl
     go false false p q = refl
 
 module _ (s : State) (n step k kind : ℕ) where
-  pub staging_refused : (e : ℕ) → asker_of s n ≡ Asker.Refused e → staging_of s n step k kind ≡ Staging.Refused e
+  pub staging_refused : (e : Refusal) → asker_of s n ≡ Err e → staging_of s n step k kind ≡ Err e
   unfolding staging_of
   staging_refused e q = rw (first_asker s n (row_tests s n step k kind), q)
 
-  -- an open session x at place i
-  module _ (i : ℕ) (x : Session) (q : asker_of s n ≡ Asker.Open i x) (l : length s.rows ≡ row_count) where
-    pub staging_rowless : found row_count (row_place s n k) ≡ Found.Nothing → staging_of s n step k kind ≡ Staging.Refused NO-LEASE
+  -- an open session, at its place
+  module _ (a : Asker) (q : asker_of s n ≡ Ok a) (l : length s.rows ≡ row_count) where
+    pub staging_rowless : found row_count (row_place s n k) ≡ None → staging_of s n step k kind ≡ Err NO-LEASE
     unfolding staging_of
     staging_rowless f = rw (first_asker s n (row_tests s n step k kind), q, nothing_entry (of_on n k) no_row s.rows row_count l f)
 
     -- its row at place j
-    module _ (j : ℕ) (f : found row_count (row_place s n k) ≡ Found.At j) where
+    module _ (j : ℕ) (f : found row_count (row_place s n k) ≡ Some j) where
       taken : free_row (row_at s j) ≡ false
       taken = of-on-taken n k (row_at s j) (found_passes (of_on n k) no_row s.rows row_count j l f)
 
-      pub staging_kind : (kind_of (row_at s j) ≡ kind → ⊥) → staging_of s n step k kind ≡ Staging.Refused KIND
+      pub staging_kind : (kind_of (row_at s j) ≡ kind → ⊥) → staging_of s n step k kind ≡ Err KIND
       unfolding staging_of
       staging_kind e = rw (first_asker s n (row_tests s n step k kind), q, (found-at row_count (row_place s n k) j f).0, taken, ne_eqb (kind_of (row_at s j)) kind e)
 
-      pub staging_steps : (d : Step) → kind_of (row_at s j) ≡ kind → step_of x step ≡ d → staging_of s n step k kind ≡ stepped i j d
+      pub staging_steps : (d : Step) → kind_of (row_at s j) ≡ kind → step_of a.session step ≡ d → staging_of s n step k kind ≡ stepped a.place j d
       unfolding staging_of
       staging_steps d e p =
-          let a = asks s n i x q in
-          rw (first_asker s n (row_tests s n step k kind), q, (found-at row_count (row_place s n k) j f).0, taken, eq-eqb (kind_of (row_at s j)) kind e, a.place, a.at, ← p)
-          (step_decides x step i j)
+          let b = asks s n a q in
+          rw (first_asker s n (row_tests s n step k kind), q, (found-at row_count (row_place s n k) j f).0, taken, eq-eqb (kind_of (row_at s j)) kind e, b.place, b.at, ← p)
+          (step_decides a.session step a.place j)

@@ -1,6 +1,7 @@
 -- What a command that stages answers and leaves, told by what its session found: a refusal and REPEATED keep the state; otherwise the
 -- session's next record and what is staged are set at the places that were found. And what is known there of the session and its row.
-use Rattle.std.specs.Prelude.{if◌then◌else◌}
+use Rattle.machine.specs.declared.Refusal.{Refusal}
+use Rattle.std.specs.Prelude.{if◌then◌else◌, Result, Ok, Err}
 use mathlib.Core.Path.{◌≡◌, refl, ap}
 use mathlib.Core.Bool.{Bool, true, false}
 use mathlib.Core.List.{List}
@@ -33,10 +34,10 @@ abbrev pub after_staging : State → ℕ → ℕ → Session → Staged → Stat
 after_staging s i j x u = with_rows (with_sessions s (set s.sessions i (session x))) (set s.rows j (restaged u (row_at s j)))
 
 -- the outcome, u being what is to be staged
-abbrev pub staged_by : State → Staged → Staging → Outcome
-staged_by s u (Staging.Refused e) = told (Answer.Refused e) s
-staged_by s u Staging.Repeated = told Answer.Repeated s
-staged_by s u (Staging.At i j x) = told (staged_answer u) (after_staging s i j x u)
+abbrev pub staged_by : State → Staged → Result Staging Refusal → Outcome
+staged_by s u (Err e) = told (Answer.Refused e) s
+staged_by s u (Ok Staging.Repeated) = told Answer.Repeated s
+staged_by s u (Ok (Staging.At i j x)) = told (staged_answer u) (after_staging s i j x u)
 
 -- the session's next record x, and its row on key k at place j
 pub record Stages (s : State) (n k j : ℕ) (x : Session) : Type 0 where
@@ -46,35 +47,35 @@ pub record Stages (s : State) (n k j : ℕ) (x : Session) : Type 0 where
   pub count : x.count < 2 ^ 16
 
 module _ (s : State) (n step k kind : ℕ) where
-  abbrev tests : List (Bool × ℕ)
+  abbrev tests : List (Bool × Refusal)
   tests = staging_refusals s n step k kind
 
   -- where no test refuses, the session is live
   live : first tests ≡ none → session_of s n ≡ session (session_in (session_of s n))
   live e = let r = session_of_lem s n (first-none tests e 0) in rw r.1
 
-  pub staged_by_lem : (u : Staged) {r : Staging} → staging_of s n step k kind ≡ r → unless (first tests) s (stages s n step k u) ≡ staged_by s u r
+  pub staged_by_lem : (u : Staged) {r : Result Staging Refusal} → staging_of s n step k kind ≡ r → unless (first tests) s (stages s n step k u) ≡ staged_by s u r
   unfolding stages staging_of
   staged_by_lem u e = rw (← e) (go (first tests) refl (ltb step (count_of s n)))
     where
       set_next : first tests ≡ none → with_staged (with_session s n advanced) n k u ≡ after_staging s (session_place s n) (row_place s n k) (advanced (session_in (session_of s n))) u
       set_next e = ap (λ (y : Slot). with_staged (with_sessions s (set s.sessions (session_place s n) y)) n k u) (ap (on_slot advanced) (live e))
 
-      go : (o : Option ℕ) → first tests ≡ o → (t : Bool)
+      go : (o : Option Refusal) → first tests ≡ o → (t : Bool)
           → unless o s (if t then told Answer.Repeated s else told (staged_answer u) (with_staged (with_session s n advanced) n k u))
           ≡ staged_by s u (or_else o (if t then Staging.Repeated else Staging.At (session_place s n) (row_place s n k) (advanced (session_in (session_of s n)))))
       go (some e) q t = refl
       go none q true = refl
       go none q false = ap (told (staged_answer u)) (set_next q)
 
-  pub staging_at : sound s ≡ true → (i j : ℕ) (x : Session) → staging_of s n step k kind ≡ Staging.At i j x → Stages s n k j x
+  pub staging_at : sound s ≡ true → (i j : ℕ) (x : Session) → staging_of s n step k kind ≡ Ok (Staging.At i j x) → Stages s n k j x
   unfolding staging_of
   staging_at ok i j x e = go (first tests) refl (ltb step (count_of s n)) e
     where
       y : Session
       y = session_in (session_of s n)
 
-      go : (o : Option ℕ) → first tests ≡ o → (t : Bool) → or_else o (if t then Staging.Repeated else Staging.At (session_place s n) (row_place s n k) (advanced y)) ≡ Staging.At i j x → Stages s n k j x
+      go : (o : Option Refusal) → first tests ≡ o → (t : Bool) → or_else o (if t then Staging.Repeated else Staging.At (session_place s n) (row_place s n k) (advanced y)) ≡ Ok (Staging.At i j x) → Stages s n k j x
       go (some d) q t p = zero_one cc
       go none q true p = zero_one cc
       go none q false p =
@@ -90,6 +91,6 @@ module _ (s : State) (n step k kind : ℕ) where
           }
 
   -- there the session's next record can be stored, and then the row staged in
-  pub staging_stored : sound s ≡ true → {i j : ℕ} {x : Session} → staging_of s n step k kind ≡ Staging.At i j x → {A B : Type 0}
+  pub staging_stored : sound s ≡ true → {i j : ℕ} {x : Session} → staging_of s n step k kind ≡ Ok (Staging.At i j x) → {A B : Type 0}
       → (0 < x.number → x.count < 2 ^ 16 → A) → (A → free_row (row_at s j) ≡ false → B) → B
   staging_stored ok e store stage = let a = staging_at ok _ _ _ e in stage (store a.number a.count) a.taken

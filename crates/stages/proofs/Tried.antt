@@ -1,4 +1,6 @@
 -- What STAGE answers and leaves, case by case: its own tests in their order, and then what its session found.
+use Rattle.machine.specs.declared.Refusal.{Refusal}
+use Rattle.std.specs.Prelude.{Result}
 use mathlib.Core.Path.{◌≡◌}
 use Prim.Native.Nat.{ℕ, ◌≤◌, ◌<◌}
 use lib.ListN.{length}
@@ -29,6 +31,6 @@ module _ (s : State) (n step k : ℕ) (v : Value) where
     unfolding tried
     stage_long h = rw (FirstRefusal.stage_long s n step k v a b h)
 
-    pub stage_found : {r : Staging} → length v ≤ value_max → staging_of s n step k REFRESH ≡ r → tried s 0 (Stage n step k) v ≡ staged_by s (staged v) r
+    pub stage_found : {r : Result Staging Refusal} → length v ≤ value_max → staging_of s n step k REFRESH ≡ r → tried s 0 (Stage n step k) v ≡ staged_by s (staged v) r
     unfolding tried effect
     stage_found h e = rw (FirstRefusal.stage_staging s n step k v a b h) (staged_by_lem s n step k REFRESH (staged v) e)

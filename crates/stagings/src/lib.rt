@@ -3,15 +3,17 @@
 #![tactic(auto)]
 
 ghost use Rattle.std.specs.Prelude.{◌≡◌, false, ◌≤◌, ◌<◌, length, set};
-ghost use Rattle.machine.specs.Sizes.{state_size, row_count, value_max};
+ghost use Rattle.machine.specs.Sizes.{row_count, value_max};
 ghost use Rattle.machine.specs.State.{State, row, nothing, staged, DROP, free_row, row_at};
 ghost use Rattle.machine.specs.Expiry.{with_rows};
 ghost use Rattle.machine.specs.Effects.{restaged};
 ghost use Rattle.layout.specs.Holds.{Holds};
 
+use layout::Buffer;
+
 // Row i becomes one of the session on the key, with nothing staged.
-pub fn put(s: &mut [u8], i: usize, session: u32, key: u8, kind: u8)
-    requires { (length s.old ≡ state_size) × (i < row_count) }
+pub fn put(s: &mut Buffer, i: usize, session: u32, key: u8, kind: u8)
+    requires { i < row_count }
     ensures { (σ : State) → Holds s.old σ → 1 ≤ session → Holds s.new (with_rows σ (set σ.rows i (row session key kind nothing))) }
 {
     let at = layout::ROWS_FROM + i * layout::ROW_WIDTH;
@@ -25,8 +27,8 @@ pub fn put(s: &mut [u8], i: usize, session: u32, key: u8, kind: u8)
 }
 
 // The value is staged in row i, which is taken.
-pub fn stage(s: &mut [u8], i: usize, v: &[u8])
-    requires { (length s.old ≡ state_size) × ((i < row_count) × (length v.now ≤ value_max)) }
+pub fn stage(s: &mut Buffer, i: usize, v: &[u8])
+    requires { (i < row_count) × (length v.now ≤ value_max) }
     ensures { (σ : State) → Holds s.old σ → free_row (row_at σ i) ≡ false → Holds s.new (with_rows σ (set σ.rows i (restaged (staged v.now) (row_at σ i)))) }
 {
     let at = layout::ROWS_FROM + i * layout::ROW_WIDTH;
@@ -36,8 +38,8 @@ pub fn stage(s: &mut [u8], i: usize, v: &[u8])
 }
 
 // DROP is staged in row i, which is taken.
-pub fn stage_drop(s: &mut [u8], i: usize)
-    requires { (length s.old ≡ state_size) × (i < row_count) }
+pub fn stage_drop(s: &mut Buffer, i: usize)
+    requires { i < row_count }
     ensures { (σ : State) → Holds s.old σ → free_row (row_at σ i) ≡ false → Holds s.new (with_rows σ (set σ.rows i (restaged DROP (row_at σ i)))) }
 {
     let at = layout::ROWS_FROM + i * layout::ROW_WIDTH;

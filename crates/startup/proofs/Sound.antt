@@ -1,5 +1,6 @@
 -- What START writes: where it answers READY, the bytes are those of the fresh state, so they are well formed, they decode to it, and the
 -- machine's theorems hold from them: every run stays sound, and demand 3 holds at each moment of each run.
+use Rattle.machine.specs.declared.Refusal.{Refusal}
 use mathlib.Core.Path.{◌≡◌, refl, sym, ap, ◌∙◌}
 use mathlib.Core.Bool.{true, false}
 use mathlib.Core.Logic.{◌⊎◌, inl, inr}
@@ -28,7 +29,7 @@ use Rattle.startup.proofs.Started.{Started, started_size, started_read, started_
 
 module _ (b : List ℕ) (read_life write_life : ℕ) where
   -- a refusal has another word
-  ready_not_refused : (e : ℕ) → start_of b read_life write_life ≡ record { answer = Answer.Refused e; bytes = b } → (start_of b read_life write_life).answer ≡ Answer.Ready → {A : Type 0} → A
+  ready_not_refused : (e : Refusal) → start_of b read_life write_life ≡ record { answer = Answer.Refused e; bytes = b } → (start_of b read_life write_life).answer ≡ Answer.Ready → {A : Type 0} → A
   ready_not_refused e p q = answers_differ (Answer.Refused e) Answer.Ready refl (sym (ap (λ (r : Reply). r.answer) p) ∙ q)
 
   ready-started : (start_of b read_life write_life).answer ≡ Answer.Ready → Started b read_life write_life

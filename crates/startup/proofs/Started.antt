@@ -1,4 +1,5 @@
 -- What START answers, and the bytes after it, case by case: each test of the definition's list decided, in its order.
+use Rattle.machine.specs.declared.Refusal.{Refusal}
 use mathlib.Core.Path.{◌≡◌}
 use mathlib.Core.Bool.{true, false, or-true}
 use mathlib.Core.List.{List}
@@ -16,7 +17,7 @@ use Rattle.machine.proofs.Ranges.{within_means}
 use Rattle.layout.specs.Layout.{encode}
 use Rattle.startup.specs.Start.{Reply, start_refusal, start_of}
 
-abbrev refused : ℕ → List ℕ → Reply
+abbrev refused : Refusal → List ℕ → Reply
 refused n b = record { answer = Answer.Refused n; bytes = b }
 
 pub lifetime_small : (n : ℕ) → lifetime n ≡ true → n < 2 ^ 32

@@ -5,5 +5,5 @@ pub mod Records
 pub mod Fields
 pub mod Joined
 pub mod Whole
-pub mod Masks
+pub mod Halves
 pub mod Values

@@ -1,5 +1,6 @@
 -- The tests of the bytes, all together, are the definition of well formed: the encoding is compared table by table and record by record, `sound`
 -- goes by the same records, and each record's two conditions are its form.
+use Rattle.std.specs.Prelude.{Option, Some, None, is_some, MatchOption}
 use Prim.Native.Nat.{ℕ, ◌+◌, ◌*◌, ◌≤◌}
 use mathlib.Core.Path.{◌≡◌, refl, sym, ap, ◌∙◌}
 use mathlib.Core.Bool.{Bool, true, false, ◌&&◌, and_assoc}
@@ -26,6 +27,11 @@ use Rattle.state.proofs.Widths.{key_wide, row_wide, session_wide}
 use Rattle.state.proofs.Records.{head_is_formed, key_is_formed, row_is_formed, session_is_formed}
 use Rattle.state.proofs.Fields.{key_bytes, row_bytes, session_bytes, key_at, row_at_lem, session_at_lem}
 use Rattle.state.proofs.Joined.{joined-by_bytes}
+
+-- what is told of a buffer that is opened, where w says whether it may be
+pub opened_told : {A : Type 0} {w : Bool} (P : A → Type 0) (r : Option A) → MatchOption r (w ≡ false) (λ b. (w ≡ true) × P b) → is_some r ≡ w
+opened_told P (Some b) f = sym f.0
+opened_told P None f = sym f
 
 pub wrong_length : (s : List ℕ) → (length s ≡ state_size → ⊥) → well_formed s ≡ false
 unfolding well_formed

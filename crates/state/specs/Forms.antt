@@ -1,7 +1,7 @@
 -- What the check tests of the bytes, part by part in its order. A part is formed if it is the encoding of what it decodes to and that is sound;
 -- a table fits if its records are formed and agree with those before them and with the tables before.
 -- x is a record's bytes, s the whole state's; `limit` is the clock plus a lifetime, and `next` the next number to give.
-use Rattle.std.specs.Prelude.{ℕ, ◌+◌, ◌-◌, ◌*◌, ◌≤◌, ◌<◌, ◌≡◌, Bool, ◌&&◌, List, get_or, eqb, leb, ltb, if◌then◌else◌}
+use Rattle.std.specs.Prelude.{ℕ, ◌+◌, ◌-◌, ◌*◌, Bool, ◌&&◌, List, get_or, eqb, leb, ltb, if◌then◌else◌}
 use Rattle.lent.specs.Bytes.{le16, le32, le64, win}
 use Rattle.lent.specs.Tables.{every, all_zero}
 use Rattle.machine.specs.Sizes.{key_count, session_count, row_count, value_max, step_max, keys_from, key_width, rows_from, row_width, sessions_from, session_width, rest_from, rest_size}
@@ -85,10 +85,3 @@ tables_fit s = all_zero (win s rest_from rest_size) && (sessions_fit s && (keys_
 
 unfoldable pub state_formed : List ℕ → Bool
 state_formed s = head_formed s && tables_fit s
-
--- The bytes behind a value
-
--- 64 bytes 0 and 64 of ones: those from 64 - n on keep, of the 64 at a value of n bytes, what stands behind it
-pub record Masks (masks : List ℕ) : Type 0 where
-  pub zeros : (j : ℕ) → j < value_max → get_or masks j 0 ≡ 0
-  pub ones : (j : ℕ) → value_max ≤ j → j < value_max + value_max → get_or masks j 0 ≡ 255

@@ -3,6 +3,7 @@
 use mathlib.Core.Path.{◌≡◌, refl, ap}
 use mathlib.Core.Bool.{Bool, true, false, not, ◌&&◌}
 use mathlib.Core.List.{List, []}
+use Rattle.std.specs.Prelude.{Option as Found, Some, None}
 use mathlib.Core.Option.{Option, none, some}
 use Prim.Native.Nat.{ℕ, ◌≤◌, ◌<◌}
 use lib.Dec.{eqb, leb}
@@ -21,9 +22,8 @@ use Rattle.machine.proofs.SoundMeans.{row_inside}
 use Rattle.layout.specs.Holds.{Holds}
 use Rattle.layout.proofs.Held.{value_stands, staged_stands}
 use Rattle.sights.specs.Sights.{placed}
-use Rattle.sights.specs.declared.Sight.{Sight}
+use Rattle.sights.specs.declared.Span.{Span}
 use Rattle.stretches.specs.Stretch.{span_of}
-use Rattle.stretches.specs.declared.Span.{Span}
 
 -- ---- where the value stands
 
@@ -42,15 +42,15 @@ abbrev pub bare : Answer → Shown
 bare a = record { answer = a; at = 0; value = [] }
 
 -- what is answered and handed back where d is seen
-abbrev pub answer_to : Sight → Answer
-answer_to (Sight.At at m) = Answer.Value m
-answer_to Sight.Nothing = Answer.None
+abbrev pub answer_to : Found Span → Answer
+answer_to (Some x) = Answer.Value x.length
+answer_to None = Answer.None
 
-abbrev pub span_to : Sight → Span
-span_to (Sight.At at m) = record { at = at; length = m }
-span_to Sight.Nothing = record { at = 0; length = 0 }
+abbrev pub span_to : Found Span → Span
+span_to (Some x) = x
+span_to None = record { at = 0; length = 0 }
 
-pub record Shows (x : Shown) (d : Sight) : Type 0 where
+pub record Shows (x : Shown) (d : Found Span) : Type 0 where
   pub answer : answer_to d ≡ x.answer
   pub span : span_to d ≡ span_of x
 
@@ -69,7 +69,7 @@ module _ (s : State) (n k : ℕ) where
       unfolding show
       shown_seen = rw (lt-leb key_count k l, e)
 
-      pub shown_by : {d : Sight} → placed (sight s n k) ≡ d → Shows (show s n k) d
+      pub shown_by : {d : Found Span} → placed (sight s n k) ≡ d → Shows (show s n k) d
       shown_by p = rw (shown_seen, ← p) (go (sight s n k))
         where
           go : (o : Option Seen) → Shows (seen o) (placed o)

@@ -3,7 +3,7 @@ use Rattle.std.specs.Prelude.{ℕ, ◌+◌, ◌≡◌, List, length}
 use Rattle.std.specs.Borrow.{Bor}
 use Rattle.lent.specs.Bytes.{win}
 use Rattle.machine.specs.Step.{Shown}
-use Rattle.stretches.specs.declared.Span.{Span}
+use Rattle.sights.specs.declared.Span.{Span}
 
 -- its place and its length
 abbrev pub span_of : Shown → Span

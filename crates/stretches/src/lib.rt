@@ -10,50 +10,41 @@ ghost use Rattle.layout.specs.Holds.{Holds};
 ghost use Rattle.sights.specs.Sights.{placed, Inside};
 ghost use Rattle.stretches.specs.Stretch.{span_of, Stretch};
 
-use layout::Found;
-use machine::Answer;
-use sights::Sight;
-
-// A stretch of the lent state, by its place and its length.
-#[derive(Clone, Copy)]
-pub struct Span {
-    pub at: usize,
-    pub length: usize,
-}
+use layout::Buffer;
+use machine::{Answer, Refusal};
+use sights::Span;
 
 // What the session, or no session if it is 0, sees on key k.
-fn look(s: &[u8], session: u64, k: usize) -> Sight
-    requires { (length s.now ≡ state_size) × (k < key_count) }
+fn look(s: &Buffer, session: u64, k: usize) -> Option<Span>
+    requires { k < key_count }
     ensures { ((σ : State) → Holds s.now σ → result ≡ placed (sight σ session k)) × Inside result }
 {
     let row = lookups::find(s, session, k);
     match row {
-        Found::At(i) => sights::row_sight(s, i, k),
-        Found::Nothing => sights::cached_sight(s, k),
+        Some(i) => sights::row_sight(s, i, k),
+        None => sights::cached_sight(s, k),
     }
 }
 
 // The answer of SHOW: VALUE with the length, NONE, or the refusal.
-pub fn show(s: &[u8], session: u64, key: u64) -> Answer
-    requires { length s.now ≡ state_size }
+pub fn show(s: &Buffer, session: u64, key: u64) -> Answer
     ensures { (σ : State) → Holds s.now σ → result ≡ (show_of σ session key).answer }
 {
     if layout::KEY_COUNT as u64 <= key {
-        return Answer::Refused(machine::ARG);
+        return Answer::Refused(Refusal::Arg);
     }
     if sights::is_unknown(s, session) {
-        return Answer::Refused(machine::NO_SESSION);
+        return Answer::Refused(Refusal::NoSession);
     }
     let sight = look(s, session, key as usize);
     match sight {
-        Sight::At { at: _, length } => Answer::Value(length),
-        Sight::Nothing => Answer::None,
+        Some(span) => Answer::Value(span.length),
+        None => Answer::None,
     }
 }
 
 // Where the stretch of SHOW stands, and its length; for NONE and on a refusal that of the empty one at the first byte.
-pub fn part(s: &[u8], session: u64, key: u64) -> Span
-    requires { length s.now ≡ state_size }
+pub fn part(s: &Buffer, session: u64, key: u64) -> Span
     ensures { ((σ : State) → Holds s.now σ → result ≡ span_of (show_of σ session key)) × (result.at + result.length ≤ state_size) }
 {
     if layout::KEY_COUNT as u64 <= key {
@@ -64,18 +55,18 @@ pub fn part(s: &[u8], session: u64, key: u64) -> Span
     }
     let sight = look(s, session, key as usize);
     match sight {
-        Sight::At { at, length } => Span { at, length },
-        Sight::Nothing => Span { at: 0, length: 0 },
+        Some(span) => span,
+        None => Span { at: 0, length: 0 },
     }
 }
 
 // The stretch of SHOW, in the lent state itself.
+// Kept: a slice, since of the array that std makes of one nothing says that it stands at the same place.
 pub fn stretch(s: &[u8], session: u64, key: u64) -> &[u8]
     requires { length s.now ≡ state_size }
     ensures { (σ : State) → Holds s.now σ → Stretch s.entry result (show_of σ session key) }
 {
-    let span = part(s, session, key);
-    let at = span.at;
-    let end = at + span.length;
-    &s[at..end]
+    let span = part(s.as_array().unwrap(), session, key);
+    let end = span.at + span.length;
+    &s[span.at..end]
 }

@@ -2,7 +2,7 @@
 #![tactic(auto)]
 
 ghost use Rattle.std.specs.Prelude.{◌≡◌, true, ◌++◌, map, ◌+◌, ◌≤◌, ◌<◌, length, take};
-ghost use Rattle.machine.specs.Sizes.{state_size, key_count, session_count};
+ghost use Rattle.machine.specs.Sizes.{key_count, session_count};
 ghost use Rattle.machine.specs.Tables.{any};
 ghost use Rattle.machine.specs.Session.{is_due};
 ghost use Rattle.machine.specs.State.{State, session_at};
@@ -13,36 +13,24 @@ ghost use Rattle.deadlines.specs.Deadlines.{lapsed_on, due_slot};
 ghost use Rattle.sweep.specs.Lapsing.{lapsing, lapse_key, free_due, noted, end_due};
 
 use endings::Ending;
+use layout::Buffer;
 
 // Whether some I lease has lapsed.
-fn leases_lapse(s: &[u8], time: u64) -> bool
-    requires { length s.now ≡ state_size }
+fn leases_lapse(s: &Buffer, time: u64) -> bool
     ensures { (σ : State) → Holds s.now σ → result ≡ any (lapsed_on time) σ.keys }
 {
-    for k in 0..layout::KEY_COUNT {
-        if deadlines::lease_lapsed(s, k, time) {
-            return true;
-        }
-    }
-    false
+    (0..layout::KEY_COUNT).any(|k| deadlines::lease_lapsed(s, k, time))
 }
 
 // Whether some session is due.
-pub fn sessions_lapse(s: &[u8], time: u64) -> bool
-    requires { length s.now ≡ state_size }
+pub fn sessions_lapse(s: &Buffer, time: u64) -> bool
     ensures { (σ : State) → Holds s.now σ → result ≡ any (due_slot time) σ.sessions }
 {
-    for place in 0..layout::SESSION_COUNT {
-        if deadlines::session_due(s, place, time) {
-            return true;
-        }
-    }
-    false
+    (0..layout::SESSION_COUNT).any(|place| deadlines::session_due(s, place, time))
 }
 
 // Whether expiry would change anything.
-pub fn lapses(s: &[u8], time: u64) -> bool
-    requires { length s.now ≡ state_size }
+pub fn lapses(s: &Buffer, time: u64) -> bool
     ensures { (σ : State) → Holds s.now σ → result ≡ lapsing time σ }
 {
     if leases_lapse(s, time) {
@@ -51,8 +39,8 @@ pub fn lapses(s: &[u8], time: u64) -> bool
     sessions_lapse(s, time)
 }
 
-fn lapse_key(s: &mut [u8], k: usize, time: u64)
-    requires { (length s.old ≡ state_size) × (k < key_count) }
+fn lapse_key(s: &mut Buffer, k: usize, time: u64)
+    requires { k < key_count }
     ensures { (σ : State) → Holds s.old σ → Holds s.new (lapse_key time k σ) }
 {
     if deadlines::lease_lapsed(s, k, time) {
@@ -61,8 +49,7 @@ fn lapse_key(s: &mut [u8], k: usize, time: u64)
 }
 
 // Every I lease with its deadline at or before time is removed.
-fn lapse_leases(s: &mut [u8], time: u64)
-    requires { length s.old ≡ state_size }
+fn lapse_leases(s: &mut Buffer, time: u64)
     ensures { (σ : State) → Holds s.old σ → Holds s.new (with_keys σ (map (lapsed_lease time) σ.keys)) }
 {
     for k in 0..layout::KEY_COUNT {
@@ -71,8 +58,8 @@ fn lapse_leases(s: &mut [u8], time: u64)
 }
 
 // The session at place i ends if it is due, and its number is noted behind the `count` that are.
-fn end_due(s: &mut [u8], i: usize, time: u64, ns: &mut [u32], count: usize) -> usize
-    requires { (length s.old ≡ state_size) × ((length ns.old ≡ session_count) × ((i < session_count) × (count ≤ i))) }
+fn end_due(s: &mut Buffer, i: usize, time: u64, ns: &mut [u32], count: usize) -> usize
+    requires { (length ns.old ≡ session_count) × ((i < session_count) × (count ≤ i)) }
     ensures { (result ≤ i + 1) × ((σ : State) → Holds s.old σ → Holds s.new (end_due time i σ) × (take result ns.new ≡ take count ns.old ++ noted time (session_at σ i))) }
 {
     if !deadlines::session_due(s, i, time) {
@@ -84,8 +71,8 @@ fn end_due(s: &mut [u8], i: usize, time: u64, ns: &mut [u32], count: usize) -> u
 }
 
 // Every open session with its deadline at or before time ends, all but its rows. Returns how many; their numbers are noted.
-fn end_sessions(s: &mut [u8], time: u64, ns: &mut [u32]) -> usize
-    requires { (length s.old ≡ state_size) × (length ns.old ≡ session_count) }
+fn end_sessions(s: &mut Buffer, time: u64, ns: &mut [u32]) -> usize
+    requires { length ns.old ≡ session_count }
     ensures { (result ≤ session_count) × ((σ : State) → Holds s.old σ → Holds s.new (with_sessions σ (map (free_due time) σ.sessions)) × (take result ns.new ≡ those (is_due time) σ.sessions)) }
 {
     let mut count = 0;
@@ -96,8 +83,7 @@ fn end_sessions(s: &mut [u8], time: u64, ns: &mut [u32]) -> usize
 }
 
 // Expiry, one pass over each table: the leases, the sessions, and then the rows of the sessions that ended.
-pub fn sweep(s: &mut [u8], time: u64)
-    requires { length s.old ≡ state_size }
+pub fn sweep(s: &mut Buffer, time: u64)
     ensures { (σ : State) → Holds s.old σ → sound σ ≡ true → Holds s.new (expire time σ) }
 {
     lapse_leases(s, time);

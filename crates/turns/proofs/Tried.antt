@@ -1,6 +1,6 @@
 -- What VALIDATE, DONE and UNDO come to, case by case: the session that the search found is the one that the definitions look up, and
 -- its life and count decide each test.
-use Rattle.std.specs.Prelude.{if◌then◌else◌}
+use Rattle.std.specs.Prelude.{if◌then◌else◌, Option, Some, None}
 use mathlib.Core.Path.{◌≡◌, refl, sym, ap, ◌∙◌}
 use mathlib.Core.Bool.{Bool, true, false, not, ◌&&◌}
 use mathlib.Core.Option.{none, some}
@@ -28,7 +28,6 @@ use Rattle.lent.proofs.Choices.{clash, zero_one}
 use Rattle.machine.proofs.SoundMeans.{sessions_length}
 use Rattle.layout.specs.Fields.{session_in}
 use Rattle.layout.specs.Search.{found}
-use Rattle.layout.specs.declared.Found.{Found}
 use Rattle.layout.proofs.Search.{found-at, place_passes}
 use Rattle.layout.proofs.Slots.{session_by}
 use Rattle.outcome.specs.Outcome.{unless, tried}
@@ -52,10 +51,10 @@ located s n {i} {x} ok d (p, l) = go (session_at s i) refl (rw (← p) (place_pa
         rw f (record { place = p; is = q; number = eqb-true y.number n (rw q at h); of = ap (session_at s) p ∙ q })
 
 -- the search r told of place i
-pub located_at : (s : State) (n : ℕ) {i : ℕ} {x : Session} {r : Found} → sound s ≡ true → r ≡ found session_count (session_place s n) → r ≡ Found.At i → x ≡ session_in (session_at s i) → Located s n i x
+pub located_at : (s : State) (n : ℕ) {i : ℕ} {x : Session} {r : Option ℕ} → sound s ≡ true → r ≡ found session_count (session_place s n) → r ≡ Some i → x ≡ session_in (session_at s i) → Located s n i x
 located_at s n ok f q d = located s n ok d (found-at session_count _ _ (sym f ∙ q))
 
-pub unlocated : (s : State) (n : ℕ) → sound s ≡ true → found session_count (session_place s n) ≡ Found.Nothing → session_of s n ≡ no_session
+pub unlocated : (s : State) (n : ℕ) → sound s ≡ true → found session_count (session_place s n) ≡ None → session_of s n ≡ no_session
 unlocated s n ok e = session_by s n (sessions_length s ok) e
 
 module _ {s : State} {n i : ℕ} {x : Session} (w : Located s n i x) where
@@ -79,7 +78,7 @@ module _ (s : State) (n : ℕ) where
   validate_far m h = rw (FirstRefusal.validate_steps s n m [] h)
 
   -- the search r told of no session
-  module _ (ok : sound s ≡ true) {r : Found} (f : r ≡ found session_count (session_place s n)) (q : r ≡ Found.Nothing) where
+  module _ (ok : sound s ≡ true) {r : Option ℕ} (f : r ≡ found session_count (session_place s n)) (q : r ≡ None) where
     nobody : session_of s n ≡ no_session
     nobody = unlocated s n ok (sym f ∙ q)
 

@@ -1,14 +1,14 @@
 // The wait that a BACKOFF says.
 #![tactic(auto)]
 
-ghost use Rattle.std.specs.Prelude.{◌≡◌, ◌-◌, ◌<◌, length};
-ghost use Rattle.machine.specs.Sizes.{state_size, key_count, row_count};
+ghost use Rattle.std.specs.Prelude.{◌≡◌, ◌-◌, ◌<◌};
+ghost use Rattle.machine.specs.Sizes.{key_count, row_count};
 ghost use Rattle.machine.specs.State.{State, row_at};
 ghost use Rattle.machine.specs.Effects.{life_end, later as later_end, latest as latest_end, wait as wait_on};
 ghost use Rattle.layout.specs.Holds.{Holds};
 ghost use Rattle.waits.specs.Waits.{row_end};
 
-use layout::Found;
+use layout::Buffer;
 use machine::Life;
 
 // Sealed if one of two lives is; else open until the later deadline.
@@ -28,8 +28,8 @@ fn later(a: Life, b: Life) -> Life
 }
 
 // What row i adds to the wait on key k: the life of its session, found by its number; a deadline long past if it is not on the key.
-fn row_life(s: &[u8], i: usize, k: usize) -> Life
-    requires { (length s.now ≡ state_size) × (i < row_count) }
+fn row_life(s: &Buffer, i: usize, k: usize) -> Life
+    requires { i < row_count }
     ensures { (σ : State) → Holds s.now σ → life_end result ≡ row_end σ k (row_at σ i) }
 {
     let n = rows::session(s, i);
@@ -39,8 +39,8 @@ fn row_life(s: &[u8], i: usize, k: usize) -> Life
     if rows::key(s, i) != k {
         return Life::Open(0);
     }
-    let place = sessions::find(s, n as u64);
-    let Found::At(j) = place else {
+    let place = sessions::find(s, u64::from(n));
+    let Some(j) = place else {
         return Life::Sealed;
     };
     let x = sessions::load(s, j);
@@ -48,14 +48,11 @@ fn row_life(s: &[u8], i: usize, k: usize) -> Life
 }
 
 // The sessions with a row on key k as one life, from the last row to the first.
-fn latest(s: &[u8], k: usize) -> Life
-    requires { length s.now ≡ state_size }
+fn latest(s: &Buffer, k: usize) -> Life
     ensures { (σ : State) → Holds s.now σ → life_end result ≡ latest_end σ k σ.rows }
 {
     let mut life = Life::Open(0);
-    let mut i = layout::ROW_COUNT;
-    while 0 < i {
-        i -= 1;
+    for i in (0..layout::ROW_COUNT).rev() {
         life = later(row_life(s, i, k), life);
     }
     life
@@ -72,8 +69,9 @@ fn less_now(until: u64, time: u64) -> u64
 }
 
 // 0 if a sealed session blocks, else the latest blocking deadline less now.
-pub fn wait(s: &[u8], k: usize, time: u64) -> u64
-    requires { (length s.now ≡ state_size) × (k < key_count) }
+// Kept: 0 is the document's word for a wait that no deadline ends.
+pub fn wait(s: &Buffer, k: usize, time: u64) -> u64
+    requires { k < key_count }
     ensures { (σ : State) → Holds s.now σ → result ≡ wait_on σ k time }
 {
     if keys::lease_token(s, k) != 0 {

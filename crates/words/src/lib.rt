@@ -1,13 +1,13 @@
 // An answer as numbers: its word, what goes with it, and where a HIT's value stands.
 #![tactic(auto)]
 
-ghost use Rattle.std.specs.Prelude.{◌≡◌, [], ◌∷◌};
-ghost use Rattle.machine.specs.Words.{word_of, detail_of};
-ghost use Rattle.words.specs.Numbers.{place_of, numbers_of};
+ghost use Rattle.std.specs.Prelude.{◌≡◌};
+ghost use Rattle.words.specs.Numbers.{numbers_of};
 
 use machine::Answer;
 
 // The words by number: that of a refusal, READY, those of the commands in their order, and SHOW's.
+// Kept: the C interface tells a word as a number.
 pub const REFUSED: u64 = 0;
 
 pub const READY: u64 = 1;
@@ -57,6 +57,7 @@ pub const VALUE: u64 = 22;
 pub const NONE: u64 = 23;
 
 // An answer's word, the session, token, wait, length or refusal number that goes with it or 0, and the place of a HIT's value or 0.
+// Kept: the C interface tells numbers alone, and 0 where nothing goes with the word.
 #[derive(Clone, Copy)]
 pub struct Numbers {
     pub word: u64,
@@ -64,45 +65,50 @@ pub struct Numbers {
     pub place: u64,
 }
 
-// The three in their order.
-fn listed(a: Answer) -> [u64; 3]
-    ensures { result ≡ word_of a ∷ detail_of a ∷ place_of a ∷ [] }
+// The numbers of an answer that has no place.
+fn placeless(word: u64, detail: u64) -> Numbers
+    ensures { result ≡ record { word = word; detail = detail; place = 0 } }
 {
-    match a {
-        Answer::Ready => [READY, 0, 0],
-        Answer::Session(n) => [SESSION, n as u64, 0],
-        Answer::Hit { at, length } => [HIT, length as u64, at as u64],
-        Answer::Ask => [ASK, 0, 0],
-        Answer::Backoff(n) => [BACKOFF, n, 0],
-        Answer::Lease(n) => [LEASE, n as u64, 0],
-        Answer::Stored => [STORED, 0, 0],
-        Answer::Ignored => [IGNORED, 0, 0],
-        Answer::Held => [HELD, 0, 0],
-        Answer::Granted => [GRANTED, 0, 0],
-        Answer::Aborted => [ABORTED, 0, 0],
-        Answer::Staged => [STAGED, 0, 0],
-        Answer::Repeated => [REPEATED, 0, 0],
-        Answer::Dropped => [DROPPED, 0, 0],
-        Answer::Validated => [VALIDATED, 0, 0],
-        Answer::Lost => [LOST, 0, 0],
-        Answer::Done => [DONE, 0, 0],
-        Answer::Undone => [UNDONE, 0, 0],
-        Answer::Evicted => [EVICTED, 0, 0],
-        Answer::Empty => [EMPTY, 0, 0],
-        Answer::Ticked => [TICKED, 0, 0],
-        Answer::Value(n) => [VALUE, n as u64, 0],
-        Answer::None => [NONE, 0, 0],
-        Answer::Refused(n) => [REFUSED, n as u64, 0],
+    Numbers {
+        word,
+        detail,
+        place: 0,
     }
 }
 
-pub fn as_numbers(a: Answer) -> Numbers
-    ensures { result ≡ numbers_of a }
-{
-    let three = listed(a);
-    Numbers {
-        word: three[0],
-        detail: three[1],
-        place: three[2],
+impl From<Answer> for Numbers {
+    ghost from_gives = { λ a n. n ≡ numbers_of a };
+
+    fn from(a: Answer) -> Numbers {
+        match a {
+            Answer::Ready => placeless(READY, 0),
+            Answer::Session(n) => placeless(SESSION, u64::from(n)),
+            Answer::Hit { at, length } => Numbers {
+                word: HIT,
+                detail: length as u64,
+                place: at as u64,
+            },
+            Answer::Ask => placeless(ASK, 0),
+            Answer::Backoff(wait) => placeless(BACKOFF, wait),
+            Answer::Lease(n) => placeless(LEASE, u64::from(n)),
+            Answer::Stored => placeless(STORED, 0),
+            Answer::Ignored => placeless(IGNORED, 0),
+            Answer::Held => placeless(HELD, 0),
+            Answer::Granted => placeless(GRANTED, 0),
+            Answer::Aborted => placeless(ABORTED, 0),
+            Answer::Staged => placeless(STAGED, 0),
+            Answer::Repeated => placeless(REPEATED, 0),
+            Answer::Dropped => placeless(DROPPED, 0),
+            Answer::Validated => placeless(VALIDATED, 0),
+            Answer::Lost => placeless(LOST, 0),
+            Answer::Done => placeless(DONE, 0),
+            Answer::Undone => placeless(UNDONE, 0),
+            Answer::Evicted => placeless(EVICTED, 0),
+            Answer::Empty => placeless(EMPTY, 0),
+            Answer::Ticked => placeless(TICKED, 0),
+            Answer::Value(n) => placeless(VALUE, n as u64),
+            Answer::None => placeless(NONE, 0),
+            Answer::Refused(e) => placeless(REFUSED, u64::from(e.number())),
+        }
     }
 }

@@ -1,6 +1,6 @@
 -- Rule 2: the session that a search found is the one that the definitions look up; its life and its row on the key decide, and its
 -- place is where it is marked. What is said of the line is that, and the register's note.
-use Rattle.std.specs.Prelude.{if◌then◌else◌}
+use Rattle.std.specs.Prelude.{if◌then◌else◌, Option, Some, None}
 use Prim.Native.Nat.{ℕ}
 use mathlib.Core.Path.{◌≡◌, refl, sym, ap, ◌∙◌}
 use mathlib.Core.Bool.{true, false, not}
@@ -19,7 +19,6 @@ use Rattle.layout.specs.Layout.{decode}
 use Rattle.layout.specs.WellFormed.{well_formed}
 use Rattle.layout.specs.Holds.{Holds}
 use Rattle.layout.specs.Search.{found}
-use Rattle.layout.specs.declared.Found.{Found}
 use Rattle.layout.proofs.Formed.{formed, holds_decoded}
 use Rattle.layout.proofs.Search.{found-at, found_nothing}
 use Rattle.turns.proofs.Tried.{Located, unlocated}
@@ -33,9 +32,9 @@ use Rattle.writes.specs.Writes.{may_write, marked, writes, Writes}
 -- ---- rule 2, of the session at place i, with its record as it was loaded
 
 -- by what the search for its row found
-abbrev pub rule_by : Found → ℕ
-rule_by (Found.At j) = 0
-rule_by Found.Nothing = 2
+abbrev pub rule_by : Option ℕ → ℕ
+rule_by (Some j) = 0
+rule_by None = 2
 
 module _ {s : State} {n i : ℕ} {x : Session} (w : Located s n i x) (k : ℕ) (b : List ℕ) {b' : List ℕ} (f : b' ≡ with_mark b i x.number) where
   sealed_loaded : sealed_in s n ≡ is_sealed x
@@ -47,12 +46,12 @@ module _ {s : State} {n i : ℕ} {x : Session} (w : Located s n i x) (k : ℕ) (
   pub written_open : is_sealed x ≡ false → Writes s b n k i 2 b'
   written_open q = record { rule = rw (sealed_loaded ∙ q); book = noted_here }
 
-  pub written-by : length s.rows ≡ row_count → is_sealed x ≡ true → {r : Found} → found row_count (row_place s x.number k) ≡ r → Writes s b n k i (rule_by r) b'
+  pub written-by : length s.rows ≡ row_count → is_sealed x ≡ true → {r : Option ℕ} → found row_count (row_place s x.number k) ≡ r → Writes s b n k i (rule_by r) b'
   written-by l q g = record { rule = rw (sealed_loaded ∙ q) (go _ (rw w.number at g)); book = noted_here }
     where
-      go : (r : Found) → found row_count (row_place s n k) ≡ r → rule_by r ≡ (if not (free_row (row_of s n k)) then 0 else 2)
-      go (Found.At j) e = rw (row_taken s n k j l e)
-      go Found.Nothing e = rw (row_missing s n k l e)
+      go : (r : Option ℕ) → found row_count (row_place s n k) ≡ r → rule_by r ≡ (if not (free_row (row_of s n k)) then 0 else 2)
+      go (Some j) e = rw (row_taken s n k j l e)
+      go None e = rw (row_missing s n k l e)
 
 -- ---- on the cache's bytes
 
@@ -64,13 +63,13 @@ module _ (x b : List ℕ) (n k : ℕ) where
   unfolding may_write marked
   written_damaged e = rw e (refl, refl)
 
-  pub written_nobody : well_formed x ≡ true → found session_count (session_place (decode x) n) ≡ Found.Nothing → NotedRule 2 b
+  pub written_nobody : well_formed x ≡ true → found session_count (session_place (decode x) n) ≡ None → NotedRule 2 b
   unfolding may_write marked
   written_nobody e f =
       let z = unlocated (decode x) n (formed x e).sound f in
       rw (e, z, le-ltb (session_place (decode x) n) session_count (found_nothing session_count (session_place (decode x) n) f)) (refl, refl)
 
-  pub written_at : well_formed x ≡ true → (i r : ℕ) (b' : List ℕ) → found session_count (session_place (decode x) n) ≡ Found.At i
+  pub written_at : well_formed x ≡ true → (i r : ℕ) (b' : List ℕ) → found session_count (session_place (decode x) n) ≡ Some i
       → ((s : State) → Holds x s → sound s ≡ true → (m : ℕ) → session_place s m ≡ i → Writes s b m k i r b') → NotedRule r b'
   unfolding may_write marked
   written_at e i r b' f w =

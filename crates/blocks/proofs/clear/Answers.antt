@@ -1,19 +1,12 @@
--- `clear` writes zeros: after i turns the first i bytes of the stretch are 0 and nothing else has changed.
-use mathlib.Core.Path.{◌≡◌, refl, sym}
-use native.Mathlib.Omega.{arith}
-use lib.ListN.{length-set}
-use borrow.Author.Rules.{rules}
-use Rattle.lent.proofs.Splice.{splice-none}
-use Rattle.lent.proofs.Stores.{clear_turn}
+-- `clear` meets its contract: what a call that gives 0 each time writes is zeros (`folded-zeros` of `Zeros`), at their place.
+use Rattle.std.proofs.Common.{◌≡◌, ◌∙◌, length, ap, rules}
+use Rattle.lent.specs.Bytes.{splice, zeros}
+use Rattle.lent.proofs.Splice.{part_splice}
+use Rattle.lent.proofs.Zeros.{folded-zeros}
 use Rattle.blocks.proofs.clear.Goals as goal
-
-pub loop-i-init : goal.loop-i-init
-loop-i-init c = (search rules, (refl, sym (splice-none _ _)))
-
-pub loop-i-preserved : goal.loop-i-preserved
-loop-i-preserved c = (search rules, (simp length-set (search rules), clear_turn _ _ _ _ (search rules) c.loop-i.invariant.1.1))
 
 pub returns : goal.returns
 returns c =
-    let e : c.loop-i.i ≡ c.args.n = omega arith in
-    rw (← e) c.loop-i.invariant.1.1
+    let e = folded-zeros _ (λ f x g r. search rules) c.fill_with.new.self _ _ c.fill_with.ensures.ran.1 in
+    let l : length c.fill_with.new.self ≡ c.args.n = search rules in
+    part_splice _ _ _ _ l ∙ ap (splice _ _) (e ∙ ap zeros l)

@@ -1,19 +1,12 @@
--- `is_zero` joins the bytes by `|`: after i turns that is 0 exactly if the first i bytes are.
-use mathlib.Core.Path.{◌≡◌, refl}
-use native.Mathlib.Omega.{arith}
-use borrow.Author.Rules.{rules}
+-- `is_zero` meets its contract: bytes that are joined by `|` are 0 exactly if each is (`fold_or` of `Zeros`).
+use Rattle.std.proofs.Common.{rules, ◌≡◌, bit_or}
+use Rattle.std.specs.List.{fold}
 use Rattle.lent.specs.Bytes.{win}
-use Rattle.lent.specs.Tables.{all_zero}
-use Rattle.lent.proofs.Zeros.{or_turn}
+use Rattle.lent.proofs.Zeros.{fold_or}
 use Rattle.blocks.proofs.is_zero.Goals as goal
 
-pub loop-i-init : goal.loop-i-init
-unfolding all_zero win
-loop-i-init c = (search rules, refl)
-
-pub loop-i-preserved : goal.loop-i-preserved
-loop-i-preserved c = (search rules, or_turn _ _ _ c.loop-i.seen (search rules) c.loop-i.invariant.1)
-
 pub returns : goal.returns
-returns c = let e : c.loop-i.i ≡ c.args.n = omega arith in
-    rw (← e) c.loop-i.invariant.1
+unfolding win
+returns c =
+    let e : c.fold.result ≡ fold bit_or 0 (win c.args.s.now c.args.from c.args.n) = search rules in
+    rw e (fold_or 0 (win c.args.s.now c.args.from c.args.n))

@@ -6,6 +6,3 @@ use Rattle.counts.proofs.put.Given as goal
 
 abbrev pub invariant-loop-i : goal.invariant-loop-i
 invariant-loop-i l = (l.i ≤ l.w) × ((length l.out ≡ length l.initial.out) × ((written l.n l.initial.out).bytes ≡ splice l.out 0 (low_digits l.i l.left)))
-
-abbrev pub decreases-loop-i : goal.decreases-loop-i
-decreases-loop-i l = l.i

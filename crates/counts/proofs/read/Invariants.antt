@@ -1,10 +1,7 @@
-use Rattle.std.proofs.Common.{◌≡◌, ◌-◌, ◌≤◌, length, drop}
+use Rattle.std.proofs.Common.{◌≡◌, ◌≤◌, drop}
 use Rattle.counts.specs.Count.{read_count, count_max}
 use Rattle.counts.proofs.Reading.{read_behind}
 use Rattle.counts.proofs.read.Given as goal
 
-abbrev pub invariant-loop-i : goal.invariant-loop-i
-invariant-loop-i l = (l.i ≤ length l.v) × ((l.a ≤ count_max) × (read_count l.v ≡ read_behind l.a (drop l.i l.v)))
-
-abbrev pub decreases-loop-i : goal.decreases-loop-i
-decreases-loop-i l = length l.v - l.i
+abbrev pub invariant-loop-b : goal.invariant-loop-b
+invariant-loop-b l = (l.a ≤ count_max) × (read_count l.v ≡ read_behind l.a (drop l.b-index l.v))

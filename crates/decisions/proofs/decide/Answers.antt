@@ -1,18 +1,17 @@
--- The arm says which number stands in the table; `entry_decides` says which verdict that is.
-use borrow.Author.Tests.{ne_eqb}
-use mathlib.Core.Path.{refl}
-use Rattle.decisions.proofs.Decided.{entry_decides}
+-- The table is the definition's: each row has an entry for all that may be asked, so the default does not matter.
+use mathlib.Core.Path.{◌≡◌, sym, ◌∙◌}
+use mathlib.Core.List.{List, []}
+use Prim.Native.Nat.{ℕ, ◌<◌}
+use lib.ListN.{length, get_or, get_or-replicate, get_or-map}
+use Rattle.std.proofs.lemmas.List.{get_or_default}
+use Rattle.machine.specs.Decision.{held_count, asked_count, decisions, decision}
+use Rattle.machine.specs.declared.Verdict.{Verdict}
+use Rattle.machine.specs.declared.Verdict.TheVariants.{Grant, Abort}
 use Rattle.decisions.proofs.decide.Goals as goal
 
-pub returns-in-0 : goal.returns-in-0
-returns-in-0 c = entry_decides c.args.held c.args.asked c.requires c.in-0.is
+row_long : (held : ℕ) → held < held_count → length (get_or decisions held []) ≡ asked_count
+row_long held h = sym (get_or-map (λ (l : List Verdict). length l) decisions held []) ∙ get_or-replicate held_count held asked_count 0 h
 
-pub returns-in-1 : goal.returns-in-1
-returns-in-1 c = entry_decides c.args.held c.args.asked c.requires c.in-1.is
-
-pub returns-in-2 : goal.returns-in-2
-returns-in-2 c = entry_decides c.args.held c.args.asked c.requires c.in-2.is
-
-pub returns-in_default : goal.returns-in_default
-returns-in_default c = rw (← entry_decides c.args.held c.args.asked c.requires refl)
-    (simp (ne_eqb _ _ c.in_default.in_default-own.rest.0.0.1, ne_eqb _ _ c.in_default.in_default-own.rest.0.1, ne_eqb _ _ c.in_default.in_default-own.rest.1))
+pub returns : goal.returns
+unfolding decision
+returns c = get_or_default (get_or decisions c.args.held []) c.args.asked Grant Abort (rw (row_long c.args.held c.requires.0) c.requires.1)

@@ -5,24 +5,17 @@ use Rattle.counts.specs.Count.{read_count}
 use Rattle.deltas.proofs.Making.{makes_drop, counted_value, counted_operand, counted}
 use Rattle.deltas.proofs.count.Goals as goal
 
-pub returns-in_default : goal.returns-in_default
-returns-in_default c = let read = c.read in
-    let args = c.args in
-    makes_drop (counted_value args.operation (read_count args.value.now) (read_count args.operand.now) (sym read.ensures ∙ c.in_default.is))
+pub returns-in_err-a : goal.returns-in_err-a
+returns-in_err-a c = let args = c.args in
+    rw c.from_residual.ensures (makes_drop (counted_value args.operation (read_count args.value.now) (read_count args.operand.now) (sym c.read.ensures ∙ c.in_err-a.was)))
 
-pub returns-in_default-read : goal.returns-in_default-read
-returns-in_default-read c = let read2 = c.read-2 in
-    let a = c.in-Is in
-    let read = c.read in
-    let args = c.args in
-    makes_drop (counted_operand args.operation (read_count args.value.now) (read_count args.operand.now) _ (sym read.ensures ∙ a.is) (sym read2.ensures ∙ c.in_default-read.is))
+pub returns-in_err-b : goal.returns-in_err-b
+returns-in_err-b c = let args = c.args in
+    rw c.from_residual-in_err-b.ensures
+    (makes_drop (counted_operand args.operation (read_count args.value.now) (read_count args.operand.now) _ (sym c.read.ensures ∙ c.in_ok-a.was) (sym c.read-2.ensures ∙ c.in_err-b.was)))
 
 pub returns : goal.returns
 returns c = let write = c.write in
-    let calculate = c.calculate-n in
-    let b = c.in-Is-read in
-    let read2 = c.read-2 in
-    let a = c.in-Is in
-    let read = c.read in
     let args = c.args in
-    counted args.operation _ _ _ _ (read_count args.value.now) (read_count args.operand.now) args.out.now _ (sym read.ensures ∙ a.is) (sym read2.ensures ∙ b.is) calculate.ensures (omega arith) write.ensures.0 write.ensures.1
+    counted args.operation _ _ _ _ (read_count args.value.now) (read_count args.operand.now) args.out.now _ (sym c.read.ensures ∙ c.in_ok-a.was) (sym c.read-2.ensures ∙ c.in_ok-b.was)
+    c.calculate-n.ensures (omega arith) write.ensures.0 write.ensures.1

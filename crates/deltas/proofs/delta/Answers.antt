@@ -1,6 +1,7 @@
 -- DELTA's own tests, then what its session found; where that is its places, the record is stored and the row changed.
-use mathlib.Core.Path.{sym, ◌∙◌}
-use Rattle.std.proofs.Common.{length, ◌≤◌, rules}
+use Rattle.std.specs.Prelude.{Ok}
+use mathlib.Core.Path.{sym, ap, ◌∙◌}
+use Rattle.std.proofs.Common.{length, ◌≤◌}
 use Rattle.lent.proofs.Choices.{test_failed, test_passed}
 use Rattle.machine.specs.Sizes.{value_max}
 use Rattle.stages.proofs.Staged.{staging_stored}
@@ -26,16 +27,10 @@ returns-then-operand-gt-VALUE_MAX c = let if3 = c.if-step-ge-STEP_MAX in
     λ σ h ok. gives (delta_long _ _ _ _ _ _ if1.false (test_passed is-operation.ensures if2.false) if3.false c.if-operand-gt-VALUE_MAX.true) h
 
 pub store-requires : goal.store-requires
-store-requires c = let place = c.in-At in
-    let find = c.find in
-    let pre = c.requires in
-    (pre, (rw place.is at find.ensures.1).0)
+store-requires c = (rw (c.in-Ok-At.is, c.in-Ok-At.field-0-is) at c.find.ensures.1).0
 
 pub change-requires : goal.change-requires
-change-requires c = let place = c.in-At in
-    let find = c.find in
-    let if1 = c.if-key in
-    (search rules, ((rw place.is at find.ensures.1).1, if1.false))
+change-requires c = ((rw (c.in-Ok-At.is, c.in-Ok-At.field-0-is) at c.find.ensures.1).1, c.if-key.false)
 
 -- the tests before the search are passed, that of the operand's length as it is told
 right : (c : After-find) → length c.args.operand.now ≤ value_max → let a = c.args in Right a.step a.key a.operation a.operand.now
@@ -46,15 +41,14 @@ right c l =
     let if1 = c.if-key in
     record { key = if1.false; operation = test_passed is-operation.ensures if2.false; step = if3.false; short = l }
 
-pub returns-in-Refused : goal.returns-in-Refused
-returns-in-Refused c = λ σ h ok. gives (delta_found _ _ _ _ _ _ (right (goal.at.returns-in-Refused c).After-find c.if-operand-gt-VALUE_MAX.false) (sym (c.find.ensures.0 σ h) ∙ c.in-Refused.is)) h
+pub returns-in-Err : goal.returns-in-Err
+returns-in-Err c = λ σ h ok. gives (delta_found _ _ _ _ _ _ (right (goal.at.returns-in-Err c).After-find c.if-operand-gt-VALUE_MAX.false) (sym (c.find.ensures.0 σ h) ∙ c.in-Err.is)) h
 
-pub returns-in-Repeated : goal.returns-in-Repeated
-returns-in-Repeated c = λ σ h ok. gives (delta_found _ _ _ _ _ _ (right (goal.at.returns-in-Repeated c).After-find c.if-operand-gt-VALUE_MAX.false) (sym (c.find.ensures.0 σ h) ∙ c.in-Repeated.is)) h
+pub returns-in-Ok-Repeated : goal.returns-in-Ok-Repeated
+returns-in-Ok-Repeated c = λ σ h ok. gives (delta_found _ _ _ _ _ _ (right (goal.at.returns-in-Ok-Repeated c).After-find c.if-operand-gt-VALUE_MAX.false) (sym (c.find.ensures.0 σ h) ∙ c.in-Ok-Repeated.is ∙ ap Ok c.in-Ok-Repeated.field-0-is)) h
 
-pub returns-in-At : goal.returns-in-At
-returns-in-At c = let change = c.change in
+pub returns-in-Ok-At : goal.returns-in-Ok-At
+returns-in-Ok-At c = let change = c.change in
     let store = c.store in
-    let place = c.in-At in
-    λ σ h ok. let q = sym (c.find.ensures.0 σ h) ∙ place.is in
-    rw (delta_changes _ _ _ _ _ _ (right (goal.at.returns-in-At c).After-find c.if-operand-gt-VALUE_MAX.false) ok _ _ _ q) (staging_stored σ _ _ _ _ ok q (store.ensures σ h) (change.ensures _))
+    λ σ h ok. let q = sym (c.find.ensures.0 σ h) ∙ c.in-Ok-At.is ∙ ap Ok c.in-Ok-At.field-0-is in
+    rw (delta_changes _ _ _ _ _ _ (right (goal.at.returns-in-Ok-At c).After-find c.if-operand-gt-VALUE_MAX.false) ok _ _ _ q) (staging_stored σ _ _ _ _ ok q (store.ensures σ h) (change.ensures _))

@@ -10,7 +10,7 @@ returns-then-mark-eq-DROPPED c = (λ σ h. changed-drop _ _ (staged_in (row_at �
 
 pub returns-then-mark-eq-VALUED : goal.returns-then-mark-eq-VALUED
 returns-then-mark-eq-VALUED c = let operate-at = c.operate_at in (
-  λ σ h. works_staged h c.args.row _ _ _ c.requires.1.0 (sym (c.mark-mark.ensures σ h) ∙ c.if-mark-eq-VALUED.true) (c.staged_length-n.ensures.0 σ h) operate-at.ensures.value,
+  λ σ h. works_staged h c.args.row _ _ _ c.requires.0 (sym (c.mark-mark.ensures σ h) ∙ c.if-mark-eq-VALUED.true) (c.staged_length-n.ensures.0 σ h) operate-at.ensures.value,
   operate-at.ensures.short,
 )
 
@@ -29,7 +29,7 @@ pub returns : goal.returns
 returns c = let operate-at2 = c.operate_at-2 in
     let mark = c.mark-mark in (
       λ σ h. works_cached h c.args.row c.args.k _ _
-          (λ q. c.if-mark-eq-DROPPED.false (mark.ensures σ h ∙ q)) (λ q. c.if-mark-eq-VALUED.false (mark.ensures σ h ∙ q)) c.requires.1.1.0
+          (λ q. c.if-mark-eq-DROPPED.false (mark.ensures σ h ∙ q)) (λ q. c.if-mark-eq-VALUED.false (mark.ensures σ h ∙ q)) c.requires.1.0
           (test_passed (c.has_value.ensures σ h) c.if-not-has_value.false) (c.value_length-n.ensures.0 σ h) operate-at2.ensures.value,
       operate-at2.ensures.short,
     )

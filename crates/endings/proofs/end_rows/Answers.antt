@@ -2,7 +2,6 @@
 use native.Mathlib.Omega.{arith}
 use borrow.Author.Rules.{rules}
 use Rattle.layout.proofs.Walked.{walked_none, walked_more, walked_all}
-use Rattle.endings.specs.Ends.{end_row}
 use Rattle.endings.proofs.Ended.{rows_ended}
 use Rattle.endings.proofs.end_rows.Goals as goal
 

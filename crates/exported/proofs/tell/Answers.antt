@@ -3,4 +3,4 @@ use mathlib.Core.Path.{refl}
 use Rattle.exported.proofs.tell.Goals as goal
 
 pub returns : goal.returns
-returns c = rw c.as_numbers-n.ensures (record { word = refl; numbers = refl })
+returns c = rw c.from-n.ensures (record { word = refl; numbers = refl })

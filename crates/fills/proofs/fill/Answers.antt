@@ -14,16 +14,16 @@ pub returns-then-value-gt-VALUE_MAX : goal.returns-then-value-gt-VALUE_MAX
 returns-then-value-gt-VALUE_MAX c = λ σ h e. gives (fill_long _ _ _ _ (omega arith) (omega arith)) h
 
 pub returns-then-held-eq0 : goal.returns-then-held-eq0
-returns-then-held-eq0 c = let lease_token = c.lease_token-held in
-    λ σ h e. gives (fill_unleased _ _ _ _ (omega arith) (omega arith) (key_stands h _ (omega arith)).fits.lease (sym (lease_token.ensures σ h) ∙ c.if-held-eq0.true)) h
+returns-then-held-eq0 c = let lease_token = c.lease_token in
+    λ σ h e. gives (fill_unleased _ _ _ _ (omega arith) (omega arith) (key_stands h _ (omega arith)).fits.lease (sym (c.from-held.ensures ∙ lease_token.ensures σ h) ∙ c.if-held-eq0.true)) h
 
 pub returns-then-held-token : goal.returns-then-held-token
-returns-then-held-token c = let lease_token = c.lease_token-held in
-    λ σ h e. gives (fill_other _ _ _ _ (omega arith) (omega arith) (λ q. c.if-held-token.true (lease_token.ensures σ h ∙ q))) h
+returns-then-held-token c = let lease_token = c.lease_token in
+    λ σ h e. gives (fill_other _ _ _ _ (omega arith) (omega arith) (λ q. c.if-held-token.true (c.from-held.ensures ∙ lease_token.ensures σ h ∙ q))) h
 
 pub returns : goal.returns
 returns c = let fill = c.fill in
     let if4 = c.if-held-token in
     let if3 = c.if-held-eq0 in
-    let lease_token = c.lease_token-held in
-    λ σ h e. gives (fill_stored _ _ _ _ (omega arith) (omega arith) (λ q. if3.false (lease_token.ensures σ h ∙ q)) (sym (lease_token.ensures σ h) ∙ if4.false)) (fill.ensures σ h)
+    let lease_token = c.lease_token in
+    λ σ h e. gives (fill_stored _ _ _ _ (omega arith) (omega arith) (λ q. if3.false (c.from-held.ensures ∙ lease_token.ensures σ h ∙ q)) (sym (c.from-held.ensures ∙ lease_token.ensures σ h) ∙ if4.false)) (fill.ensures σ h)

@@ -3,5 +3,5 @@ use mathlib.Core.Path.{sym, ap}
 use Rattle.gets.specs.Got.{asked}
 use Rattle.gets.proofs.asked.Goals as goal
 
-pub returns-in-At : goal.returns-in-At
-returns-in-At c = sym (ap asked c.in-At.is)
+pub returns-in-Some : goal.returns-in-Some
+returns-in-Some c = sym (ap asked c.in-Some.is)

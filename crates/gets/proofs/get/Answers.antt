@@ -18,14 +18,14 @@ returns-then-is_unknown c = let is-unknown = c.is_unknown in
     λ σ h e. gives (got_unknown σ args.time args.session args.key if1.false (sym (is-unknown.ensures σ h) ∙ c.if-is_unknown.true)) h
 
 pub row_sight-requires : goal.row_sight-requires
-row_sight-requires c = let row = c.in-At in
+row_sight-requires c = let row = c.in-Some in
     let find = c.find-row in
     let l : row.i < row_count = rw row.is at find.ensures.1 in omega arith
 
-pub returns-in-At : goal.returns-in-At
-returns-in-At c = λ σ h e. got_held σ _ _ _ c.if-key.false (sym (c.is_unknown.ensures σ h) ∙ c.if-is_unknown.false) h
-    (sym (c.find-row.ensures.0 σ h) ∙ c.in-At.is) (c.asked.ensures ∙ ap asked (c.row_sight.ensures.0 σ h))
+pub returns-in-Some : goal.returns-in-Some
+returns-in-Some c = λ σ h e. got_held σ _ _ _ c.if-key.false (sym (c.is_unknown.ensures σ h) ∙ c.if-is_unknown.false) h
+    (sym (c.find-row.ensures.0 σ h) ∙ c.in-Some.is) (c.asked.ensures ∙ ap asked (c.row_sight.ensures.0 σ h))
 
-pub returns-in-Nothing : goal.returns-in-Nothing
-returns-in-Nothing c = λ σ h e. rw (got_others σ _ _ _ c.if-key.false (sym (c.is_unknown.ensures σ h) ∙ c.if-is_unknown.false) h
-    (sym (c.find-row.ensures.0 σ h) ∙ c.in-Nothing.is)) (c.others.ensures σ h e)
+pub returns-in-None : goal.returns-in-None
+returns-in-None c = λ σ h e. rw (got_others σ _ _ _ c.if-key.false (sym (c.is_unknown.ensures σ h) ∙ c.if-is_unknown.false) h
+    (sym (c.find-row.ensures.0 σ h) ∙ c.in-None.is)) (c.others.ensures σ h e)

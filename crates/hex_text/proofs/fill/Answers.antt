@@ -1,35 +1,29 @@
--- `fill` meets its contract: what `out` is to be is always `out` with what the pairs that are left say behind the bytes written (`fill_turn` of `Reading`). Each digit is below 16, so that no byte wraps.
-use Rattle.hex_text.proofs.Reading.{pair_digits, fill_turn, fill_end}
-use mathlib.Core.Path.{refl}
-use native.Mathlib.Omega.{arith}
-use lib.ListN.{length-set}
-use borrow.Author.Rules.{rules}
+-- `fill` meets its contract: what `out` is to be is always `out` with what the pairs that are left say behind the bytes written (`fill_turn` of `Reading`).
+use Rattle.std.proofs.Common.{rules, ◌<◌, ◌/◌, length, arith}
+use Rattle.hex_text.proofs.Reading.{pair_high, pair_low, high_digit, low_digit, some_where, some_said, fill_turn, fill_end}
 use Rattle.hex_text.proofs.fill.Goals as goal
 
-pub loop-i-init : goal.loop-i-init
-loop-i-init c = (search rules, (refl, refl))
+pub unwrap-requires : goal.unwrap-requires
+unwrap-requires c =
+    let h : c.loop-i.i < length c.args.text.now / 2 = omega (arith, c.as_chunks.ensures.front_len) in
+    let d = high_digit c.args.text.now _ c.loop-i.i c.as_chunks.ensures.front h c.requires.0 in
+    rw (some_where c.digit.result _ c.digit.ensures d) (search rules)
 
-pub overflow_mul-out : goal.overflow_mul-out
-overflow_mul-out c =
-    let loop = c.loop-i in
-    let args = c.args in
-    let pre = c.requires in
-    omega (arith, c.digit-high.ensures, (pair_digits args.text.now loop.i pre.0 (omega arith)).0)
-
-pub overflow_add-out : goal.overflow_add-out
-overflow_add-out c =
-    let loop = c.loop-i in
-    let args = c.args in
-    let pre = c.requires in
-    let p = pair_digits args.text.now loop.i pre.0 (omega arith) in
-    omega (arith, c.digit-high.ensures, c.digit-low.ensures, p.0, p.1)
+pub unwrap-requires-in-loop-i : goal.unwrap-requires-in-loop-i
+unwrap-requires-in-loop-i c =
+    let h : c.loop-i.i < length c.args.text.now / 2 = omega (arith, c.as_chunks.ensures.front_len) in
+    let d = low_digit c.args.text.now _ c.loop-i.i c.as_chunks.ensures.front h c.requires.0 in
+    rw (some_where c.digit-in-loop-i.result _ c.digit-in-loop-i.ensures d) (search rules)
 
 pub loop-i-preserved : goal.loop-i-preserved
 loop-i-preserved c =
-    let loop = c.loop-i in
-    let args = c.args in
-    let turn = fill_turn args.text.now _ loop.out loop.i (omega arith) (omega arith) loop.invariant.1.1 in
-    (search rules, (simp length-set (search rules), rw (c.digit-high.ensures, c.digit-low.ensures) turn))
+    let text = c.args.text.now in
+    let i = c.loop-i.i in
+    let h : i < length text / 2 = omega (arith, c.as_chunks.ensures.front_len) in
+    let front = c.as_chunks.ensures.front in
+    let high = some_said _ _ _ c.digit.ensures c.unwrap.ensures in
+    let low = some_said _ _ _ c.digit-in-loop-i.ensures c.unwrap-in-loop-i.ensures in
+    rw (high, low, pair_high text _ i front h, pair_low text _ i front h) (fill_turn text _ c.loop-i.out i (omega arith) (omega arith) c.loop-i.invariant)
 
 pub returns : goal.returns
-returns c = fill_end c.args.text.now _ c.loop-i.out c.loop-i.i (omega arith) c.loop-i.invariant.1.1
+returns c = fill_end c.args.text.now _ c.loop-i.out c.loop-i.i (omega (arith, c.as_chunks.ensures.front_len)) c.loop-i.invariant

@@ -1,12 +1,7 @@
-use Prim.Native.Nat.{◌-◌, ◌*◌, ◌≤◌}
-use mathlib.Core.Path.{◌≡◌}
-use lib.ListN.{length, drop}
+use Rattle.std.proofs.Common.{◌≡◌, ◌*◌, drop}
 use Rattle.lent.specs.Bytes.{splice}
 use Rattle.hex_text.specs.Hex.{bytes_of}
 use Rattle.hex_text.proofs.fill.Given as goal
 
 abbrev pub invariant-loop-i : goal.invariant-loop-i
-invariant-loop-i l = (l.i ≤ l.n) × ((length l.out ≡ length l.initial.out) × (splice l.initial.out 0 (bytes_of l.text) ≡ splice l.out l.i (bytes_of (drop (2 * l.i) l.text))))
-
-abbrev pub decreases-loop-i : goal.decreases-loop-i
-decreases-loop-i l = l.n - l.i
+invariant-loop-i l = splice l.initial.out 0 (bytes_of l.text) ≡ splice l.out l.i (bytes_of (drop (2 * l.i) l.text))

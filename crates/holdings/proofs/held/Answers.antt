@@ -16,11 +16,11 @@ use Rattle.holdings.proofs.held.Goals as goal
 use Rattle.holdings.proofs.held.Goals.{After-lease_token}
 
 pub kind-requires : goal.kind-requires
-kind-requires c = let l : c.in-At.i < row_count = rw c.in-At.is at c.first_on-row.ensures.1 in omega arith
+kind-requires c = let l : c.in-Some.i < row_count = rw c.in-Some.is at c.first_on-row.ensures.1 in omega arith
 
-pub returns-in-At : goal.returns-in-At
-returns-in-At c = let kind = c.kind in
-    let row = c.in-At in
+pub returns-in-Some : goal.returns-in-Some
+returns-in-Some c = let kind = c.kind in
+    let row = c.in-Some in
     let first_on = c.first_on-row in
     let k = c.args.k in (
       λ σ h e. let r = held_row σ k row.i h.fits.rows e (sym (first_on.ensures.0 σ h) ∙ row.is) in

@@ -4,11 +4,11 @@ use Rattle.joins.proofs.Chains.{chained_zero, new_passed, chained_more}
 use Rattle.joins.proofs.enters.Goals as goal
 
 pub returns-then-n-eq0 : goal.returns-then-n-eq0
-returns-then-n-eq0 c = let w = chained_zero c.requires.1 refl c.if-n-eq0.true in (w.0, λ z. w.1)
+returns-then-n-eq0 c = chained_zero c.requires.1 refl c.if-n-eq0.true
 
 pub returns : goal.returns
 returns c =
     let y = c.requires in (
-      chained_more y.1 refl c.if-n-eq0.false c.chain-h.ensures.0 refl c.chain-h.ensures.1 y.0.0,
-      λ z. new_passed y.1 refl c.if-n-eq0.false c.chain-h.ensures.0 refl (c.passes-l.ensures z) y.0.0,
+      chained_more y.1 refl c.if-n-eq0.false c.chain-h.ensures.0 refl c.chain-h.ensures.1 y.0,
+      new_passed y.1 refl c.if-n-eq0.false c.chain-h.ensures.0 refl c.in_ok-l.ensures y.0,
     )

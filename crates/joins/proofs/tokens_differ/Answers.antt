@@ -14,18 +14,18 @@ loop-k-init c = (search rules, gathered_none _)
 pub loop-k-preserved : goal.loop-k-preserved
 loop-k-preserved c = (search rules, gathered_more _ _ _ _ (omega arith) c.loop-k.invariant.1 c.load_u32.ensures)
 
-pub returns-then-told-eq-KEY_COUNT : goal.returns-then-told-eq-KEY_COUNT
-returns-then-told-eq-KEY_COUNT c =
+pub returns-in_default : goal.returns-in_default
+returns-in_default c =
     let l = c.loop-k in
     let e : l.k ≡ key_count = omega arith in
-    sym (sym (distinct_gathered _ _ _ (rw e at l.invariant.1)) ∙ c.told_apart-told.ensures.1 c.if-told-eq-KEY_COUNT.true)
+    sym (sym (distinct_gathered _ _ _ (rw e at l.invariant.1)) ∙ c.in_default.ensures)
 
 -- a number that is not new is there before
 pub returns-then-not-is_new : goal.returns-then-not-is_new
 returns-then-not-is_new c =
     let l = c.loop-k in
     let e : l.k ≡ key_count = omega arith in
-    sym (sym (distinct_gathered _ _ _ (rw e at l.invariant.1)) ∙ distinct_fails _ key_count _ (omega (arith, c.told_apart-told.ensures.0)) (test_failed c.is_new.ensures c.if-not-is_new.true))
+    sym (sym (distinct_gathered _ _ _ (rw e at l.invariant.1)) ∙ distinct_fails _ key_count _ (omega (arith, c.in-Some.ensures)) (test_failed c.is_new.ensures c.if-not-is_new.true))
 
 pub returns : goal.returns
 returns c =

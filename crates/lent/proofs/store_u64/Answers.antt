@@ -1,10 +1,8 @@
--- `store_u64` is two writes, one behind the other.
-use Rattle.std.proofs.Common.{◌%◌, ◌/◌, refl, rules}
-use Rattle.lent.specs.Bytes.{bytes32}
-use Rattle.lent.proofs.Splice.{splice_then}
+-- `store_u64` meets its contract: the bytes that std gives (`bytes64_written` of `Numbers`), at their place (`part_splice` of `Splice`).
+use Rattle.std.proofs.Common.{◌∙◌, refl}
+use Rattle.lent.proofs.Numbers.{bytes64_written}
+use Rattle.lent.proofs.Splice.{part_splice}
 use Rattle.lent.proofs.store_u64.Goals as goal
 
 pub returns : goal.returns
-returns c =
-    let a = c.args in
-    splice_then a.s.now _ _ (bytes32 (a.v % 4294967296)) (bytes32 (a.v / 4294967296)) a.at 4 c.store_u32.ensures c.store_u32-2.ensures refl (search rules)
+returns c = rw (c.copy_from_slice.ensures.after, c.to_le_bytes.ensures ∙ bytes64_written c.args.v) (part_splice _ _ _ _ refl)

@@ -2,8 +2,8 @@
 use mathlib.Core.Path.{refl, sym, ◌∙◌}
 use Rattle.numbered.proofs.run_numbered.Goals as goal
 
-pub returns-in-Is : goal.returns-in-Is
-returns-in-Is c = rw (sym c.command_of-numbered.ensures ∙ c.in-Is.is) c.run.ensures
+pub returns-in-Some : goal.returns-in-Some
+returns-in-Some c = rw (sym c.command_of.ensures ∙ c.in-Some.is) c.run.ensures
 
-pub returns-in-Unknown : goal.returns-in-Unknown
-returns-in-Unknown c = rw (sym c.command_of-numbered.ensures ∙ c.in-Unknown.is) (c.refuse_unknown.ensures, refl)
+pub returns-in-None : goal.returns-in-None
+returns-in-None c = rw (sym c.command_of.ensures ∙ c.in-None.is) (c.refuse_unknown.ensures, refl)

@@ -10,13 +10,13 @@ use borrow.Author.Rules.{rules}
 use Rattle.openings.proofs.begin.Goals as goal
 
 pub open-requires : goal.open-requires
-open-requires c = (search rules, (rw c.in-At.is at c.free_place-f.ensures.1, search rules))
+open-requires c = (rw c.in-Some.is at c.free_place-f.ensures.1, search rules)
 
-pub returns-in-At : goal.returns-in-At
-returns-in-At c = let «open» = c.«open» in
-    let f = c.in-At in
+pub returns-in-Some : goal.returns-in-Some
+returns-in-Some c = let «open» = c.«open» in
+    let f = c.in-Some in
     let free-place = c.free_place-f in
     λ σ h ok. «open».ensures σ h ok (found-at session_count (place free σ.sessions) f.i (sym (free-place.ensures.0 σ h) ∙ f.is)).0
 
-pub returns-in-Nothing : goal.returns-in-Nothing
-returns-in-Nothing c = λ σ h ok. gives (begin_full σ ok c.args.time (sym (c.free_place-f.ensures.0 σ h) ∙ c.in-Nothing.is)) h
+pub returns-in-None : goal.returns-in-None
+returns-in-None c = λ σ h ok. gives (begin_full σ ok c.args.time (sym (c.free_place-f.ensures.0 σ h) ∙ c.in-None.is)) h

@@ -21,7 +21,7 @@ returns c = let store-next-session = c.store_next_session in
     let write_life_lem = c.write_life in
     let next_session_lem = c.next_session-n in
     λ σ h ok p.
-    begin_gives σ ok c.args.time c.args.i c.requires.1.0 p _ next_session_lem.result write_life_lem.result opened.result
+    begin_gives σ ok c.args.time c.args.i c.requires.0 p _ next_session_lem.result write_life_lem.result opened.result
     (next_session_lem.ensures σ h) (write_life_lem.ensures.0 σ h) (search rules) opened.ensures
     (store-next-session.ensures (with_sessions σ (set σ.sessions c.args.i (session opened.result)))
     (store.ensures σ h (rw opened.ensures (rw (next_session_lem.ensures σ h) (facts.next_session_lem σ ok).0)) (rw opened.ensures (omega arith))))

@@ -11,7 +11,6 @@ use Rattle.machine.proofs.Accepted.{is_kind_lem}
 use Rattle.askers.proofs.Asked.{asks, asks-numbered}
 use Rattle.outcome.proofs.Told.{gives}
 use Rattle.quars.proofs.Tried.{quar_key, quar_kind, quar_refused, quar_open}
-use borrow.Author.Rules.{rules}
 use Rattle.quars.proofs.quar.Goals as goal
 use Rattle.quars.proofs.quar.Goals.{After-find}
 
@@ -34,17 +33,16 @@ overflow_cast-kind c = omega (arith, (kind-within (goal.at.overflow_cast-kind c)
 
 pub hold-requires : goal.hold-requires
 hold-requires c = let d = kind-within (goal.at.hold-requires c).After-find in
-    (search rules, (rw c.in-Open.is at c.find.ensures.1, (d.0, omega (arith, d.1))))
+    (rw c.in-Ok.is at c.find.ensures.1, (d.0, omega (arith, d.1)))
 
-pub returns-in-Refused : goal.returns-in-Refused
-returns-in-Refused c = λ σ h ok. gives (quar_refused σ _ _ _ (right (goal.at.returns-in-Refused c).After-find).0 (right (goal.at.returns-in-Refused c).After-find).1 _ (sym (c.find.ensures.0 σ h) ∙ c.in-Refused.is)) h
+pub returns-in-Err : goal.returns-in-Err
+returns-in-Err c = λ σ h ok. gives (quar_refused σ _ _ _ (right (goal.at.returns-in-Err c).After-find).0 (right (goal.at.returns-in-Err c).After-find).1 _ (sym (c.find.ensures.0 σ h) ∙ c.in-Err.is)) h
 
-pub returns-in-Open : goal.returns-in-Open
-returns-in-Open c = let hold = c.hold in
-    let place = c.in-Open in
+pub returns-in-Ok : goal.returns-in-Ok
+returns-in-Ok c = let hold = c.hold in
     let args = c.args in
     λ σ h ok.
-    let q = sym (c.find.ensures.0 σ h) ∙ place.is in
-    let a = asks σ args.session place.place place.asker q in
-    rw (quar_open σ args.session args.key args.kind (right (goal.at.returns-in-Open c).After-find).0 (right (goal.at.returns-in-Open c).After-find).1 _ _ q)
+    let q = sym (c.find.ensures.0 σ h) ∙ c.in-Ok.is in
+    let a = asks σ args.session c.in-Ok.asker q in
+    rw (quar_open σ args.session args.key args.kind (right (goal.at.returns-in-Ok c).After-find).0 (right (goal.at.returns-in-Ok c).After-find).1 _ q)
     (rw a.number at (hold.ensures σ h ok (asks-numbered a)))

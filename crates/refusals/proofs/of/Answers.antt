@@ -12,21 +12,9 @@ pub returns-in-Get : goal.returns-in-Get
 unfolding refusals
 returns-in-Get c = rw c.in-Get.is c.get.ensures
 
-pub returns-in-Fill : goal.returns-in-Fill
-unfolding refusals
-returns-in-Fill c = λ σ h ok. rw c.in-Fill.is (c.fill.ensures (expire c.args.time σ) c.in-Fill.token)
-
 pub returns-in-Quar : goal.returns-in-Quar
 unfolding refusals
 returns-in-Quar c = rw c.in-Quar.is c.quar.ensures
-
-pub returns-in-Stage : goal.returns-in-Stage
-unfolding refusals
-returns-in-Stage c = rw c.in-Stage.is c.stage.ensures
-
-pub returns-in-Delta : goal.returns-in-Delta
-unfolding refusals
-returns-in-Delta c = rw c.in-Delta.is c.delta.ensures
 
 pub returns-in-Validate : goal.returns-in-Validate
 unfolding refusals

@@ -5,24 +5,20 @@ use mathlib.Core.Bool.{Bool, true}
 use mathlib.Core.List.{[]}
 use mathlib.Core.Option.{none, some}
 use Prim.Native.Nat.{◌<◌}
-use native.Mathlib.Omega.{arith}
 use Rattle.lent.proofs.Choices.{test_failed, test_passed}
 use Rattle.machine.specs.Tables.{first}
 use Rattle.machine.specs.Sizes.{key_count}
-use Rattle.machine.specs.Words.{ROOM, INVALIDATE, INCREMENTAL, is_kind}
+use Rattle.machine.specs.Words.{ROOM, is_kind}
 use Rattle.machine.specs.State.{State}
 use Rattle.machine.specs.Expiry.{expire}
 use Rattle.machine.specs.Sound.{sound}
-use Rattle.machine.specs.WellFormed.{Within}
 use Rattle.machine.specs.Refusals.{refusals}
 use Rattle.machine.specs.declared.Command.TheVariants.{Quar}
-use Rattle.machine.proofs.Accepted.{is_kind_lem}
 use Rattle.machine.proofs.FirstRefusal.{quar_key, quar_kind, quar_not_live, quar_sealed, quar_room}
 use Rattle.layout.specs.Holds.{Holds}
 use Rattle.refusals.specs.Met.{refusal_of, Meets}
 use Rattle.refusals.proofs.Lefts.{left_is, left_nobody, meets}
 use Rattle.refusals.proofs.Rooms.{Asks, quar_expired}
-use borrow.Author.Rules.{rules}
 use Rattle.refusals.proofs.quar.Goals as goal
 use Rattle.refusals.proofs.quar.Goals.{After-rows_full, After-session, After-would_grant}
 
@@ -44,15 +40,15 @@ returns-in_default c =
 pub returns-then-is_sealed : goal.returns-then-is_sealed
 returns-then-is_sealed c =
     let w = right (goal.at.returns-then-is_sealed c).After-session in
-    λ σ h ok. meets (quar_sealed _ _ _ _ _ w.0 w.1 _ (left_is _ (c.session.ensures σ h ok) c.in-Is.is) (sym c.is_sealed.ensures ∙ c.if-is_sealed.true))
+    λ σ h ok. meets (quar_sealed _ _ _ _ _ w.0 w.1 _ (left_is _ (c.session.ensures σ h ok) c.in-Some.is) (sym c.is_sealed.ensures ∙ c.if-is_sealed.true))
 
 -- the tests before that of the rows are passed
 asks : (c : After-rows_full) (σ : State) → let a = c.args in Holds a.s.now σ → sound σ ≡ true
-    → Asks (expire a.time σ) a.session a.key a.kind c.in-Is.x
+    → Asks (expire a.time σ) a.session a.key a.kind c.in-Some.x
 asks c σ h ok =
     let if3 = c.if-is_sealed in
     let is_sealed = c.is_sealed in
-    let x = c.in-Is in
+    let x = c.in-Some in
     record {
       key = c.if-key.false;
       kind = test_passed c.is_kind.ensures c.if-not-is_kind.false;
@@ -64,19 +60,9 @@ pub returns-then-not-rows_full : goal.returns-then-not-rows_full
 returns-then-not-rows_full c = λ σ h ok. let w = asks (goal.at.returns-then-not-rows_full c).After-rows_full σ h ok in
     meets (quar_room _ _ _ _ _ w.key w.kind _ w.live w.unsealed (test_failed (c.rows_full.ensures σ h ok) c.if-not-rows_full.true))
 
--- the kind is 1, 2 or 3
-kind-within : (c : After-rows_full) → Within INVALIDATE INCREMENTAL c.args.kind
-kind-within c = is_kind_lem _ (test_passed c.is_kind.ensures c.if-not-is_kind.false)
-
-pub overflow_cast-kind : goal.overflow_cast-kind
-overflow_cast-kind c = omega (arith, (kind-within (goal.at.overflow_cast-kind c).After-rows_full).1)
-
-pub would_grant-requires : goal.would_grant-requires
-would_grant-requires c = let w = kind-within (goal.at.would_grant-requires c).After-rows_full in (search rules, (w.0, omega (arith, w.1)))
-
 -- where the rows are full, what would be granted is refused
 by-grant : (c : After-would_grant) {t : Bool} → c.would_grant.result ≡ t
-    → ((σ : State) → Holds c.args.s.now σ → sound σ ≡ true → Asks (expire c.args.time σ) c.args.session c.args.key c.args.kind c.in-Is.x)
+    → ((σ : State) → Holds c.args.s.now σ → sound σ ≡ true → Asks (expire c.args.time σ) c.args.session c.args.key c.args.kind c.in-Some.x)
     → let a = c.args in Meets a.s.now a.time (λ σ. first (refusals σ (Quar a.session a.key a.kind) [])) (refusal_of (if t then some ROOM else none))
 by-grant c g asked = λ σ h ok. let full = test_passed (c.rows_full.ensures σ h ok) c.if-not-rows_full.false in
     meets (quar_expired _ ok _ full (asked σ h ok) (sym (c.would_grant.ensures σ h ok) ∙ g))

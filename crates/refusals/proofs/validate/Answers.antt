@@ -20,7 +20,7 @@ returns-in_default c = λ σ h ok. meets (validate_not_live _ _ _ _ c.if-count-g
 -- the refusal is by what he is told
 by-validation : (c : After-validate) {r : Validation} → c.validate.result ≡ r
     → let a = c.args in Meets a.s.now a.time (λ σ. first (refusals σ (Validate a.session a.count) [])) (clash_in r)
-by-validation c e = λ σ h ok. validates _ _ _ _ (left_is _ (c.session.ensures σ h ok) c.in-Is.is) c.if-count-gt-STEP_MAX.false (sym c.validate.ensures ∙ e)
+by-validation c e = λ σ h ok. validates _ _ _ _ (left_is _ (c.session.ensures σ h ok) c.in-Some.is) c.if-count-gt-STEP_MAX.false (sym c.validate.ensures ∙ e)
 
 pub returns-in-Seals : goal.returns-in-Seals
 returns-in-Seals c = by-validation (goal.at.returns-in-Seals c).After-validate c.in-Seals.is

@@ -5,7 +5,6 @@ use native.Mathlib.Omega.{arith}
 use Rattle.machine.specs.Sizes.{value_max}
 use Rattle.lines.specs.Fields.{value_room}
 use Rattle.rehearsal.proofs.Turns.{not_taken, said-unreadable, said-start, write_size, said_write, command_size, said_command}
-use borrow.Author.Rules.{rules}
 use Rattle.rehearsal.proofs.act.Goals as goal
 use Rattle.rehearsal.proofs.act.Goals.{In-Command, In-Write}
 
@@ -20,7 +19,7 @@ pub slice_bounds-write-end-in-Write : goal.slice_bounds-write-end-in-Write
 slice_bounds-write-end-in-Write c = simp length-take (omega (arith, (write-fits (goal.at.slice_bounds-write-end-in-Write c).In-Write).1))
 
 pub write-requires : goal.write-requires
-write-requires c = (search rules, simp length-take (omega (arith, (write-fits (goal.at.write-requires c).In-Write).0)))
+write-requires c = simp length-take (omega (arith, (write-fits (goal.at.write-requires c).In-Write).0))
 
 command-fits : (c : In-Command) → c.in-Command.length ≤ value_room
 command-fits c = (command_size c.args.line.now _ c.read-read.ensures.line _ _ _ _ _ _ _ c.in-Command.is).1

@@ -1,30 +1,19 @@
--- Buffers that are not lent right are left alone; else the two counts are printed.
+-- A book of another size, or no room, and nothing is done; else the two counts are printed.
 use Rattle.lent.proofs.Choices.{test_failed, test_passed}
-use Rattle.rehearsal.proofs.Turns.{lent_sizes, end_idle, end_printed}
+use Rattle.rehearsal.proofs.Turns.{lent_right_by, no_book, no_room, lent_sizes, end_idle, end_printed}
 use Rattle.rehearsal.proofs.end.Goals as goal
 
-pub returns-then-not-lent_right : goal.returns-then-not-lent_right
-returns-then-not-lent_right c = end_idle _ _ (test_failed c.lent_right.ensures c.if-not-lent_right.true)
+pub returns-in_default : goal.returns-in_default
+returns-in_default c = end_idle _ _ (no_book _ _ c.in_default.ensures.cases)
 
-pub lines-lines-requires : goal.lines-lines-requires
-lines-lines-requires c = (lent_sizes c.args.book.now c.args.out.now (test_passed c.lent_right.ensures c.if-not-lent_right.false)).0
-
-pub broken-broken-requires : goal.broken-broken-requires
-broken-broken-requires c =
-    let args = c.args in
-    (lent_sizes args.book.now args.out.now (test_passed c.lent_right.ensures c.if-not-lent_right.false)).0
+pub returns-then-not-has_room : goal.returns-then-not-has_room
+returns-then-not-has_room c = end_idle _ _ (no_room _ _ (test_failed c.has_room.ensures c.if-not-has_room.true))
 
 pub end-requires : goal.end-requires
-end-requires c =
-    let if1 = c.if-not-lent_right in
-    let lent-right = c.lent_right in
-    let args = c.args in
-    (lent_sizes args.book.now args.out.now (test_passed lent-right.ensures if1.false)).1
+end-requires c = (lent_sizes c.args.book.now c.args.out.now (lent_right_by _ _ c.in-Some.ensures.cases.long (test_passed c.has_room.ensures c.if-not-has_room.false))).1
 
 pub returns : goal.returns
 returns c =
-    let broken = c.broken-broken in
-    let lines = c.lines-lines in
-    let if1 = c.if-not-lent_right in
-    let lent-right = c.lent_right in
-    end_printed _ _ (test_passed lent-right.ensures if1.false) _ _ _ _ lines.ensures broken.ensures c.end.ensures
+    let same = c.in-Some.ensures.cases.same in
+    let right = lent_right_by _ _ c.in-Some.ensures.cases.long (test_passed c.has_room.ensures c.if-not-has_room.false) in
+    end_printed _ _ right _ _ _ _ (rw same at c.lines-lines.ensures) (rw same at c.broken-broken.ensures) c.end.ensures

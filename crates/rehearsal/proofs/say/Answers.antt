@@ -13,13 +13,13 @@ returns-then-word-ne-HIT c =
     c.count.ensures c.lines-n.ensures
 
 pub overflow_add-end : goal.overflow_add-end
-overflow_add-end c = let h = c.requires.1.1.inside c.if-word-ne-HIT.false in search rules
+overflow_add-end c = let h = c.requires.1.inside c.if-word-ne-HIT.false in search rules
 
 pub slice_bounds-reply-end-2 : goal.slice_bounds-reply-end-2
-slice_bounds-reply-end-2 c = let h = c.requires.1.1.inside c.if-word-ne-HIT.false in omega (arith, h)
+slice_bounds-reply-end-2 c = let h = c.requires.1.inside c.if-word-ne-HIT.false in omega (arith, h)
 
 pub reply-requires-2 : goal.reply-requires-2
-reply-requires-2 c = let g = c.requires.1.1.short c.if-word-ne-HIT.false in (search rules, simp length-take (omega (arith, g)))
+reply-requires-2 c = let g = c.requires.1.short c.if-word-ne-HIT.false in (search rules, simp length-take (omega (arith, g)))
 
 pub returns : goal.returns
 returns c =

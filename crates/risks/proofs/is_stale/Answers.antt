@@ -5,20 +5,9 @@ use Rattle.lent.specs.Bytes.{win}
 use Rattle.lent.specs.Tables.{same}
 use Rattle.lent.proofs.Splice.{part_win}
 use Rattle.machine.specs.Sizes.{staged_at}
-use Rattle.machine.specs.State.{row_at}
 use Rattle.book.specs.Book.{registered}
-use Rattle.risks.proofs.Stale.{differs_other, differs_unstaged, differs_row}
+use Rattle.risks.proofs.Stale.{differs_row}
 use Rattle.risks.proofs.is_stale.Goals as goal
-
-pub returns-then-session : goal.returns-then-session
-returns-then-session c =
-    let args = c.args in
-    λ σ h. sym (differs_other (registered args.book.now) args.session (row_at σ args.i) (λ e. c.if-session.true (c.session.ensures σ h ∙ e)))
-
-pub returns-then-mark-ne-VALUED : goal.returns-then-mark-ne-VALUED
-returns-then-mark-ne-VALUED c =
-    let args = c.args in
-    λ σ h. sym (differs_unstaged (registered args.book.now) args.session (row_at σ args.i) (λ e. c.if-mark-ne-VALUED.true (c.mark.ensures σ h ∙ e)))
 
 pub returns : goal.returns
 returns c =
@@ -32,6 +21,6 @@ returns c =
     let t : c.is_registered.result ≡ same value (register key.result) =
     c.is_registered.ensures ∙ rw (part_win args.cache.now (staged_at args.i) staged-length.result) in
     λ σ h. ap not t
-    ∙ sym (differs_row register args.session h args.i c.requires.1.1 staged-length.result key.result
-    (sym (session.ensures σ h) ∙ c.if-session.false) (sym (mark.ensures σ h) ∙ c.if-mark-ne-VALUED.false)
+    ∙ sym (differs_row register args.session h args.i c.requires staged-length.result key.result
+    (sym (c.from.ensures ∙ session.ensures σ h) ∙ c.if-from-session.false) (sym (mark.ensures σ h) ∙ c.if-mark-ne-VALUED.false)
     (staged-length.ensures.0 σ h) (key.ensures.0 σ h))

@@ -6,7 +6,7 @@ use Rattle.rules.proofs.begin.Goals as goal
 
 pub returns-then-n-ne-READY : goal.returns-then-n-ne-READY
 returns-then-n-ne-READY c =
-    let as-numbers = c.as_numbers-n in
+    let as-numbers = c.from-n in
     let start = c.start-answer in
     rw (c.tell.ensures, as-numbers.ensures)
     (begin_refused _ _ _ _ _ _ start.ensures.0 start.ensures.1 (λ q. c.if-n-ne-READY.true (ap (λ (n : Numbers). n.word) as-numbers.ensures ∙ q)))
@@ -15,7 +15,7 @@ pub returns : goal.returns
 returns c =
     let set-started = c.set_started in
     let if1 = c.if-n-ne-READY in
-    let as-numbers = c.as_numbers-n in
+    let as-numbers = c.from-n in
     let start = c.start-answer in
     rw (c.tell-2.ensures, as-numbers.ensures)
     (begin_ready _ _ _ _ _ _ start.ensures.0 start.ensures.1 (sym (ap (λ (n : Numbers). n.word) as-numbers.ensures) ∙ if1.false) _ set-started.ensures)

@@ -11,6 +11,3 @@ invariant-loop-i l =
     (length l.cache ≡ length l.initial.cache) × ((length l.book ≡ length l.initial.book)
     × ((HeldFits l.line l.at.held × (buffer l.line l.at.held ≡ pushed_all (buffer l.initial.line l.held) (win l.chunk l.from (l.i - l.from))))
     × Reaches (opened l.initial.cache l.initial.book l.initial.line l.held) l.chunk l.from l.i (opened l.cache l.book l.line l.at.held) l.initial.out l.out l.at.put))
-
-abbrev pub decreases-loop-i : goal.decreases-loop-i
-decreases-loop-i l = length l.chunk - l.i

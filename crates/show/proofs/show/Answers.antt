@@ -1,14 +1,12 @@
 -- The check refuses, or the bytes hold a state and its answer is given.
-use Rattle.show.proofs.Formed.{unformed_shows, formed_size, formed_holds, formed_shows}
+use Rattle.layout.proofs.Formed.{holds_decoded}
+use Rattle.show.proofs.Formed.{unformed_shows, formed_shows}
 use Rattle.show.proofs.show.Goals as goal
 
-pub returns-then-not-well_formed : goal.returns-then-not-well_formed
-returns-then-not-well_formed c = rw (unformed_shows _ c.well_formed-2.ensures c.if-not-well_formed.true)
-
-pub show-requires : goal.show-requires
-show-requires c = formed_size _ c.well_formed-2.ensures c.if-not-well_formed.false
+pub returns-in_default : goal.returns-in_default
+returns-in_default c = rw (unformed_shows c.args.s.now c.in_default.ensures)
 
 pub returns : goal.returns
 returns c =
-    let e = c.well_formed-2.ensures in
-    rw (formed_shows _ e c.if-not-well_formed.false) (c.show.ensures _ (formed_holds _ e c.if-not-well_formed.false))
+    let e = c.in-Some.ensures in
+    rw (formed_shows c.args.s.now e.0) (c.show.ensures _ (rw e.1 (holds_decoded c.args.s.now e.0)))

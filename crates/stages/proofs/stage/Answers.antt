@@ -1,6 +1,8 @@
 -- STAGE's own tests, then what its session found; where that is its places, the record is stored and the value staged there.
+use Rattle.machine.specs.declared.Refusal.{Refusal}
+use Rattle.std.specs.Prelude.{Result, Ok}
 use Rattle.outcome.proofs.Told.{gives}
-use mathlib.Core.Path.{◌≡◌, sym, ◌∙◌}
+use mathlib.Core.Path.{◌≡◌, sym, ap, ◌∙◌}
 use Rattle.machine.specs.Sizes.{step_max}
 use Rattle.machine.specs.State.{staged, State}
 use Rattle.machine.specs.declared.Command.TheVariants.{Stage}
@@ -23,29 +25,25 @@ pub returns-then-value-gt-VALUE_MAX : goal.returns-then-value-gt-VALUE_MAX
 returns-then-value-gt-VALUE_MAX c = λ σ h ok. gives (stage_long _ _ _ _ _ c.if-key.false c.if-step-ge-STEP_MAX.false c.if-value-gt-VALUE_MAX.true) h
 
 pub store-requires : goal.store-requires
-store-requires c = let place = c.in-At in
-    let find = c.find in
-    (c.requires, (rw place.is at find.ensures.1).0)
+store-requires c = (rw (c.in-Ok-At.is, c.in-Ok-At.field-0-is) at c.find.ensures.1).0
 
 pub stage-requires : goal.stage-requires
-stage-requires c = let place = c.in-At in
-    let find = c.find in
-    (search rules, ((rw place.is at find.ensures.1).1, search rules))
+stage-requires c = ((rw (c.in-Ok-At.is, c.in-Ok-At.field-0-is) at c.find.ensures.1).1, search rules)
 
 -- the tests before the search are passed, that of the step as it is told, and it found d
-tried-by : (c : After-find) → c.args.step < step_max → {d : Staging} → c.find.result ≡ d → (σ : State)
+tried-by : (c : After-find) → c.args.step < step_max → {d : Result Staging Refusal} → c.find.result ≡ d → (σ : State)
     → let a = c.args in Holds a.s.now σ → tried σ 0 (Stage a.session a.step a.key) a.value.now ≡ staged_by σ (staged a.value.now) d
 tried-by c l e σ h = stage_found _ _ _ _ _ c.if-key.false l c.if-value-gt-VALUE_MAX.false (sym (c.find.ensures.0 σ h) ∙ e)
 
-pub returns-in-Refused : goal.returns-in-Refused
-returns-in-Refused c = λ σ h ok. gives (tried-by (goal.at.returns-in-Refused c).After-find c.if-step-ge-STEP_MAX.false c.in-Refused.is σ h) h
+pub returns-in-Err : goal.returns-in-Err
+returns-in-Err c = λ σ h ok. gives (tried-by (goal.at.returns-in-Err c).After-find c.if-step-ge-STEP_MAX.false c.in-Err.is σ h) h
 
-pub returns-in-Repeated : goal.returns-in-Repeated
-returns-in-Repeated c = λ σ h ok. gives (tried-by (goal.at.returns-in-Repeated c).After-find c.if-step-ge-STEP_MAX.false c.in-Repeated.is σ h) h
+pub returns-in-Ok-Repeated : goal.returns-in-Ok-Repeated
+returns-in-Ok-Repeated c = λ σ h ok. gives (tried-by (goal.at.returns-in-Ok-Repeated c).After-find c.if-step-ge-STEP_MAX.false (c.in-Ok-Repeated.is ∙ ap Ok c.in-Ok-Repeated.field-0-is) σ h) h
 
-pub returns-in-At : goal.returns-in-At
-returns-in-At c = let stage = c.stage in
+pub returns-in-Ok-At : goal.returns-in-Ok-At
+returns-in-Ok-At c = let stage = c.stage in
     let store = c.store in
-    let place = c.in-At in
-    λ σ h ok. gives (tried-by (goal.at.returns-in-At c).After-find c.if-step-ge-STEP_MAX.false place.is σ h)
-    (staging_stored σ _ _ _ _ ok (sym (c.find.ensures.0 σ h) ∙ place.is) (store.ensures σ h) (stage.ensures _))
+    let found = c.in-Ok-At.is ∙ ap Ok c.in-Ok-At.field-0-is in
+    λ σ h ok. gives (tried-by (goal.at.returns-in-Ok-At c).After-find c.if-step-ge-STEP_MAX.false found σ h)
+    (staging_stored σ _ _ _ _ ok (sym (c.find.ensures.0 σ h) ∙ found) (store.ensures σ h) (stage.ensures _))

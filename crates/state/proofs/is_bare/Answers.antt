@@ -6,6 +6,7 @@ use borrow.Author.Rules.{rules}
 use Rattle.lent.specs.Bytes.{win}
 use Rattle.lent.specs.Tables.{all_zero}
 use Rattle.machine.specs.Sizes.{value_max}
+use Rattle.state.proofs.Halves.{mask_zero, mask_one}
 use Rattle.state.proofs.Zeros.{mask_turn}
 use Rattle.state.proofs.is_bare.Goals as goal
 
@@ -17,12 +18,12 @@ pub loop-i-preserved : goal.loop-i-preserved
 loop-i-preserved c =
     let loop = c.loop-i in
     let args = c.args in
-    let masks = c.requires.1.1 in
+    let filled = args.masks.now.filled in
     let place = value_max - args.n + loop.i in
-    let byte = (c.shared_slice_known-1.given (args.at + loop.i)).fits in (
+    let byte = (c.type_inv.r (args.at + loop.i)).fits in (
       search rules,
       mask_turn args.r.now args.at args.n loop.i loop.seen _ (search rules) byte
-          (λ h. masks.zeros place (omega arith)) (λ h. masks.ones place (omega arith) (omega arith)) loop.invariant.1,
+          (λ h. mask_zero filled place (omega arith)) (λ h. mask_one filled place (omega arith) (omega arith)) loop.invariant.1,
     )
 
 pub returns : goal.returns

@@ -16,9 +16,6 @@ use Rattle.state.proofs.keys_fit.Invariants.{Formed}
 pub loop-k-init : goal.loop-k-init
 loop-k-init c = walked_none (marked-none _)
 
-pub key_formed-requires : goal.key_formed-requires
-key_formed-requires c = (search rules, c.requires.1.1)
-
 key-told : (c : After-key_formed) → c.key_formed.result ≡ Formed c.args.s.now c.loop-k.k
 unfolding dec_head
 key-told c = c.key_formed.ensures ∙ rw (part_win, c.limit-until.ensures, c.load_u32-next.ensures)

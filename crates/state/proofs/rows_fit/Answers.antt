@@ -15,10 +15,7 @@ use Rattle.state.proofs.rows_fit.Goals.{After-row_formed}
 use Rattle.state.proofs.rows_fit.Invariants.{Formed}
 
 pub loop-i-init : goal.loop-i-init
-loop-i-init c = (search rules, (every-none _, (every-none _, ready-none c.requires.1.1.0)))
-
-pub row_formed-requires : goal.row_formed-requires
-row_formed-requires c = (search rules, c.requires.1.0)
+loop-i-init c = (search rules, (every-none _, (every-none _, ready-none c.requires)))
 
 row_told : (c : After-row_formed) → c.row_formed.result ≡ Formed c.args.s.now c.loop-i.i
 row_told c = c.row_formed.ensures ∙ rw part_win
@@ -28,7 +25,7 @@ unfolding rows_fit rows_formed
 returns-then-not-row_formed c = rw (every_fails (Formed c.args.s.now) row_count c.loop-i.i (search rules) (test_failed (row_told (goal.at.returns-then-not-row_formed c).After-row_formed) c.if-not-row_formed.true))
 
 pub join-requires : goal.join-requires
-join-requires c = (search rules, (search rules, (c.requires.1.1.1, c.loop-i.invariant.1.1.1)))
+join-requires c = (search rules, c.loop-i.invariant.1.1.1)
 
 pub returns-then-not-join : goal.returns-then-not-join
 unfolding rows_fit

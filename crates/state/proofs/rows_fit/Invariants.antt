@@ -14,7 +14,7 @@ abbrev pub Formed : List ℕ → ℕ → Bool
 Formed s i = row_formed (win s (rows_from + i * row_width) row_width)
 
 abbrev pub invariant-loop-i : goal.invariant-loop-i
-invariant-loop-i l = (l.i ≤ row_count) × ((every (Formed l.s) l.i ≡ true) × ((every (join_ok l.s) l.i ≡ true) × Ready l.s l.i l.nums l.words))
+invariant-loop-i l = (l.i ≤ row_count) × ((every (Formed l.s) l.i ≡ true) × ((every (join_ok l.s) l.i ≡ true) × Ready l.s l.i l.seating.numbers l.words))
 
 abbrev pub decreases-loop-i : goal.decreases-loop-i
 decreases-loop-i l = row_count - l.i

@@ -17,7 +17,7 @@ use Rattle.state.proofs.sessions_fit.Goals.{After-session_formed}
 use Rattle.state.proofs.sessions_fit.Invariants.{Formed}
 
 pub loop-j-init : goal.loop-j-init
-loop-j-init c = let p = c.requires.1.1 in walked_none (entered_none _ p.0 p.1)
+loop-j-init c = let p = c.requires.1 in walked_none (entered_none _ p.0 p.1)
 
 session-told : (c : After-session_formed) → c.session_formed.result ≡ Formed c.args.s.now c.loop-j.j
 unfolding dec_head
@@ -30,21 +30,21 @@ returns-then-not-session_formed c = (rw (every_fails (Formed c.args.s.now) sessi
 pub returns-then-not-session_sits : goal.returns-then-not-session_sits
 unfolding sessions_fit
 returns-then-not-session_sits c =
-    let m = number_sat (search rules) c.loop-j.invariant.noted c.session_sits.ensures in
+    let m = number_sat (search rules) c.loop-j.invariant.noted c.session_sits.ensures.0 in
     (rw (m.twice (c.if-not-session_sits.true), and-false), λ o. clash false o refl)
 
 pub loop-j-preserved : goal.loop-j-preserved
 loop-j-preserved c =
     let w = c.loop-j.invariant in
-    let m = number_sat (search rules) w.noted c.session_sits.ensures in
+    let m = number_sat (search rules) w.noted c.session_sits.ensures.0 in
     walked_more w (search rules) (session-told (goal.at.loop-j-preserved c).After-session_formed) c.if-not-session_formed.false (m.entered (c.if-not-session_sits.false)) (λ d. sat_more d m)
 
 pub returns-then-crowd-eq0 : goal.returns-then-crowd-eq0
 unfolding sessions_fit sessions_formed
 returns-then-crowd-eq0 c = let w = walked_all c.loop-j.invariant (search rules) in let d = w.apart c.if-crowd-eq0.true in
-    (rw (w.each, d), λ o. (record { gathered = w.noted.gathered; once = distinct_gathered _ _ _ w.noted.gathered ∙ d }, w.noted.seated.small))
+    (rw (w.each, d), λ o. record { gathered = w.noted.gathered; once = distinct_gathered _ _ _ w.noted.gathered ∙ d })
 
 pub returns : goal.returns
 unfolding sessions_fit sessions_formed
 returns c = let w = walked_all c.loop-j.invariant (search rules) in let d = c.differ.ensures ∙ loosened_distinct w.noted.loosened in
-    (rw w.each (d ∙ distinct_gathered _ _ _ w.noted.gathered), λ o. (record { gathered = w.noted.gathered; once = sym d ∙ o }, w.noted.seated.small))
+    (rw w.each (d ∙ distinct_gathered _ _ _ w.noted.gathered), λ o. record { gathered = w.noted.gathered; once = sym d ∙ o })

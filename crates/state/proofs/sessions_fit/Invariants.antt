@@ -15,7 +15,7 @@ abbrev pub Formed : List ℕ → ℕ → Bool
 Formed s j = session_formed (write_limit (dec_head s)) (dec_head s).next_session (win s (sessions_from + j * session_width) session_width)
 
 abbrev pub invariant-loop-j : goal.invariant-loop-j
-invariant-loop-j l = Walked session_count (Formed l.s) (session_numbers l.s) (λ i. Entered (session_numbers l.s) i l.nums l.seats l.loose) (l.crowd ≡ 0) l.j
+invariant-loop-j l = Walked session_count (Formed l.s) (session_numbers l.s) (λ i. Entered (session_numbers l.s) i l.seating.numbers l.seating.seats l.loose) (l.crowd ≡ 0) l.j
 
 abbrev pub decreases-loop-j : goal.decreases-loop-j
 decreases-loop-j l = session_count - l.j

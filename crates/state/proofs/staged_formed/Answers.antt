@@ -31,8 +31,8 @@ other c =
     let m = get_or args.r.now 6 0 in
     rw (ne_eqb m 1 (omega arith), c.is_marked.ensures) (if_both (eqb m 2) (eqb args.kind INCREMENTAL) (eqb m 0) (all_zero (win args.r.now 7 (1 + value_max))))
 
-pub returns-then-not-is_marked : goal.returns-then-not-is_marked
-returns-then-not-is_marked c = rw (other (goal.at.returns-then-not-is_marked c).After-is_marked, c.if-not-is_marked.true)
+pub returns-then-is_marked : goal.returns-then-is_marked
+returns-then-is_marked c = rw (other (goal.at.returns-then-is_marked c).After-is_marked, c.if-is_marked.true) c.is_plain.ensures
 
-pub returns : goal.returns
-returns c = rw (other (goal.at.returns c).After-is_marked, c.if-not-is_marked.false) c.is_plain.ensures
+pub returns-else-is_marked : goal.returns-else-is_marked
+returns-else-is_marked c = rw (other (goal.at.returns-else-is_marked c).After-is_marked, c.if-is_marked.false)

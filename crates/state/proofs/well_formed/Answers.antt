@@ -1,11 +1,7 @@
--- The length is tested first; of a buffer of the right length the tests say whether it is well formed.
-use mathlib.Core.Path.{sym, ◌∙◌}
-use native.Mathlib.Omega.{arith}
-use Rattle.state.proofs.Whole.{formed_is_well_formed, wrong_length}
+-- A buffer that is opened is well formed.
+use mathlib.Core.Path.{◌∙◌}
+use Rattle.state.proofs.Whole.{opened_told}
 use Rattle.state.proofs.well_formed.Goals as goal
 
-pub returns-then-s-ne-STATE_SIZE : goal.returns-then-s-ne-STATE_SIZE
-returns-then-s-ne-STATE_SIZE c = sym (wrong_length c.args.s.now c.if-s-ne-STATE_SIZE.true)
-
 pub returns : goal.returns
-returns c = c.state_formed.ensures ∙ formed_is_well_formed c.args.s.now (omega arith) (λ i. (c.shared_slice_known-1.given i).fits)
+returns c = c.is_some.ensures ∙ opened_told _ c.opened.result c.opened.ensures

@@ -10,8 +10,8 @@ returns-then-key c = (λ σ h. let a = c.args in rw (shown_key σ a.session a.ke
 pub returns-then-is_unknown : goal.returns-then-is_unknown
 returns-then-is_unknown c = (λ σ h. let a = c.args in rw (shown_unknown σ a.session a.key c.if-key.false (sym (c.is_unknown.ensures σ h) ∙ c.if-is_unknown.true)), omega arith)
 
-pub returns-in-At : goal.returns-in-At
-returns-in-At c = (λ σ h. (shown_by σ _ _ c.if-key.false (sym (c.is_unknown.ensures σ h) ∙ c.if-is_unknown.false) (sym (c.look-sight.ensures.0 σ h) ∙ c.in-At.is)).span, rw c.in-At.is at c.look-sight.ensures.1)
+pub returns-in-Some : goal.returns-in-Some
+returns-in-Some c = (λ σ h. (shown_by σ _ _ c.if-key.false (sym (c.is_unknown.ensures σ h) ∙ c.if-is_unknown.false) (sym (c.look-sight.ensures.0 σ h) ∙ c.in-Some.is)).span, rw c.in-Some.is at c.look-sight.ensures.1)
 
-pub returns-in-Nothing : goal.returns-in-Nothing
-returns-in-Nothing c = (λ σ h. (shown_by σ _ _ c.if-key.false (sym (c.is_unknown.ensures σ h) ∙ c.if-is_unknown.false) (sym (c.look-sight.ensures.0 σ h) ∙ c.in-Nothing.is)).span, omega arith)
+pub returns-in-None : goal.returns-in-None
+returns-in-None c = (λ σ h. (shown_by σ _ _ c.if-key.false (sym (c.is_unknown.ensures σ h) ∙ c.if-is_unknown.false) (sym (c.look-sight.ensures.0 σ h) ∙ c.in-None.is)).span, omega arith)

@@ -1,17 +1,9 @@
--- As long as no session passed is due, none before the place is; one that is due is a hit for all.
-use native.Mathlib.Omega.{arith}
+-- The closure says of each session whether it is due.
 use borrow.Author.Rules.{rules}
-use Rattle.layout.proofs.Scans.{scanned_none, scanned_more, scanned_hit, scanned_all}
+use borrow.Author.Tests.{tests}
+use Rattle.machine.specs.State.{no_session}
+use Rattle.layout.proofs.Scans.{any_told}
 use Rattle.sweep.proofs.sessions_lapse.Goals as goal
 
-pub loop-place-init : goal.loop-place-init
-loop-place-init c = (search rules, scanned_none)
-
-pub returns-then-session_due : goal.returns-then-session_due
-returns-then-session_due c = scanned_hit c.loop-place.invariant.1 c.session_due.ensures (omega arith) (λ σ h. h.fits.sessions) c.if-session_due.true
-
-pub loop-place-preserved : goal.loop-place-preserved
-loop-place-preserved c = (search rules, scanned_more c.loop-place.invariant.1 c.session_due.ensures c.if-session_due.false)
-
 pub returns : goal.returns
-returns c = scanned_all c.loop-place.invariant.1 (omega arith) (λ σ h. h.fits.sessions)
+returns c = λ σ h. any_told _ no_session _ h.fits.sessions c.any.ensures.ran (λ x b q k. search (rules, tests))

@@ -2,8 +2,7 @@
 use mathlib.Core.List.{[]}
 use mathlib.Core.Path.{◌≡◌, sym, ap, ◌∙◌}
 use Prim.Native.Nat.{ℕ}
-use native.Mathlib.Omega.{arith}
-use lib.ListN.{take, length-take}
+use lib.ListN.{take}
 use Rattle.machine.specs.Session.{is_due}
 use Rattle.machine.specs.Expiry.{those}
 use Rattle.sweep.proofs.Whole.{expire-whole, expire-none}
@@ -17,9 +16,6 @@ returns-then-count-eq0 c = let end-sessions = c.end_sessions-count in
     let ends = end-sessions.ensures.1 _ (lapse-leases.ensures σ h) in
     let empty : those (is_due args.time) σ.sessions ≡ [] = sym ends.1 ∙ ap (λ (n : ℕ). take n end-sessions.new.ns) c.if-count-eq0.true in
     rw (← expire-none σ ok args.time empty) ends.0
-
-pub slice_bounds-end_rows-end : goal.slice_bounds-end_rows-end
-slice_bounds-end_rows-end c = simp length-take (omega arith)
 
 pub returns : goal.returns
 returns c = let end-rows = c.end_rows in

@@ -15,12 +15,12 @@ pub load-x-requires : goal.load-x-requires
 load-x-requires c = search (rules, found_below session_count)
 
 pub returns-then-not-is_sealed : goal.returns-then-not-is_sealed
-returns-then-not-is_sealed c = λ σ h ok. gives (done_open σ _ (located_at σ _ ok (c.find.ensures.0 σ h) c.in-At.is (c.load-x.ensures σ h)) (test_failed c.is_sealed.ensures c.if-not-is_sealed.true)) h
+returns-then-not-is_sealed c = λ σ h ok. gives (done_open σ _ (located_at σ _ ok (c.find.ensures.0 σ h) c.in-Some.is (c.load-x.ensures σ h)) (test_failed c.is_sealed.ensures c.if-not-is_sealed.true)) h
 
 pub finish-requires : goal.finish-requires
 finish-requires c = search (rules, found_below session_count)
 
 pub returns : goal.returns
 returns c = λ σ h ok.
-    let w = located_at σ _ ok (c.find.ensures.0 σ h) c.in-At.is (c.load-x.ensures σ h) in
+    let w = located_at σ _ ok (c.find.ensures.0 σ h) c.in-Some.is (c.load-x.ensures σ h) in
     gives (done_is σ _ w (test_passed c.is_sealed.ensures c.if-not-is_sealed.false)) (rw (← w.number) (c.finish.ensures σ h ok (number_here w w.number)))

@@ -18,6 +18,6 @@ leave-requires c = search (rules, found_below session_count)
 
 pub returns : goal.returns
 returns c = λ σ h ok.
-    let w = located_at σ _ ok (c.find.ensures.0 σ h) c.in-At.is refl in
+    let w = located_at σ _ ok (c.find.ensures.0 σ h) c.in-Some.is refl in
     let e = number_same w (c.number-n.ensures σ h) in
     gives (undo_is σ _ w) (rw (← e) (c.leave.ensures σ h ok (number_here w e)))

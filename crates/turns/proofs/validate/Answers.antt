@@ -28,8 +28,8 @@ pub leave-requires : goal.leave-requires
 leave-requires c = search (rules, found_below session_count)
 
 -- the session that was found and loaded
-here : (c : After-load-x) (σ : State) → let a = c.args in Holds a.s.now σ → sound σ ≡ true → Located σ a.session c.in-At.i c.load-x.result
-here c σ h ok = located_at σ _ ok (c.find.ensures.0 σ h) c.in-At.is (c.load-x.ensures σ h)
+here : (c : After-load-x) (σ : State) → let a = c.args in Holds a.s.now σ → sound σ ≡ true → Located σ a.session c.in-Some.i c.load-x.result
+here c σ h ok = located_at σ _ ok (c.find.ensures.0 σ h) c.in-Some.is (c.load-x.ensures σ h)
 
 pub returns-in-Seals : goal.returns-in-Seals
 returns-in-Seals c = λ σ h ok.

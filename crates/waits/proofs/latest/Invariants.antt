@@ -9,6 +9,3 @@ use Rattle.waits.proofs.latest.Given as goal
 
 abbrev pub invariant-loop-i : goal.invariant-loop-i
 invariant-loop-i l = (l.i ≤ row_count) × ((σ : State) → Holds l.s σ → life_end l.life ≡ latest σ l.k (drop l.i σ.rows))
-
-abbrev pub decreases-loop-i : goal.decreases-loop-i
-decreases-loop-i l = l.i

@@ -2,11 +2,8 @@
 use mathlib.Core.Path.{sym, ◌∙◌}
 use Rattle.machine.specs.State.{lease_on}
 use Rattle.layout.proofs.Held.{key_stands}
-use Rattle.refusals.proofs.Leases.{leaseless-none, leaseless-by}
+use Rattle.refusals.proofs.Leases.{leaseless-none}
 use Rattle.refusals.proofs.after.is_leaseless.Goals as goal
 
 pub returns-then-lease_token-eq0 : goal.returns-then-lease_token-eq0
-returns-then-lease_token-eq0 c = λ σ h. sym (leaseless-none c.args.time (lease_on σ c.args.k) (key_stands h c.args.k c.requires.1).fits.lease (sym (c.lease_token.ensures σ h) ∙ c.if-lease_token-eq0.true))
-
-pub returns : goal.returns
-returns c = λ σ h. c.lease_lapsed.ensures σ h ∙ sym (leaseless-by c.args.time (lease_on σ c.args.k) (λ q. c.if-lease_token-eq0.false (c.lease_token.ensures σ h ∙ q)))
+returns-then-lease_token-eq0 c = λ σ h. sym (leaseless-none c.args.time (lease_on σ c.args.k) (key_stands h c.args.k c.requires).fits.lease (sym (c.lease_token.ensures σ h) ∙ c.if-lease_token-eq0.true))

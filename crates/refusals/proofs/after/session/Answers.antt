@@ -14,15 +14,12 @@ use Rattle.refusals.proofs.after.session.Goals.{After-due}
 pub returns-in_default : goal.returns-in_default
 returns-in_default c = λ σ h ok. ap left_of (sym (left-none σ ok _ _ (sym (c.find.ensures.0 σ h) ∙ c.in_default.is)))
 
-pub load-x-requires : goal.load-x-requires
-load-x-requires c = (c.requires, rw c.in-At.is at c.find.ensures.1)
-
 -- by whether the session that was loaded is due
 left-told : (c : After-due) {t : Bool} → c.due.result ≡ t → (σ : State) → let a = c.args in Holds a.s.now σ → sound σ ≡ true
     → left_of (if t then no_session else session c.load-x.result) ≡ left_of (session_of (expire a.time σ) a.n)
 left-told c e σ h ok =
     let load = c.load-x in
-    let i = c.in-At in
+    let i = c.in-Some in
     let find = c.find in
     ap left_of (sym (left_by σ ok _ _ (sym (find.ensures.0 σ h) ∙ i.is) (load.ensures σ h) (sym c.due.ensures ∙ e)))
 

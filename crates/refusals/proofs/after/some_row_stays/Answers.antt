@@ -1,17 +1,9 @@
--- As long as no row passed stays on the key, none before the place does; one that stays is a hit for all.
+-- The closure says of each row whether it stays on the key.
 use borrow.Author.Rules.{rules}
-use native.Mathlib.Omega.{arith}
-use Rattle.layout.proofs.Scans.{scanned_none, scanned_more, scanned_hit, scanned_all}
+use borrow.Author.Tests.{tests}
+use Rattle.machine.specs.State.{no_row}
+use Rattle.layout.proofs.Scans.{any_told}
 use Rattle.refusals.proofs.after.some_row_stays.Goals as goal
 
-pub loop-i-init : goal.loop-i-init
-loop-i-init c = (search rules, scanned_none)
-
-pub returns-then-row_stays : goal.returns-then-row_stays
-returns-then-row_stays c = scanned_hit c.loop-i.invariant.1 c.row_stays.ensures (omega arith) (λ σ h. h.fits.rows) c.if-row_stays.true
-
-pub loop-i-preserved : goal.loop-i-preserved
-loop-i-preserved c = (search rules, scanned_more c.loop-i.invariant.1 c.row_stays.ensures c.if-row_stays.false)
-
 pub returns : goal.returns
-returns c = scanned_all c.loop-i.invariant.1 (omega arith) (λ σ h. h.fits.rows)
+returns c = λ σ h. any_told _ no_row _ h.fits.rows c.any.ensures.ran (λ x b q k. search (rules, tests))

@@ -1,8 +1,0 @@
--- `text` meets its contract: the byte stands behind what is copied.
-use mathlib.Core.Path.{refl}
-use Rattle.replies.proofs.Lines.{put_then}
-use borrow.Author.Rules.{rules}
-use Rattle.replies.proofs.text.Goals as goal
-
-pub returns : goal.returns
-returns c = put_then (record { place = refl; bytes = c.copy_in.ensures }) c.byte.ensures (search rules)
