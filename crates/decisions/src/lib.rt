@@ -29,12 +29,12 @@ pub fn decide(held: usize, asked: usize) -> Verdict
 pub fn is_kind(kind: u64) -> bool
     ensures { result ≡ is_kind kind }
 {
-    (1..=3).contains(&kind)
+    matches!(kind, 1..=3)
 }
 
 // 1 append, 2 prepend, 3 increment, 4 decrement.
 pub fn is_operation(operation: u64) -> bool
     ensures { result ≡ is_operation operation }
 {
-    (1..=4).contains(&operation)
+    matches!(operation, 1..=4)
 }

@@ -5,7 +5,7 @@
 ghost use Rattle.std.specs.Prelude.{◌≡◌, false, ◌++◌, ◌+◌, ◌≤◌, ◌<◌, eqb, length, if◌then◌else◌};
 ghost use Rattle.lent.specs.Bytes.{win};
 ghost use Rattle.counts.specs.Count.{read_count, raised, lowered};
-ghost use Rattle.machine.specs.Sizes.{key_count, row_count, value_max};
+ghost use Rattle.machine.specs.Sizes.{key_count, row_count};
 ghost use Rattle.machine.specs.State.{State, free_row, row_at};
 ghost use Rattle.machine.specs.Effects.{fits, counts, operate, or_drop};
 ghost use Rattle.machine.specs.declared.Command.TheVariants.{Delta};
@@ -28,8 +28,7 @@ const INCREMENT: u64 = 3;
 // A value becomes so many bytes at the front of `out`, or none: DROP.
 
 // a, and b behind it.
-fn join(a: &[u8], b: &[u8], out: &mut [u8]) -> Option<usize>
-    requires { length out.old ≡ value_max }
+fn join(a: &[u8], b: &[u8], out: &mut [u8; layout::VALUE_MAX]) -> Option<usize>
     ensures { Makes (fits (a.now ++ b.now)) result out.new }
 {
     let n = a.len();
@@ -56,8 +55,12 @@ fn calculate(operation: u64, a: u64, b: u64) -> u64
 }
 
 // The value is a count and so is the operand.
-fn count(operation: u64, operand: &[u8], value: &[u8], out: &mut [u8]) -> Option<usize>
-    requires { length out.old ≡ value_max }
+fn count(
+    operation: u64,
+    operand: &[u8],
+    value: &[u8],
+    out: &mut [u8; layout::VALUE_MAX],
+) -> Option<usize>
     ensures { Makes (counts operation (read_count value.now) (read_count operand.now)) result out.new }
 {
     let a = counts::read(value)?;
@@ -67,8 +70,12 @@ fn count(operation: u64, operand: &[u8], value: &[u8], out: &mut [u8]) -> Option
 }
 
 // The operation on a value.
-fn operate(operation: u64, operand: &[u8], value: &[u8], out: &mut [u8]) -> Option<usize>
-    requires { length out.old ≡ value_max }
+fn operate(
+    operation: u64,
+    operand: &[u8],
+    value: &[u8],
+    out: &mut [u8; layout::VALUE_MAX],
+) -> Option<usize>
     ensures { Makes (operate operation operand.now value.now) result out.new }
 {
     match operation {
@@ -85,9 +92,9 @@ fn operate_at(
     n: usize,
     operation: u64,
     operand: &[u8],
-    out: &mut [u8],
+    out: &mut [u8; layout::VALUE_MAX],
 ) -> Option<usize>
-    requires { (at + n ≤ length s.now) × (length out.old ≡ value_max) }
+    requires { at + n ≤ length s.now }
     ensures { Makes (operate operation operand.now (win s.now at n)) result out.new }
 {
     operate(operation, operand, &s[at..at + n], out)
@@ -100,9 +107,9 @@ fn work(
     k: usize,
     operation: u64,
     operand: &[u8],
-    out: &mut [u8],
+    out: &mut [u8; layout::VALUE_MAX],
 ) -> Option<usize>
-    requires { (row < row_count) × ((k < key_count) × (length out.old ≡ value_max)) }
+    requires { (row < row_count) × (k < key_count) }
     ensures { ((σ : State) → Holds s.now σ → or_drop (value_in result out.new) ≡ changed_in σ row k operation operand.now) × Short result }
 {
     let mark = rows::mark(s, row);

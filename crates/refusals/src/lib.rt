@@ -1,5 +1,4 @@
 // The refusal that a command meets after expiry, decided by reading alone. Whoever is refused so has changed nothing.
-// Kept: a command's tests stand here and in its own function, in the document's order in both, since what is looked up between them differs.
 #![tactic(auto)]
 
 ghost use Rattle.std.specs.Prelude.{◌≡◌, true, not, ◌&&◌, [], ℕ, ◌<◌, eqb};

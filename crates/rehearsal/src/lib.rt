@@ -29,7 +29,7 @@ fn unreadable() -> Said
         word: replies::UNREADABLE,
         detail: 0,
         at: 0,
-        rule: 0,
+        rule: book::KEPT,
     }
 }
 

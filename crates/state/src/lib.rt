@@ -4,7 +4,7 @@
 ghost use Rattle.std.specs.Prelude.{◌≡◌, true, false, ◌+◌, ◌-◌, ◌≤◌, ◌++◌, length, replicate, eqb, MatchOption, if◌then◌else◌};
 ghost use Rattle.lent.specs.Bytes.{le64, le32, win};
 ghost use Rattle.lent.specs.Tables.{all_zero};
-ghost use Rattle.machine.specs.Sizes.{state_size, key_width, row_width, session_width, value_max, time_max};
+ghost use Rattle.machine.specs.Sizes.{state_size, value_max, time_max};
 ghost use Rattle.machine.specs.Words.{INCREMENTAL, is_kind};
 ghost use Rattle.machine.specs.Sound.{lifetime};
 ghost use Rattle.layout.specs.WellFormed.{well_formed};
@@ -42,7 +42,6 @@ fn lifetime_at(s: &[u8], at: usize) -> bool
 fn head_formed(s: &Buffer) -> bool
     ensures { result ≡ head_formed s.now }
 {
-    // Kept: tried as one chain of `&&`, where the proof goes by cases of each test but the last; nested to the right it is a staircase of five.
     if machine::TIME_MAX < lent::load_u64(s, layout::CLOCK) {
         return false;
     }
@@ -102,8 +101,7 @@ fn is_fitted(r: &[u8], at: usize, n: usize, masks: &Masks) -> bool
 }
 
 // The mark and the length are one word. Without a value both are 0, so that all 64 bytes are behind it.
-fn value_formed(r: &[u8], masks: &Masks) -> bool
-    requires { length r.now ≡ key_width }
+fn value_formed(r: &[u8; layout::KEY_WIDTH], masks: &Masks) -> bool
     ensures { result ≡ value_formed r.now }
 {
     let word = lent::load_u32(r, 0);
@@ -118,8 +116,7 @@ fn value_formed(r: &[u8], masks: &Masks) -> bool
     is_bare(r, layout::KEY_VALUE, n, masks)
 }
 
-fn lease_formed(r: &[u8], limit: u64, next: u32) -> bool
-    requires { length r.now ≡ key_width }
+fn lease_formed(r: &[u8; layout::KEY_WIDTH], limit: u64, next: u32) -> bool
     ensures { result ≡ lease_formed limit next r.now }
 {
     let token = lent::load_u32(r, layout::KEY_TOKEN);
@@ -127,23 +124,21 @@ fn lease_formed(r: &[u8], limit: u64, next: u32) -> bool
     if token == 0 {
         return until == 0;
     }
-    // Kept: tried as `token < next && until <= limit`, which raises the instructions of a light state by 10.9 of 100, of a full one by 5.2.
+    // Two tests: as one condition they take 10.9 of 100 more instructions of a light state's check.
     if next <= token {
         return false;
     }
     until <= limit
 }
 
-fn key_formed(r: &[u8], limit: u64, next: u32, masks: &Masks) -> bool
-    requires { length r.now ≡ key_width }
+fn key_formed(r: &[u8; layout::KEY_WIDTH], limit: u64, next: u32, masks: &Masks) -> bool
     ensures { result ≡ key_formed limit next r.now }
 {
     value_formed(r, masks) && lease_formed(r, limit, next)
 }
 
 // No value in a row: length and bytes are 0.
-fn is_plain(r: &[u8]) -> bool
-    requires { length r.now ≡ row_width }
+fn is_plain(r: &[u8; layout::ROW_WIDTH]) -> bool
     ensures { result ≡ all_zero (win r.now 7 (1 + value_max)) }
 {
     r[layout::ROW_LENGTH] == 0 && blocks::is_zero(r, layout::ROW_VALUE, layout::VALUE_MAX)
@@ -159,8 +154,7 @@ fn is_marked(mark: u8, kind: u8) -> bool
     }
 }
 
-fn staged_formed(r: &[u8], kind: u8, masks: &Masks) -> bool
-    requires { length r.now ≡ row_width }
+fn staged_formed(r: &[u8; layout::ROW_WIDTH], kind: u8, masks: &Masks) -> bool
     ensures { result ≡ staged_formed kind r.now }
 {
     let mark = r[layout::ROW_STAGED];
@@ -185,8 +179,7 @@ fn is_kind(kind: u8) -> bool
     (machine::INVALIDATE..=machine::INCREMENTAL).contains(&kind)
 }
 
-fn row_formed(r: &[u8], masks: &Masks) -> bool
-    requires { length r.now ≡ row_width }
+fn row_formed(r: &[u8; layout::ROW_WIDTH], masks: &Masks) -> bool
     ensures { result ≡ row_formed r.now }
 {
     if lent::load_u32(r, 0) == 0 {
@@ -196,23 +189,20 @@ fn row_formed(r: &[u8], masks: &Masks) -> bool
     is_kind(kind) && staged_formed(r, kind, masks)
 }
 
-fn life_formed(r: &[u8], limit: u64) -> bool
-    requires { length r.now ≡ session_width }
+fn life_formed(r: &[u8; layout::SESSION_WIDTH], limit: u64) -> bool
     ensures { result ≡ life_formed limit r.now }
 {
     let until = lent::load_u64(r, layout::SESSION_UNTIL);
     if r[layout::SESSION_LIFE] == layout::SEALED {
         return until == 0;
     }
-    // Kept: tried as `&&` with the next test, which raises the instructions of a full state by 2.6 of 100.
     if r[layout::SESSION_LIFE] != layout::OPEN {
         return false;
     }
     until <= limit
 }
 
-fn session_formed(r: &[u8], limit: u64, next: u32) -> bool
-    requires { length r.now ≡ session_width }
+fn session_formed(r: &[u8; layout::SESSION_WIDTH], limit: u64, next: u32) -> bool
     ensures { result ≡ session_formed limit next r.now }
 {
     let number = lent::load_u32(r, 0);
@@ -245,7 +235,8 @@ fn keys_fit(s: &Buffer, masks: &Masks) -> bool
     let mut met = false;
     for k in 0..layout::KEY_COUNT {
         let at = layout::KEYS_FROM + k * layout::KEY_WIDTH;
-        if !key_formed(&s[at..at + layout::KEY_WIDTH], until, next, masks) {
+        let key = s[at..at + layout::KEY_WIDTH].as_array().unwrap();
+        if !key_formed(key, until, next, masks) {
             return false;
         }
         met |= joins::token_meets(s, k, &mut marks);
@@ -267,7 +258,8 @@ fn sessions_fit(s: &Buffer, seating: &mut Seating) -> bool
     let mut crowd: u32 = 0;
     for j in 0..layout::SESSION_COUNT {
         let at = layout::SESSIONS_FROM + j * layout::SESSION_WIDTH;
-        if !session_formed(&s[at..at + layout::SESSION_WIDTH], until, next) {
+        let session = s[at..at + layout::SESSION_WIDTH].as_array().unwrap();
+        if !session_formed(session, until, next) {
             return false;
         }
         if !seating.session_sits(s, j, &mut loose) {
@@ -289,7 +281,8 @@ fn rows_fit(s: &Buffer, masks: &Masks, seating: &Seating) -> bool
     let mut words: [u64; joins::HOLDER_WORDS] = [0; joins::HOLDER_WORDS];
     for i in 0..layout::ROW_COUNT {
         let at = layout::ROWS_FROM + i * layout::ROW_WIDTH;
-        if !row_formed(&s[at..at + layout::ROW_WIDTH], masks) {
+        let row = s[at..at + layout::ROW_WIDTH].as_array().unwrap();
+        if !row_formed(row, masks) {
             return false;
         }
         if !seating.join(s, i, &mut words) {

@@ -62,10 +62,7 @@ fn latest(s: &Buffer, k: usize) -> Life
 fn less_now(until: u64, time: u64) -> u64
     ensures { result ≡ until - time }
 {
-    if until <= time {
-        return 0;
-    }
-    until - time
+    until.saturating_sub(time)
 }
 
 // 0 if a sealed session blocks, else the latest blocking deadline less now.

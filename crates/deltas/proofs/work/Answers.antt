@@ -29,7 +29,7 @@ pub returns : goal.returns
 returns c = let operate-at2 = c.operate_at-2 in
     let mark = c.mark-mark in (
       λ σ h. works_cached h c.args.row c.args.k _ _
-          (λ q. c.if-mark-eq-DROPPED.false (mark.ensures σ h ∙ q)) (λ q. c.if-mark-eq-VALUED.false (mark.ensures σ h ∙ q)) c.requires.1.0
+          (λ q. c.if-mark-eq-DROPPED.false (mark.ensures σ h ∙ q)) (λ q. c.if-mark-eq-VALUED.false (mark.ensures σ h ∙ q)) c.requires.1
           (test_passed (c.has_value.ensures σ h) c.if-not-has_value.false) (c.value_length-n.ensures.0 σ h) operate-at2.ensures.value,
       operate-at2.ensures.short,
     )

@@ -18,7 +18,7 @@ loop-k-init c = walked_none (marked-none _)
 
 key-told : (c : After-key_formed) → c.key_formed.result ≡ Formed c.args.s.now c.loop-k.k
 unfolding dec_head
-key-told c = c.key_formed.ensures ∙ rw (part_win, c.limit-until.ensures, c.load_u32-next.ensures)
+key-told c = c.key_formed.ensures ∙ rw ((rw c.unwrap-key.ensures at c.as_array.ensures.cases).same, part_win, c.limit-until.ensures, c.load_u32-next.ensures)
 
 pub returns-then-not-key_formed : goal.returns-then-not-key_formed
 unfolding keys_fit keys_formed

@@ -18,7 +18,7 @@ pub loop-i-init : goal.loop-i-init
 loop-i-init c = (search rules, (every-none _, (every-none _, ready-none c.requires)))
 
 row_told : (c : After-row_formed) → c.row_formed.result ≡ Formed c.args.s.now c.loop-i.i
-row_told c = c.row_formed.ensures ∙ rw part_win
+row_told c = c.row_formed.ensures ∙ rw ((rw c.unwrap-row.ensures at c.as_array.ensures.cases).same, part_win)
 
 pub returns-then-not-row_formed : goal.returns-then-not-row_formed
 unfolding rows_fit rows_formed

@@ -21,7 +21,7 @@ loop-j-init c = let p = c.requires.1 in walked_none (entered_none _ p.0 p.1)
 
 session-told : (c : After-session_formed) → c.session_formed.result ≡ Formed c.args.s.now c.loop-j.j
 unfolding dec_head
-session-told c = c.session_formed.ensures ∙ rw (part_win, c.limit-until.ensures, c.load_u32-next.ensures)
+session-told c = c.session_formed.ensures ∙ rw ((rw c.unwrap-session.ensures at c.as_array.ensures.cases).same, part_win, c.limit-until.ensures, c.load_u32-next.ensures)
 
 pub returns-then-not-session_formed : goal.returns-then-not-session_formed
 unfolding sessions_fit sessions_formed

@@ -6,10 +6,10 @@ use Rattle.state.proofs.Values.{value_mark_lem, value_too_long, value_fits}
 use Rattle.state.proofs.value_formed.Goals as goal
 
 pub returns-then-mark-gt1 : goal.returns-then-mark-gt1
-returns-then-mark-gt1 c = sym (value_mark_lem c.args.r.now (λ i. (c.type_inv.r i).fits) c.load_u32-word.result c.load_u32-word.ensures c.if-mark-gt1.true)
+returns-then-mark-gt1 c = sym (value_mark_lem c.args.r.now c.fits-r c.load_u32-word.result c.load_u32-word.ensures c.if-mark-gt1.true)
 
 pub returns-then-mark-n : goal.returns-then-mark-n
-returns-then-mark-n c = sym (value_too_long c.args.r.now (λ i. (c.type_inv.r i).fits) c.load_u32-word.result c.load_u32-word.ensures c.if-mark-n.true)
+returns-then-mark-n c = sym (value_too_long c.args.r.now c.fits-r c.load_u32-word.result c.load_u32-word.ensures c.if-mark-n.true)
 
 pub is_bare-requires : goal.is_bare-requires
 is_bare-requires c = (search rules, omega (arith, c.load_u32-word.ensures))
@@ -18,4 +18,4 @@ pub returns : goal.returns
 returns c =
     let load-u32 = c.load_u32-word in
     let args = c.args in
-    c.is_bare.ensures ∙ sym (value_fits args.r.now (λ i. (c.type_inv.r i).fits) load-u32.result load-u32.ensures (omega arith) (omega arith))
+    c.is_bare.ensures ∙ sym (value_fits args.r.now c.fits-r load-u32.result load-u32.ensures (omega arith) (omega arith))
