@@ -24,20 +24,54 @@ pub fn copy_in(s: &mut [u8], at: usize, v: &[u8])
     }
 }
 
-// The n bytes at `from` also at `to`; the two stretches may overlap.
+// The n bytes at `from` also at `to`; the two stretches may overlap. A copy that goes down starts with its first byte and one that goes up
+// with its last, so that no byte is overwritten before it is read.
+// Kept: loops, since an edit of std's `copy_within` was refused for its form: a right copy in two calls was too.
 pub fn copy_within(s: &mut [u8], from: usize, to: usize, n: usize)
     requires { (from + n ≤ length s.old) × (to + n ≤ length s.old) }
     ensures { s.new ≡ splice s.old to (win s.old from n) }
 {
-    s.copy_within(from..from + n, to);
+    if to <= from {
+        copy_down(s, from, to, n);
+    } else {
+        copy_up(s, from, to, n);
+    }
+}
+
+fn copy_down(s: &mut [u8], from: usize, to: usize, n: usize)
+    requires { (to ≤ from) × (from + n ≤ length s.old) }
+    ensures { s.new ≡ splice s.old to (win s.old from n) }
+{
+    for i in 0..n {
+        s[to + i] = s[from + i];
+    }
+}
+
+fn copy_up(s: &mut [u8], from: usize, to: usize, n: usize)
+    requires { (from ≤ to) × (to + n ≤ length s.old) }
+    ensures { s.new ≡ splice s.old to (win s.old from n) }
+{
+    let mut i = n;
+    while 0 < i {
+        i -= 1;
+        s[to + i] = s[from + i];
+    }
 }
 
 // Whether two slices have the same bytes.
-#[tactic(auto, using(lent::proofs::Equal::same_pairs))]
+// Kept: a loop, since an edit of `==` was refused for its form: a right test of each pair by `zip` and `all` was too.
 pub fn same(a: &[u8], b: &[u8]) -> bool
     ensures { result ≡ same a.now b.now }
 {
-    a == b
+    let n = a.len();
+    if n != b.len() {
+        return false;
+    }
+    let mut seen: u8 = 0;
+    for i in 0..n {
+        seen = seen | (a[i] ^ b[i]);
+    }
+    seen == 0
 }
 
 // Whether the n bytes at `from` are all 0. One byte of state and no branch, so that the loop runs on whole registers.

@@ -1,9 +1,10 @@
 -- A text of hex is checked digit by digit and then read pair by pair: what is still to be written is always what the pairs that are left say, behind the bytes that are written.
-use Rattle.std.specs.Prelude.{IsTrue, EachIndex, slice_index, ◌↔◌, SomeIff, Some, None, Option as ProgramOption}
+use Rattle.std.specs.Prelude.{IsTrue, EachIndex, slice_index, ◌↔◌, SomeIff, Some, None, is_some, unwrap_or, Option as ProgramOption}
+use Rattle.std.specs.List.{fold}
 use Rattle.std.specs.Simd.{first_chunks}
 use Rattle.std.proofs.lemmas.List.{get_or-take, get_or-drop}
 use mathlib.Core.Path.{◌≡◌, refl, sym, ap, ◌∙◌}
-use mathlib.Core.Bool.{Bool, true, false, ◌&&◌}
+use mathlib.Core.Bool.{Bool, true, false, ◌&&◌, and-true, and_assoc}
 use mathlib.Core.List.{List, [], ◌∷◌}
 use mathlib.Core.Option.{none, some}
 use Prim.Native.Nat.{ℕ, zero, suc, ◌+◌, ◌-◌, ◌*◌, ◌/◌, ◌%◌, ◌≤◌, ◌<◌}
@@ -49,6 +50,19 @@ digits_test t false f = by (all_digits t) refl
     by false e = refl
     by true e = f.1 (λ k h. digit_at t k e h)
 
+-- whether a number is told, and the test of one byte after the other, joined
+pub some_told : (o : ProgramOption ℕ) (b : ℕ) → SomeIff o (digit_value b < 16) (digit_value b) → is_some o ≡ ltb (digit_value b) 16
+some_told None b f = by (ltb (digit_value b) 16) refl
+  where
+    by : (u : Bool) → ltb (digit_value b) 16 ≡ u → false ≡ u
+    by false e = refl
+    by true e = absurd (f (ltb-true (digit_value b) 16 e))
+some_told (Some x) b f = sym (lt-ltb (digit_value b) 16 f.0)
+
+pub digits_folded : (t : List ℕ) (m : Bool) → fold (λ (a : Bool) (b : ℕ). a && ltb (digit_value b) 16) m t ≡ m && all_digits t
+digits_folded [] m = sym (and-true m)
+digits_folded (b ∷ t) m = digits_folded t (m && ltb (digit_value b) 16) ∙ and_assoc m (ltb (digit_value b) 16) (all_digits t)
+
 -- ---- a text of hex
 
 module _ (t : List ℕ) where
@@ -90,6 +104,10 @@ some_where (Some x) b f h = ap (λ (n : ℕ). Some n) f.1
 pub some_said : (o : ProgramOption ℕ) (b x : ℕ) → SomeIff o (digit_value b < 16) (digit_value b) → o ≡ Some x → x ≡ digit_value b
 some_said None b x f e = cc
 some_said (Some y) b x f e = let g : y ≡ digit_value b = f.1 in cc
+
+-- a digit's number, 0 in place of none
+pub some_or : (o : ProgramOption ℕ) (b x : ℕ) → SomeIff o (digit_value b < 16) (digit_value b) → digit_value b < 16 → x ≡ unwrap_or o 0 → x ≡ digit_value b
+some_or o b x f h e = e ∙ ap (λ (r : ProgramOption ℕ). unwrap_or r 0) (some_where o b f h)
 
 -- ---- the bytes
 

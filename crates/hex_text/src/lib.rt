@@ -29,7 +29,7 @@ fn is_dash(text: &[u8]) -> bool
 fn all_digits(text: &[u8]) -> bool
     ensures { result ≡ all_digits text.now }
 {
-    text.iter().all(|&b| digit(b).is_some())
+    text.iter().fold(true, |all, &b| all & digit(b).is_some())
 }
 
 fn is_hex(text: &[u8]) -> bool
@@ -46,7 +46,7 @@ fn fill(text: &[u8], out: &mut [u8])
     let (pairs, _) = text.as_chunks::<2>();
     // Kept: by places, since nothing is known of the bytes of `out` after `pairs.iter().zip(out.iter_mut())`.
     for (i, &[high, low]) in pairs.iter().enumerate() {
-        out[i] = digit(high).unwrap() * 16 + digit(low).unwrap();
+        out[i] = digit(high).unwrap_or(0) * 16 + digit(low).unwrap_or(0);
     }
 }
 

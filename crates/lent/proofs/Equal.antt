@@ -1,19 +1,20 @@
 -- Lists with the same elements: `same` is equality, and it goes part by part, so that a record is compared window by window.
-use Rattle.std.specs.Prelude.{nat_eq}
-use Rattle.std.specs.Cmp.Lexicographic.{pointwise}
-use mathlib.Core.Path.{◌≡◌, refl, sym, ◌∙◌}
-use mathlib.Core.Bool.{true, false, ◌&&◌, and-true, and_assoc}
+use mathlib.Core.Path.{◌≡◌, refl, sym, ap, ◌∙◌}
+use mathlib.Core.Bool.{Bool, true, false, ◌&&◌, and-true, and_assoc}
 use mathlib.Core.List.{List, [], ◌∷◌, ◌++◌}
 use Prim.Native.Nat.{ℕ, ◌+◌, ◌-◌, ◌≤◌, ◌<◌}
+use native.Mathlib.Numerals.{add-one}
 use native.Mathlib.Omega.{arith}
 use lib.ListN.{length, get_or, take, drop, length-append}
-use lib.Seq.{drop_at, take_at}
+use lib.Seq.{drop_at, length-take-le, take_at, take-suc}
+use lib.Bits.{bit_or, bit_xor, and_le_l, and_le_r, xor_add_and, xor_self}
 use lib.Dec.{eqb}
-use borrow.Author.Tests.{eq-eqb, eqb-true}
+use borrow.Author.Tests.{eq-eqb, eqb-false, eqb-true, ne_eqb}
 use Rattle.lent.specs.Bytes.{win, zeros}
 use Rattle.lent.specs.Tables.{all_zero, same}
 use Rattle.lent.proofs.Choices.{and_yes, clash}
 use Rattle.lent.proofs.Splice.{length-win, win-add, win-one}
+use Rattle.lent.proofs.Zeros.{eqb_or}
 
 -- ---- same and equal
 
@@ -33,6 +34,13 @@ same_eq (x ∷ k) (y ∷ l) e =
 
 pub eq_same : (k l : List ℕ) → k ≡ l → same k l ≡ true
 eq_same k l e = rw e (same_refl l)
+
+pub same_lengths : (k l : List ℕ) → (length k ≡ length l → ⊥) → same k l ≡ false
+same_lengths k l n = go (same k l) refl
+  where
+    go : (t : Bool) → same k l ≡ t → t ≡ false
+    go true e = absurd (n (ap length (same_eq k l e)))
+    go false e = refl
 
 pub same-zeros : (l : List ℕ) (n : ℕ) → length l ≡ n → same l (zeros n) ≡ all_zero l
 unfolding same all_zero
@@ -77,11 +85,26 @@ same-padded s a l n k h =
     let w = same_skip s a l (n - l) (win s a l) (zeros (n - l)) (length-win s a l (omega arith)) (omega arith) refl in
     rw q at w ∙ same-zeros (win s (a + l) (n - l)) (n - l) (length-win s (a + l) (n - l) (omega arith))
 
--- ---- a test of each pair
+-- ---- a turn of a loop that compares
 
-pub same_pairs : (a b : List ℕ) → pointwise nat_eq a b ≡ same a b
+eqb_xor : (a b : ℕ) → eqb (bit_xor a b) 0 ≡ eqb a b
+eqb_xor a b = go (eqb a b) refl
+  where
+    go : (t : Bool) → eqb a b ≡ t → eqb (bit_xor a b) 0 ≡ t
+    go true e = rw (eqb-true a b e, xor_self)
+    go false e = ne_eqb (bit_xor a b) 0 (λ z. eqb-false a b e (omega (arith, xor_add_and a b, and_le_l a b, and_le_r a b)))
+
+pub same_turn : (a b : List ℕ) (i m : ℕ) → i < length a → length a ≡ length b → eqb m 0 ≡ same (take i a) (take i b)
+    → eqb (bit_or m (bit_xor (get_or a i 0) (get_or b i 0))) 0 ≡ same (take (i + 1) a) (take (i + 1) b)
 unfolding same
-same_pairs [] [] = refl
-same_pairs [] (y ∷ b) = refl
-same_pairs (x ∷ a) [] = refl
-same_pairs (x ∷ a) (y ∷ b) = rw (same_pairs a b)
+same_turn a b i m h l e =
+    rw (
+      eqb_or,
+      eqb_xor,
+      e,
+      add-one,
+      take-suc a i 0 h,
+      take-suc b i 0 (omega arith),
+      same-append (take i a) (get_or a i 0 ∷ []) (take i b) (get_or b i 0 ∷ []) i (length-take-le i a (omega arith)) (length-take-le i b (omega arith)),
+      and-true,
+    )

@@ -154,13 +154,6 @@ pub part_splice : (s x : List ℕ) (a n : ℕ) → length x ≡ n → take a s +
 unfolding splice
 part_splice s x a n e = rw (add-sub_cancel_left a n, drop-drop, e)
 
--- what a copy within s writes is a window
-pub paste_win : (s : List ℕ) (from to n : ℕ) → from + n ≤ length s → take to s ++ take (from + n - from) (drop from s) ++ drop (to + (from + n - from)) s ≡ splice s to (win s from n)
-unfolding splice win
-paste_win s from to n h =
-    let e : length (take n (drop from s)) ≡ n = length-take-le n (drop from s) (simp length-drop (omega arith)) in
-    rw (add-sub_cancel_left from n, e, append_assoc)
-
 -- ---- what is read after a splice
 
 pub get_or-splice-before : (s : List ℕ) (a : ℕ) (x : List ℕ) (k : ℕ) → k < a → a ≤ length s → get_or (splice s a x) k 0 ≡ get_or s k 0
@@ -237,3 +230,13 @@ unfolding win
 splice_over s x y a n e f l =
     let t : take a (splice s a x) ≡ take a s = win-splice-before s a x 0 a (omega arith) (omega arith) in
     splice_is (splice s a x) a y n f ∙ rw (t, drop-splice s a x (a + n) (omega arith) (omega arith)) (sym (splice_is s a y n f))
+
+-- writes to places apart may go in either order
+pub splice_swap : (s x y : List ℕ) (a b : ℕ) → a + length x ≤ b → b + length y ≤ length s → splice (splice s b y) a x ≡ splice (splice s a x) b y
+unfolding win
+splice_swap s x y a b h l =
+    let t : take b (splice s a x) ≡ splice (take b s) a x = rw zero-add at (win-splice_around s 0 b a x (omega arith) h) in
+    let lt : length (take b s) ≡ b = length-take-le b s (omega arith) in
+    ap (λ (r : List ℕ). splice r a x) (splice_is s b y (length y) refl)
+    ∙ splice_front (take b s) (y ++ drop (b + length y) s) x a (omega arith)
+    ∙ rw (← t, ← drop-splice s a x (b + length y) (omega arith) (omega arith)) (sym (splice_is (splice s a x) b y (length y) refl))

@@ -35,7 +35,8 @@ pub fn load_u16(s: &[u8], at: usize) -> u32
     requires { at + 2 ≤ length s.now }
     ensures { (result ≡ le16 s.now at) × (result < 65536) }
 {
-    u32::from(u16::from_le_bytes(bytes_at(s, at)))
+    let [low, high]: [u8; 2] = bytes_at(s, at);
+    wide(low) + wide(high) * 256
 }
 
 #[tactic(auto, using(crate::proofs::Numbers::le32_read))]

@@ -41,7 +41,7 @@ row_by held = map (verdict_by held) (from 0 asked_count)
 computed : decisions ≡ map row_by (from 0 held_count)
 computed = refl
 
-at_map : {A B : Type 0} (f : A → B) (l : List A) (i : ℕ) (d : A) (e : B) → i < length l → get_or (map f l) i e ≡ f (get_or l i d)
+pub at_map : {A B : Type 0} (f : A → B) (l : List A) (i : ℕ) (d : A) (e : B) → i < length l → get_or (map f l) i e ≡ f (get_or l i d)
 at_map f l i d e h = get_or_default (map f l) i e (f d) (rw (length-map l f) h) ∙ get_or-map f l i d
 
 pub decision-by : (held asked : ℕ) → held < held_count → asked < asked_count → decision held asked ≡ verdict_by held asked

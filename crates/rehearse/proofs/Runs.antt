@@ -1,5 +1,5 @@
 -- Chunks one behind the other are one input, and at its end the world and what was written are those of its rehearsal.
-use Rattle.std.specs.Prelude.{Option, Some, None, Result, Ok}
+use Rattle.std.specs.Prelude.{Option, Some, None, Result, Ok, Err}
 use Rattle.std.proofs.Common.{ℕ, ◌≡◌, ◌++◌, ◌∙◌, ◌≤◌, ap, Bool, true, false, List, length, take, arith}
 use Rattle.lent.proofs.Splice.{take-splice}
 use Rattle.feed.specs.Lines.{held_max}
@@ -9,7 +9,17 @@ use Rattle.book.specs.Memory.{Memory}
 use Rattle.script.specs.Input.{answer_line, finished, rehearsed, nothing_read}
 use Rattle.script.specs.Buffers.{Printed, Delivered}
 use Rattle.script.proofs.Whole.{fed-ended}
-use Rattle.rehearse.specs.Turns.{Turned, Rehearsed}
+use Rattle.rehearse.specs.Turns.{Poured, Turned, Rehearsed}
+
+-- what `pour` tells, as `turn` tells it
+abbrev pub told_on : {E : Type 0} → Result ℕ E → Result (Option ℕ) E
+told_on (Ok held) = Ok (Some held)
+told_on (Err e) = Err e
+
+-- what `pour` says of the front of a chunk is what `turn` says of the chunk
+pub poured_turned : {E : Type 0} (o : Open Memory) (before n : ℕ) (chunk : List ℕ) (now : ℕ → Open Memory) (r : Result ℕ E) → Poured o (take n chunk) now r → Turned o before chunk now (told_on r)
+poured_turned o before n chunk now (Ok held) p = (n, p)
+poured_turned o before n chunk now (Err e) p = tt
 
 -- what `turn` told, of a turn that goes on and of one that ends the input
 pub turned_on : {E : Type 0} (o : Open Memory) (before n : ℕ) (chunk : List ℕ) (now : ℕ → Open Memory) (r : Result (Option ℕ) E) → r ≡ Ok (Some n) → Turned o before chunk now r

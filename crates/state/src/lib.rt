@@ -304,6 +304,8 @@ fn tables_fit(s: &Buffer) -> bool
         && (sessions_fit(s, &mut seating) && (keys_fit(s, &masks) && rows_fit(s, &masks, &seating)))
 }
 
+// Not inlined, so that a buffer of another length is refused before room is made on the stack for the check.
+#[inline(never)]
 fn state_formed(s: &Buffer) -> bool
     ensures { result ≡ state_formed s.now }
 {

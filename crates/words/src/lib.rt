@@ -76,6 +76,15 @@ fn placeless(word: u64, detail: u64) -> Numbers
     }
 }
 
+impl Numbers {
+    // A refusal by its number, whatever number that is.
+    pub fn refused(number: u8) -> Numbers
+        ensures { result ≡ record { word = 0; detail = number; place = 0 } }
+    {
+        placeless(REFUSED, u64::from(number))
+    }
+}
+
 impl From<Answer> for Numbers {
     ghost from_gives = { λ a n. n ≡ numbers_of a };
 

@@ -1,5 +1,6 @@
--- A number that is 0 changes nothing; another that its chain passed is new, and comes to its front.
+-- A number that is 0 changes nothing; another comes to the front of its chain, and is new if its chain passed it.
 use mathlib.Core.Path.{refl}
+use Rattle.std.proofs.lemmas.Option.{IfSome_then}
 use Rattle.joins.proofs.Chains.{chained_zero, new_passed, chained_more}
 use Rattle.joins.proofs.enters.Goals as goal
 
@@ -10,5 +11,5 @@ pub returns : goal.returns
 returns c =
     let y = c.requires in (
       chained_more y.1 refl c.if-n-eq0.false c.chain-h.ensures.0 refl c.chain-h.ensures.1 y.0,
-      new_passed y.1 refl c.if-n-eq0.false c.chain-h.ensures.0 refl c.in_ok-l.ensures y.0,
+      IfSome_then _ c.passes-l.ensures (λ l p. new_passed y.1 refl c.if-n-eq0.false c.chain-h.ensures.0 refl p y.0),
     )
